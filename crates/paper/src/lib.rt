@@ -1,0 +1,42 @@
+// What the public calls answer. The crate's specs/ holds document 01 as definitions, and its proofs/ what follows
+// from them; nothing here computes. specs/Answers.antt gives the paper's number, input and offset for each case below.
+
+// Which lent input a refusal lies in, and at which byte of it.
+pub enum Place {
+    Text(usize),
+    List(usize),
+    Entry(usize),
+    Blocks(usize),
+    Buffer(usize),
+}
+
+// A text alone: how many nodes its tree has.
+pub enum Reading {
+    Read(usize),
+    Refused(u8, Place),
+}
+
+// A text against a key list.
+pub enum Checking {
+    Passed,
+    Refused(u8, Place),
+}
+
+// An entry against a restriction, from its text or from its blocks.
+pub enum Judgement {
+    Accepted,
+    Violated,
+    Refused(u8, Place),
+}
+
+// A text into blocks: how many instructions were written.
+pub enum Translation {
+    Written(usize),
+    Refused(u8, Place),
+}
+
+// Blocks against a key list: how many instructions they hold.
+pub enum Loading {
+    Loaded(usize),
+    Refused(u8, Place),
+}

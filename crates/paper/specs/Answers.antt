@@ -24,7 +24,6 @@ pub data Answer (A : Type 0) : Type 0 where
   refused : ℕ → Input → ℕ → Answer A
 
 infixl 1 _>>=_
-
 -- the next stage, where this one passes
 abbrev pub _>>=_ : {A B : Type 0} → Answer A → (A → Answer B) → Answer B
 ok a >>= f = f a

@@ -1,2 +1,15 @@
 pub mod Answers
 pub mod Numbers
+pub mod Tokens
+pub mod Keys
+pub mod Entry
+pub mod Addresses
+pub mod Grammar
+pub mod Types
+pub mod Meaning
+pub mod Code
+pub mod Blocks
+pub mod Loading
+pub mod Translating
+pub mod Calls
+pub mod Marked

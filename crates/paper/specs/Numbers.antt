@@ -1,6 +1,6 @@
 -- 01, "numbers big-endian", "modulo 2^W", and "Whole numbers up to 2^128 − 1 with a sign are held exactly; minus zero is
 -- zero": a whole number is the library's ℤ, where `pos n` is n and `negsuc n` is −(n + 1), so that there is no second zero.
-use Prim.Native.Nat.{ℕ, zero, suc, _+_, _*_, _-_, _%_, _^_}
+use Prim.Native.Nat.{ℕ, zero, suc, _+_, _*_, _-_, _/_, _%_, _^_}
 use mathlib.Core.Bool.{Bool, true, false}
 use mathlib.Core.List.{List, [], _∷_}
 use lib.ListN.{getD, take, drop}
@@ -26,6 +26,11 @@ bytesAt s at n = take n (drop at s)
 abbrev pub numberAt : List ℕ → ℕ → ℕ → ℕ
 numberAt s at zero = 0
 numberAt s at (suc n) = numberAt s at n * 256 + byteAt s (at + n)
+
+-- the n bytes of a number, big-endian
+abbrev pub bigEndian : ℕ → ℕ → List ℕ
+bigEndian zero x = []
+bigEndian (suc n) x = x / 256 ^ n % 256 ∷ bigEndian n x
 
 -- the remainder that is not negative
 abbrev pub modulo : ℤ → ℕ → ℕ

@@ -1,0 +1,92 @@
+-- What each public call answers for any bytes, and what the buffer holds behind `translate`.
+-- 01, "Stages run in the order below, those that a call has": 1; 2; 3 and 4; 5 to 7; 8 to 10; 11 to 13; 14; 15; 16; 17; 18; 19; 20.
+use Prim.Native.Nat.{ℕ, _*_}
+use mathlib.Core.Bool.{Bool}
+use mathlib.Core.List.{List, _++_}
+use lib.ListN.{length, drop}
+use lib.Dec.{leb}
+use Rattle.paper.specs.Answers.{Answer, ok, refused, _>>=_, require, inText, inBuffer}
+use Rattle.paper.specs.Tokens.{tokens, mostText}
+use Rattle.paper.specs.Keys.{Key, keys}
+use Rattle.paper.specs.Entry.{Entry, entryOf}
+use Rattle.paper.specs.Grammar.{Tree, nodes, parsed}
+use Rattle.paper.specs.Types.{typed}
+use Rattle.paper.specs.Meaning.{valueOf, isTrue}
+use Rattle.paper.specs.Blocks.{blockSize, blocksNeeded, blocksOf}
+use Rattle.paper.specs.Loading.{program, loaded, valuesAlong, leftTrue}
+use Rattle.paper.specs.Translating.{codeOf}
+
+-- 1: "text over 4,096 bytes", text 4096
+abbrev pub sized : List ℕ → Answer (Unit {0})
+sized text = require (leb (length text) mostText) 1 inText mostText
+
+-- 5 to 7; 8 to 10
+unfoldable pub tree : List ℕ → Answer Tree
+unfolding tokens parsed
+tree text = tokens text >>= parsed (length text)
+
+-- a text and a list that pass
+pub record Restriction : Type 0 where
+  pub keys : List Key
+  pub root : Tree
+
+-- 1; 2; 3 and 4; 5 to 10; 11 to 14
+unfoldable pub restriction : List ℕ → List ℕ → Answer Restriction
+unfolding keys tree typed
+restriction text list =
+    sized text
+    >>= λ _. keys list
+    >>= λ ks. tree text
+    >>= λ t. typed ks t
+    >>= λ _. ok (record { keys = ks; root = t })
+
+unfoldable pub readAnswer : List ℕ → Answer ℕ
+unfolding tree
+readAnswer text = sized text >>= λ _. tree text >>= λ t. ok (nodes t)
+
+unfoldable pub checkAnswer : List ℕ → List ℕ → Answer (Unit {0})
+unfolding restriction
+checkAnswer text list = restriction text list >>= λ _. ok tt
+
+unfoldable pub judgeAnswer : List ℕ → List ℕ → List ℕ → Answer Bool
+unfolding restriction entryOf valueOf
+judgeAnswer text list entry =
+    restriction text list
+    >>= λ r. entryOf (r .keys) entry
+    >>= λ e. ok (isTrue (valueOf (r .keys) e (r .root)))
+
+-- 15: "lent buffer below the bytes needed", at its length
+unfoldable pub translateAnswer : List ℕ → List ℕ → List ℕ → Answer ℕ
+unfolding restriction codeOf
+translateAnswer text list buffer =
+    restriction text list
+    >>= λ r.
+    let n = length (codeOf (r .keys) (r .root)) in
+    require (leb (blockSize * blocksNeeded n) (length buffer)) 15 inBuffer (length buffer)
+    >>= λ _. ok n
+
+-- "fills exactly the blocks needed, and leaves every later byte of the buffer unchanged"
+abbrev pub over : List ℕ → List ℕ → List ℕ
+over new old = new ++ drop (length new) old
+
+abbrev pub filled : Answer ℕ → Answer Restriction → List ℕ → List ℕ
+filled (ok n) (ok r) buffer = over (blocksOf (length (r .keys)) (codeOf (r .keys) (r .root))) buffer
+filled (ok n) (refused m i at) buffer = buffer
+filled (refused m i at) r buffer = buffer
+
+-- "A refusal changes nothing lent."
+unfoldable pub translateBuffer : List ℕ → List ℕ → List ℕ → List ℕ
+unfolding translateAnswer restriction blocksOf codeOf
+translateBuffer text list buffer = filled (translateAnswer text list buffer) (restriction text list) buffer
+
+unfoldable pub loadAnswer : List ℕ → List ℕ → Answer ℕ
+unfolding keys loaded
+loadAnswer list blocks = keys list >>= λ ks. loaded ks blocks
+
+unfoldable pub runAnswer : List ℕ → List ℕ → List ℕ → Answer Bool
+unfolding keys loaded entryOf valuesAlong
+runAnswer list blocks entry =
+    keys list
+    >>= λ ks. loaded ks blocks
+    >>= λ _. entryOf ks entry
+    >>= λ e. ok (leftTrue (valuesAlong ks e (program blocks)))

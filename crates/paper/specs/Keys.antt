@@ -1,0 +1,101 @@
+-- 01, "Key list and entry", first paragraph; refusals 2, 3 and 4.
+-- "A key list is 0 to 32 records of 80 bytes. Byte 0: name length, 1 to 64. Byte 1: kind, 0 exact, 1 ternary, 2 lpm, 3 range,
+-- 4 optional. Byte 2: width W, 1 to 128. Bytes 3 to 15 zero. Bytes 16 to 79: the name, a key by 004's grammar and neither
+-- "true" nor "false", then zeros."
+use Prim.Native.Nat.{ℕ, zero, suc, _+_, _*_, _-_, _/_, _%_}
+use mathlib.Core.Bool.{Bool, true, false, not, cond, _&&_, _||_}
+use mathlib.Core.Option.{Option, none, some, Option·map}
+use mathlib.Core.List.{List, [], _∷_}
+use lib.ListN.{length, take, drop}
+use lib.Dec.{eqb, ltb, leb}
+use Rattle.paper.specs.Answers.{Answer, ok, refused, _>>=_, require, inList}
+use Rattle.paper.specs.Numbers.{byteAt, bytesAt}
+use Rattle.paper.specs.Tokens.{bytes, sameBytes, isKey}
+
+pub data Kind : Type 0 where
+  exact ternary lpm range optional : Kind
+
+abbrev pub kindNo : Kind → ℕ
+kindNo exact = 0
+kindNo ternary = 1
+kindNo lpm = 2
+kindNo range = 3
+kindNo optional = 4
+
+-- of a number up to 4
+abbrev pub kindOf : ℕ → Kind
+kindOf n =
+    cond (eqb n 0) exact
+    (cond (eqb n 1) ternary
+    (cond (eqb n 2) lpm
+    (cond (eqb n 3) range optional)))
+
+pub record Key : Type 0 where
+  pub name : List ℕ
+  pub kind : Kind
+  pub width : ℕ
+
+abbrev pub allZero : List ℕ → Bool
+allZero [] = true
+allZero (b ∷ s) =
+    let rest = allZero s in
+    cond (eqb b 0) rest false
+
+abbrev pub recordSize : ℕ
+recordSize = 80
+
+abbrev pub mostKeys : ℕ
+mostKeys = 32
+
+abbrev pub recordAt : List ℕ → ℕ → List ℕ
+recordAt list k = bytesAt list (k * recordSize) recordSize
+
+abbrev pub nameOf : List ℕ → List ℕ
+nameOf r = bytesAt r 16 (byteAt r 0)
+
+abbrev pub keyOf : List ℕ → Key
+keyOf r = record { name = nameOf r; kind = kindOf (byteAt r 1); width = byteAt r 2 }
+
+abbrev pub recordOk : List ℕ → Bool
+recordOk r =
+    leb 1 (byteAt r 0) && leb (byteAt r 0) 64
+    && leb (byteAt r 1) 4
+    && leb 1 (byteAt r 2) && leb (byteAt r 2) 128
+    && allZero (bytesAt r 3 13)
+    && isKey (nameOf r) && not (sameBytes (nameOf r) (bytes "true")) && not (sameBytes (nameOf r) (bytes "false"))
+    && allZero (drop (16 + byteAt r 0) r)
+
+-- the index of the key of a name
+abbrev pub findFrom : ℕ → List Key → List ℕ → Option ℕ
+findFrom k [] name = none
+findFrom k (key ∷ keys) name =
+    let later = findFrom (suc k) keys name in
+    cond (sameBytes (key .name) name) (some k) later
+
+abbrev pub find : List Key → List ℕ → Option ℕ
+find keys name = findFrom 0 keys name
+
+-- the first n records as keys
+abbrev pub keysFrom : List ℕ → ℕ → ℕ → List Key
+keysFrom list k zero = []
+keysFrom list k (suc n) = keyOf (recordAt list k) ∷ keysFrom list (suc k) n
+
+abbrev pub isNone : {A : Type 0} → Option A → Bool
+isNone none = true
+isNone (some a) = false
+
+-- 3: "a key record breaks its layout"; 4: "a name repeats an earlier one". From record k on, with n records left
+abbrev pub recordsFrom : List ℕ → ℕ → ℕ → Answer (Unit {0})
+recordsFrom list k zero = ok tt
+recordsFrom list k (suc n) =
+    let later = recordsFrom list (suc k) n in
+    cond (recordOk (recordAt list k))
+    (cond (isNone (find (keysFrom list 0 k) (nameOf (recordAt list k)))) later (refused 4 inList (k * recordSize)))
+    (refused 3 inList (k * recordSize))
+
+-- 2: "key list length not a multiple of 80, or over 2,560"; then 3 and 4
+unfoldable pub keys : List ℕ → Answer (List Key)
+keys list =
+    require (eqb (length list % recordSize) 0 && leb (length list) (mostKeys * recordSize)) 2 inList (length list)
+    >>= λ _. recordsFrom list 0 (length list / recordSize)
+    >>= λ _. ok (keysFrom list 0 (length list / recordSize))

@@ -1,0 +1,69 @@
+-- 01, "Translation is postfix, left before right; an operand that must change type is converted directly after its own code,
+-- once; compare then needs equal types. ";" and "&&" both give 10."
+use Prim.Native.Nat.{ℕ, _+_}
+use mathlib.Core.Bool.{Bool, true, false, cond}
+use mathlib.Core.Option.{Option, none, some}
+use mathlib.Core.List.{List, [], _∷_, _++_}
+use lib.ListN.{length}
+use Rattle.paper.specs.Answers.{Answer, ok, refused}
+use Rattle.paper.specs.Tokens.{Prefix, notSign, minusSign}
+use Rattle.paper.specs.Keys.{Key, find}
+use Rattle.paper.specs.Grammar.{Tree, truth, number, key, field, attribute, prefixed, joined, compared, nodes}
+use Rattle.paper.specs.Types.{Ty, bool, int, of, sameTy, andThen, fieldNamed, meet, typeOf}
+use Rattle.paper.specs.Meaning.{connective}
+use Rattle.paper.specs.Code.{Instruction, pushBool, pushInt, pushKey, pushField, pushPriority, invert, negate, convert, compare, connects}
+
+abbrev pub hasType : Answer Ty → Option Ty
+hasType (ok a) = some a
+hasType (refused n i at) = none
+
+-- the type in which the operands of a comparison meet
+abbrev pub meeting : List Key → Tree → Tree → Option Ty
+meeting ks l r = andThen (hasType (typeOf ks l)) (λ a. andThen (hasType (typeOf ks r)) (meet a))
+
+abbrev pub convertTo : Ty → List Instruction
+convertTo bool = []
+convertTo int = []
+convertTo (of k w) = convert k w ∷ []
+
+abbrev pub changed : Option Ty → Option Ty → List Instruction
+changed none m = []
+changed (some a) none = []
+changed (some a) (some m) = cond (sameTy a m) [] (convertTo m)
+
+-- the conversion behind an operand's own code
+abbrev pub conversion : List Key → Tree → Option Ty → List Instruction
+conversion ks t m = changed (hasType (typeOf ks t)) m
+
+abbrev pub operation : Prefix → Instruction
+operation notSign = invert
+operation minusSign = negate
+
+abbrev pub pushing : Option Instruction → List Instruction
+pushing none = []
+pushing (some i) = i ∷ []
+
+unfoldable pub codeOf : List Key → Tree → List Instruction
+unfolding typeOf
+codeOf ks (truth at b) = pushBool b ∷ []
+codeOf ks (number at n) = pushInt n ∷ []
+codeOf ks (key at w) = pushing (andThen (find ks w) (λ k. some (pushKey k)))
+codeOf ks (field at w to f) = pushing (andThen (find ks w) (λ k. andThen (fieldNamed f) (λ g. some (pushField g k))))
+codeOf ks (attribute at to f) = pushPriority ∷ []
+codeOf ks (prefixed at o t) = codeOf ks t ++ (operation o ∷ [])
+codeOf ks (joined at o l r) = codeOf ks l ++ codeOf ks r ++ (connects (connective o) ∷ [])
+codeOf ks (compared at c l r) =
+    codeOf ks l ++ conversion ks l (meeting ks l r) ++ codeOf ks r ++ conversion ks r (meeting ks l r) ++ (compare c ∷ [])
+
+-- "the nodes of the tree plus the conversions"
+unfoldable pub conversions : List Key → Tree → ℕ
+unfolding typeOf
+conversions ks (truth at b) = 0
+conversions ks (number at n) = 0
+conversions ks (key at w) = 0
+conversions ks (field at w to f) = 0
+conversions ks (attribute at to f) = 0
+conversions ks (prefixed at o t) = conversions ks t
+conversions ks (joined at o l r) = conversions ks l + conversions ks r
+conversions ks (compared at c l r) =
+    conversions ks l + length (conversion ks l (meeting ks l r)) + conversions ks r + length (conversion ks r (meeting ks l r))

@@ -1,0 +1,186 @@
+-- 01, "Types and meaning", the types; refusals 11 to 14.
+-- "Types: bool, int, bit<W>, and ternary, lpm, range, optional of W. A bare exact key is bit<W>; another bare key has its kind's
+-- type." So bit<W> is the type of exact at W.
+use Prim.Native.Nat.{ℕ}
+use mathlib.Core.Bool.{Bool, true, false, not, cond, _&&_, _||_}
+use mathlib.Core.Option.{Option, none, some, Option·map}
+use mathlib.Core.List.{List, [], _∷_}
+use lib.ListN.{getElem?}
+use lib.Dec.{eqb}
+use Rattle.paper.specs.Answers.{Answer, ok, refused, _>>=_, inText}
+use Rattle.paper.specs.Tokens.{bytes, sameBytes, Prefix, notSign, minusSign, Comparison, equal, unequal, greater, atLeast, less, atMost}
+use Rattle.paper.specs.Keys.{Kind, exact, ternary, lpm, range, optional, kindNo, Key, find}
+use Rattle.paper.specs.Entry.{isExact}
+use Rattle.paper.specs.Grammar.{Tree, truth, number, key, field, attribute, prefixed, joined, compared, placeOf}
+
+pub data Ty : Type 0 where
+  bool int : Ty
+  of : Kind → ℕ → Ty
+
+abbrev pub bits : ℕ → Ty
+bits w = of exact w
+
+abbrev pub sameTy : Ty → Ty → Bool
+sameTy bool bool = true
+sameTy bool int = false
+sameTy bool (of k w) = false
+sameTy int bool = false
+sameTy int int = true
+sameTy int (of k w) = false
+sameTy (of k w) bool = false
+sameTy (of k w) int = false
+sameTy (of k w) (of l x) = eqb (kindNo k) (kindNo l) && eqb w x
+
+abbrev pub when : {A : Type 0} → Bool → A → Option A
+when true a = some a
+when false a = none
+
+abbrev pub andThen : {A B : Type 0} → Option A → (A → Option B) → Option B
+andThen none f = none
+andThen (some a) f = f a
+
+-- fields: "Fields are those of 004's table."
+
+pub data Field : Type 0 where
+  value mask prefixLength low high : Field
+
+abbrev pub fieldNamed : List ℕ → Option Field
+fieldNamed w =
+    cond (sameBytes w (bytes "value")) (some value)
+    (cond (sameBytes w (bytes "mask")) (some mask)
+    (cond (sameBytes w (bytes "prefix_length")) (some prefixLength)
+    (cond (sameBytes w (bytes "low")) (some low)
+    (cond (sameBytes w (bytes "high")) (some high) none))))
+
+abbrev pub has : Kind → Field → Bool
+has exact value = true
+has exact mask = false
+has exact prefixLength = false
+has exact low = false
+has exact high = false
+has ternary value = true
+has ternary mask = true
+has ternary prefixLength = false
+has ternary low = false
+has ternary high = false
+has lpm value = true
+has lpm mask = false
+has lpm prefixLength = true
+has lpm low = false
+has lpm high = false
+has range value = false
+has range mask = false
+has range prefixLength = false
+has range low = true
+has range high = true
+has optional value = true
+has optional mask = true
+has optional prefixLength = false
+has optional low = false
+has optional high = false
+
+abbrev pub fieldTy : ℕ → Field → Ty
+fieldTy w value = bits w
+fieldTy w mask = bits w
+fieldTy w prefixLength = int
+fieldTy w low = bits w
+fieldTy w high = bits w
+
+-- of the key of an index, where there is one
+
+abbrev pub bareType : List Key → ℕ → Option Ty
+bareType ks k = Option·map (λ (x : Key). of (x .kind) (x .width)) (getElem? ks k)
+
+abbrev pub fieldType : List Key → Field → ℕ → Option Ty
+fieldType ks f k = andThen (getElem? ks k) (λ x. when (has (x .kind) f) (fieldTy (x .width) f))
+
+-- operators
+
+-- ""!" takes bool. "-" takes int, or bit<W> modulo 2^W."
+abbrev pub notType : Ty → Option Ty
+notType bool = some bool
+notType int = none
+notType (of k w) = none
+
+abbrev pub negateType : Ty → Option Ty
+negateType bool = none
+negateType int = some int
+negateType (of k w) = when (isExact k) (of k w)
+
+abbrev pub prefixType : Prefix → Ty → Option Ty
+prefixType notSign a = notType a
+prefixType minusSign a = negateType a
+
+-- "The joins take bools."
+abbrev pub joinType : Ty → Ty → Option Ty
+joinType a b = when (sameTy a bool && sameTy b bool) bool
+
+-- "Convert takes int, or for a bare-key type also bit of that W."
+abbrev pub takes : Ty → Ty → Bool
+takes bool a = false
+takes int a = false
+takes (of k w) a = sameTy a int || not (isExact k) && sameTy a (bits w)
+
+-- the type in which two operands meet: their own, or that of the one to which the other is converted
+abbrev pub meet : Ty → Ty → Option Ty
+meet a b = cond (sameTy a b) (some a) (cond (takes b a) (some b) (when (takes a b) a))
+
+abbrev pub isNumber : Ty → Bool
+isNumber bool = false
+isNumber int = true
+isNumber (of k w) = isExact k
+
+-- ""==" and "!=" take equal types .. Ordering takes int and int, bit<W> and bit<W>, or int and bit<W>."
+abbrev pub suits : Comparison → Ty → Bool
+suits equal a = true
+suits unequal a = true
+suits greater a = isNumber a
+suits atLeast a = isNumber a
+suits less a = isNumber a
+suits atMost a = isNumber a
+
+-- of two operands of one type
+abbrev pub compareType : Comparison → Ty → Ty → Option Ty
+compareType c a b = when (sameTy a b && suits c a) bool
+
+-- of two operands that meet in one
+abbrev pub comparisonType : Comparison → Ty → Ty → Option Ty
+comparisonType c a b = andThen (meet a b) (λ m. compareType c m m)
+
+-- trees
+
+-- 13: "operator with wrong operand types", at the operator
+abbrev pub operatorType : ℕ → Option Ty → Answer Ty
+operatorType at none = refused 13 inText at
+operatorType at (some a) = ok a
+
+-- 11: "unknown key", at its token
+abbrev pub known : ℕ → Option ℕ → Answer ℕ
+known at none = refused 11 inText at
+known at (some k) = ok k
+
+-- 12: "unknown field for that kind, or unknown attribute", at its name
+abbrev pub namedType : ℕ → Option Ty → Answer Ty
+namedType at none = refused 12 inText at
+namedType at (some a) = ok a
+
+-- "Operands are typed left, right, then the operator. An operator is judged only when its operands have types."
+unfoldable pub typeOf : List Key → Tree → Answer Ty
+typeOf ks (truth at b) = ok bool
+typeOf ks (number at n) = ok int
+typeOf ks (key at w) = known at (find ks w) >>= λ k. namedType at (bareType ks k)
+typeOf ks (field at w to f) = known at (find ks w) >>= λ k. namedType to (andThen (fieldNamed f) (λ g. fieldType ks g k))
+typeOf ks (attribute at to f) = namedType to (when (sameBytes f (bytes "priority")) int)
+typeOf ks (prefixed at o t) = typeOf ks t >>= λ a. operatorType at (prefixType o a)
+typeOf ks (joined at o l r) = typeOf ks l >>= λ a. typeOf ks r >>= λ b. operatorType at (joinType a b)
+typeOf ks (compared at c l r) = typeOf ks l >>= λ a. typeOf ks r >>= λ b. operatorType at (comparisonType c a b)
+
+-- 14: "whole text not bool", at the root's place
+abbrev pub rootType : Tree → Ty → Answer (Unit {0})
+rootType t bool = ok tt
+rootType t int = refused 14 inText (placeOf t)
+rootType t (of k w) = refused 14 inText (placeOf t)
+
+unfoldable pub typed : List Key → Tree → Answer (Unit {0})
+unfolding typeOf
+typed ks t = typeOf ks t >>= rootType t

@@ -13,3 +13,5 @@ pub mod Loading
 pub mod Translating
 pub mod Calls
 pub mod Marked
+pub mod Limits
+pub mod CaseFour

@@ -1,0 +1,169 @@
+-- Both sides of every limit that 01 sets, as cases that compute.
+use Prim.Native.Nat.{ℕ, zero, suc, _+_, _*_, _-_, _/_, _%_, _^_}
+use mathlib.Core.Path.{_≡_}
+use mathlib.Core.Bool.{Bool, true, false}
+use mathlib.Core.Option.{Option, none, some}
+use mathlib.Core.List.{List, [], _∷_, _++_, map}
+use lib.ListN.{length, replicate}
+use Rattle.paper.specs.Answers.{Answer, ok, refused, _>>=_, inText, inList, inEntry, inBlocks, inBuffer}
+use Rattle.paper.specs.Numbers.{bigEndian}
+use Rattle.paper.specs.Tokens.{bytes}
+use Rattle.paper.specs.Keys.{keys}
+use Rattle.paper.specs.Types.{Ty, bool}
+use Rattle.paper.specs.Meaning.{both}
+use Rattle.paper.specs.Code.{Instruction, pushBool, connects, Walk, fails, ends}
+use Rattle.paper.specs.Loading.{typesAlong}
+use Rattle.paper.specs.Calls.{readAnswer, judgeAnswer, translateAnswer, loadAnswer}
+use Rattle.paper.specs.Marked.{keyRecord, matchRecord, theKeys}
+
+abbrev pub repeat : ℕ → List ℕ → List ℕ
+repeat zero s = []
+repeat (suc n) s = s ++ repeat n s
+
+-- what is given, and what must be said of it
+pub record On (A : Type 0) : Type 0 where
+  pub given : List ℕ
+  pub says : Answer A
+
+abbrev pub on : {A : Type 0} → List ℕ → Answer A → On A
+on s a = record { given = s; says = a }
+
+abbrev pub Agree : {A : Type 0} → (List ℕ → Answer A) → List (On A) → Type 0
+Agree {A} f cs = map (λ (c : On A). f (c .given)) cs ≡ map (λ (c : On A). c .says) cs
+
+-- texts: 4,096 bytes; 1,024 tokens; 64 levels of each kind, and mixed; 2^128 − 1 in each base
+
+abbrev pub nested : ℕ → List ℕ
+nested n = repeat n (bytes "(") ++ bytes "true" ++ repeat n (bytes ")")
+
+-- "!", "-" and "(" in turn: 3n levels
+abbrev pub mixed : ℕ → List ℕ → List ℕ
+mixed n inner = repeat n (bytes "!-(") ++ inner ++ repeat n (bytes ")")
+
+abbrev pub texts : List (On ℕ)
+texts =
+    on (bytes "true" ++ replicate 4092 32) (ok 1)
+    ∷ on (bytes "true" ++ replicate 4093 32) (refused 1 inText 4096)
+    ∷ on (replicate 4096 97) (ok 1)
+    ∷ on (replicate 4097 97) (refused 1 inText 4096)
+    ∷ on (bytes "true" ++ repeat 511 (bytes ";true") ++ bytes ";") (ok 1023)
+    ∷ on (bytes "true" ++ repeat 512 (bytes ";true")) (refused 7 inText 2560)
+    ∷ on (repeat 64 (bytes "!") ++ bytes "true") (ok 65)
+    ∷ on (repeat 65 (bytes "!") ++ bytes "true") (refused 9 inText 64)
+    ∷ on (repeat 64 (bytes "-") ++ bytes "1") (ok 65)
+    ∷ on (repeat 65 (bytes "-") ++ bytes "1") (refused 9 inText 64)
+    ∷ on (nested 64) (ok 1)
+    ∷ on (nested 65) (refused 9 inText 64)
+    ∷ on (mixed 21 (bytes "!1")) (ok 44)
+    ∷ on (mixed 21 (bytes "!-1")) (refused 9 inText 64)
+    ∷ on (bytes "340282366920938463463374607431768211455") (ok 1)
+    ∷ on (bytes "340282366920938463463374607431768211456") (refused 6 inText 0)
+    ∷ on (bytes "0x" ++ repeat 32 (bytes "f")) (ok 1)
+    ∷ on (bytes "0x1" ++ repeat 32 (bytes "0")) (refused 6 inText 0)
+    ∷ on (bytes "0b" ++ repeat 128 (bytes "1")) (ok 1)
+    ∷ on (bytes "0b1" ++ repeat 128 (bytes "0")) (refused 6 inText 0)
+    ∷ on (bytes "0o3" ++ repeat 42 (bytes "7")) (ok 1)
+    ∷ on (bytes "0o4" ++ repeat 42 (bytes "0")) (refused 6 inText 0)
+    ∷ []
+
+abbrev pub Texts : Type 0
+Texts = Agree readAnswer texts
+
+-- key lists: 32 records, 2,560 bytes; a byte short and a byte long; width 1 and 128; a name of 64 bytes
+
+abbrev pub manyKeys : ℕ → List ℕ
+manyKeys zero = []
+manyKeys (suc n) = manyKeys n ++ keyRecord ((97 + n / 16) ∷ (97 + n % 16) ∷ []) 0 1
+
+abbrev pub lists : List (On ℕ)
+lists =
+    on [] (ok 0)
+    ∷ on (manyKeys 32) (ok 32)
+    ∷ on (manyKeys 33) (refused 2 inList 2640)
+    ∷ on (manyKeys 32 ++ (0 ∷ [])) (refused 2 inList 2561)
+    ∷ on (manyKeys 1 ++ replicate 79 97) (refused 2 inList 159)
+    ∷ on (keyRecord (bytes "k") 0 0) (refused 3 inList 0)
+    ∷ on (keyRecord (bytes "k") 0 1) (ok 1)
+    ∷ on (keyRecord (bytes "k") 0 128) (ok 1)
+    ∷ on (keyRecord (bytes "k") 0 129) (refused 3 inList 0)
+    ∷ on (keyRecord (bytes "k") 4 8) (ok 1)
+    ∷ on (keyRecord (bytes "k") 5 8) (refused 3 inList 0)
+    ∷ on (keyRecord [] 0 8) (refused 3 inList 0)
+    ∷ on (keyRecord (replicate 64 97) 0 8) (ok 1)
+    ∷ on (65 ∷ 0 ∷ 8 ∷ (replicate 13 0 ++ replicate 64 97)) (refused 3 inList 0)
+    ∷ on (keyRecord (bytes "k") 0 1 ++ keyRecord (bytes "k") 1 8) (refused 4 inList 80)
+    ∷ []
+
+abbrev pub Lists : Type 0
+Lists = Agree (λ list. keys list >>= λ ks. ok (length ks)) lists
+
+-- entries: priority below 2^31; a number below 2^W, at W 1 and 128; prefix length at most W
+
+abbrev pub entry : ℕ → List ℕ → List ℕ
+entry priority records = bigEndian 4 priority ++ records
+
+abbrev pub Judged : List ℕ → List (On Bool) → Type 0
+Judged list cs = Agree (judgeAnswer (bytes "true") list) cs
+
+abbrev pub priorities : List (On Bool)
+priorities =
+    on (entry (2 ^ 31 - 1) []) (ok true)
+    ∷ on (entry (2 ^ 31) []) (refused 20 inEntry 0)
+    ∷ on (bigEndian 3 0) (refused 19 inEntry 3)
+    ∷ on (bigEndian 5 0) (refused 19 inEntry 5)
+    ∷ []
+
+abbrev pub narrow : List (On Bool)
+narrow =
+    on (entry 0 (matchRecord 1 0 1 0)) (ok true)
+    ∷ on (entry 0 (matchRecord 1 0 2 0)) (refused 20 inEntry 4)
+    ∷ []
+
+abbrev pub wide : List (On Bool)
+wide =
+    on (entry 0 (matchRecord 1 128 (2 ^ 128 - 1) 0)) (ok true)
+    ∷ on (entry 0 (matchRecord 1 129 (2 ^ 128 - 1) 0)) (refused 20 inEntry 4)
+    ∷ on (entry 0 (matchRecord 1 127 (2 ^ 128 - 2) 0)) (ok true)
+    ∷ on (entry 0 (matchRecord 1 127 (2 ^ 128 - 1) 0)) (refused 20 inEntry 4)
+    ∷ []
+
+abbrev pub eightBits : List (On Bool)
+eightBits =
+    on (entry 0 (matchRecord 1 8 255 0)) (ok true)
+    ∷ on (entry 0 (matchRecord 1 9 255 0)) (refused 20 inEntry 4)
+    ∷ on (entry 0 (matchRecord 1 8 256 0)) (refused 20 inEntry 4)
+    ∷ []
+
+pub record Entries : Type 0 where
+  pub priority : Judged [] priorities
+  pub one : Judged (keyRecord (bytes "k") 0 1) narrow
+  pub all : Judged (keyRecord (bytes "k") 2 128) wide
+  pub eight : Judged (keyRecord (bytes "k") 2 8) eightBits
+
+-- values held: 384. n bools, then as many joins as bring them back to one
+abbrev pub piled : ℕ → List (Option Instruction)
+piled n = replicate n (some (pushBool true)) ++ replicate (n - 1) (some (connects both))
+
+pub record Held : Type 0 where
+  pub most : typesAlong [] (piled 384) ≡ ends (bool ∷ [])
+  pub more : typesAlong [] (piled 385) ≡ fails 384
+
+-- buffers: a byte short of the block that is needed; blocks: none, half a one, 83 of them
+abbrev pub buffers : List (On ℕ)
+buffers =
+    on (replicate 512 0) (ok 1)
+    ∷ on (replicate 511 0) (refused 15 inBuffer 511)
+    ∷ []
+
+abbrev pub lengths : List (On ℕ)
+lengths =
+    on [] (refused 16 inBlocks 0)
+    ∷ on (replicate 256 0) (refused 16 inBlocks 256)
+    ∷ on (replicate 512 0) (refused 17 inBlocks 0)
+    ∷ on (replicate (82 * 512) 0) (refused 17 inBlocks 0)
+    ∷ on (replicate (83 * 512) 0) (refused 16 inBlocks 42496)
+    ∷ []
+
+pub record Sizes : Type 0 where
+  pub buffer : Agree (translateAnswer (bytes "true") []) buffers
+  pub blocks : Agree (loadAnswer []) lengths

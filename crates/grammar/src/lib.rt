@@ -1,0 +1,1 @@
+// The tree of a text, in a lent slice of numbers.

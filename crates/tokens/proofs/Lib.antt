@@ -1,3 +1,5 @@
 pub mod Parts
 pub mod Quoting
 pub mod SignBytes
+pub mod Steps
+pub mod Tapes

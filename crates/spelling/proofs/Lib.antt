@@ -1,3 +1,4 @@
+pub mod Numbers
 pub mod Spans
 pub mod Tests
 pub mod WordBytes

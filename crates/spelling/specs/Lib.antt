@@ -1,2 +1,3 @@
+pub mod Bases
 pub mod Runs
 pub mod Words

@@ -1,1 +1,14 @@
 pub mod Marked
+pub mod Taken
+pub mod Turns
+pub mod Ladder
+pub mod Words
+pub mod Operators
+pub mod Atoms
+pub mod Operands
+pub mod Complete
+pub mod Levels
+pub mod Limits
+pub mod Sentences
+pub mod Cuts
+pub mod Refusals

@@ -7,7 +7,7 @@ use mathlib.Core.List.{List, [], _∷_}
 use Rattle.paper.specs.Tokens.{bytes, sameBytes, undotted, join, comparison, prefix, opening, closing, colons, Tok, word, numeral, string, sign, Token}
 use Rattle.paper.specs.Addresses.{Scheme, schemeOf}
 use Rattle.paper.specs.Grammar.{Tree, truth, number, key, field, got, stuck, ends, Reader, closed, named, addressWith, addressed, opensAddress, keyed, worded}
-use Rattle.paper.specs.Sentences.{tokenAt, signAt, Name, Operand, a-true, a-false, an-address, a-key, a-field}
+use Rattle.paper.specs.Sentences.{tokenAt, signAt, Name, Operand, a-true, a-false, an-address, a-key, a-field, a-string}
 use Rattle.paper.proofs.Taken.{of-end, of-next, Kind, exact, laxer, Family, Begun, Says, stays, extend}
 use Rattle.paper.proofs.Words.{same-bytes, not-bytes}
 
@@ -48,7 +48,8 @@ module _ (R : Family) (make : ℕ → List ℕ → Tree)
   named-at at (word f) us = go (undotted f) refl
     where
       go : (b : Bool) → undotted f ≡ b
-          → Says (named make) R (tokenAt at (word f) ∷ us) (cond b (ends (got (make at f)) us) (ends stuck (tokenAt at (word f) ∷ us)))
+          → Says (named make) R (tokenAt at (word f) ∷ us)
+          (cond b (ends (got (make at f)) us) (ends stuck (tokenAt at (word f) ∷ us)))
       go true e = record { taken = tokenAt at (word f) ∷ []; split = refl; front = λ k. name k at f e; local = λ vs s. rw e }
       go false e = stays (of-next _ λ ws. rw e) named-begun
   named-at at (numeral n) us = stays (of-next _ λ ws. refl) named-begun
@@ -82,11 +83,12 @@ module _ (reads : Kind → Reader) (readers : Readers reads) where
               tokenAt b (string q),
               us,
               refl,
+              a-string b q,
               stays (of-next _ λ ws. rw e) (address-begun, (number at n, signAt 0 closing ∷ [], string-of laxer b q n 0 found)),
             )
         go (some n) e =
-            extend (addressed (reads exact) s at) (closed (number at n)) R (tokenAt b (string q) ∷ us) (tokenAt b (string q) ∷ []) us
-            refl (λ vs s. rw e)
+            extend (addressed (reads exact) s at) (closed (number at n)) R (tokenAt b (string q) ∷ us)
+            (tokenAt b (string q) ∷ []) us refl (λ vs s. rw e)
             (closes-says (λ k r ws. R k r (tokenAt b (string q) ∷ ws)) (number at n)
             (λ k c. string-of k b q n c (readers .kept s q n e k)) us)
     address-at b (sign g) us = stays (of-next _ λ ws. refl) address-begun
@@ -117,11 +119,12 @@ module _ (reads : Kind → Reader) (readers : Readers reads) where
         key-at a (sign opening) us = go (schemeOf w) refl
           where
             go : (o : Option Scheme) → schemeOf w ≡ o
-                → Says (keyed (reads exact) at w) Behind (signAt a opening ∷ us) (opensAddress (reads exact) o at w (signAt a opening) us)
+                → Says (keyed (reads exact) at w) Behind (signAt a opening ∷ us)
+                (opensAddress (reads exact) o at w (signAt a opening) us)
             go none e = stays (of-next _ λ ws. rw e) a-key-here
             go (some s) e =
-                extend (keyed (reads exact) at w) (addressed (reads exact) s at) Behind (signAt a opening ∷ us) (signAt a opening ∷ [])
-                us refl (λ vs _. rw e)
+                extend (keyed (reads exact) at w) (addressed (reads exact) s at) Behind (signAt a opening ∷ us)
+                (signAt a opening ∷ []) us refl (λ vs _. rw e)
                 (address-says (λ k t ws. Behind k t (signAt a opening ∷ ws)) s at
                 (λ k b q n c found. into k _ _ (an-address at w s a b c q n e found)) us)
         key-at a (sign closing) us = stays (of-next _ λ ws. refl) a-key-here

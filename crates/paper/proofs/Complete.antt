@@ -1,5 +1,5 @@
--- A phrase that no token follows which could go on with it is taken whole, with its tree: for once, chain and operand, from what
--- is so below them.
+-- A phrase is taken whole, with its tree, where no token follows that could go on with it: for once, chain and operand, from
+-- what is so below them.
 use Prim.Native.Nat.{ℕ}
 use mathlib.Core.Path.{_≡_, refl, sym, ap, _∙_}
 use mathlib.Core.Bool.{Bool, true, false, true≢false}
@@ -100,7 +100,8 @@ abbrev pub AfterAtom : Token → Type 0
 AfterAtom u = endsAtom (markOf (u .tok)) ≡ true
 
 module _ (read : Reader) (inner outer : ℕ → Parser) (Inner Outer : Phrases) (F : Token → Type 0)
-    (inner-takes : (at : ℕ) (t : Tree) (ts us : List Token) → Inner t ts → Next AfterAtom us → inner at (ts ++ us) ≡ ends (got t) us)
+    (inner-takes : (at : ℕ) (t : Tree) (ts us : List Token) → Inner t ts → Next AfterAtom us
+    → inner at (ts ++ us) ≡ ends (got t) us)
     (outer-takes : (at : ℕ) (t : Tree) (ts us : List Token) → Outer t ts → Next F us → outer at (ts ++ us) ≡ ends (got t) us)
     (closing-follows : (at : ℕ) → F (signAt at closing)) where
   key-ends : (at : ℕ) (w : List ℕ) (m : Mark) (u : Token) (us : List Token) → endsAtom m ≡ true

@@ -108,7 +108,8 @@ module _ (fn : Token → Option Make) (op : Operator) (said : (u : Token) (make 
             → ((r : Tree) (ws xs : List Token) → length xs ≤ length us → ((k : Kind) → Chain op (S k) r ws)
             → Says (turns last fn p r) (λ k s ys. Ended last op (S k) s (ws ++ ys)) xs (turns last fn p r xs))
             → Says (turns last fn p t) R (u ∷ us) (moreWith t u us o (λ make. behind last t us (after make us)))
-        go none e step = stays (of-next _ λ ws. turns-next last fn p shrinks t u ws ∙ rw e) (λ k. rw append-nil (ended last (h k)))
+        go none e step =
+            stays (of-next _ λ ws. turns-next last fn p shrinks t u ws ∙ rw e) (λ k. rw append-nil (ended last (h k)))
         go (some make) e step =
             extend (turns last fn p t) (λ ws. behind last t ws (after make ws)) R (u ∷ us) (u ∷ []) us refl
             (λ ws s. turns-next last fn p shrinks t u ws ∙ rw e)
@@ -120,6 +121,7 @@ module _ (fn : Token → Option Make) (op : Operator) (said : (u : Token) (make 
     chain-tells =
         record {
           says = λ ts.
-              bind p (turns last fn p) S (λ k. Ended last op (S k)) (λ k t vs h. (t, [], rw append-nil (ended last (first h)))) ts
+              bind p (turns last fn p) S (λ k. Ended last op (S k))
+              (λ k t vs h. (t, [], rw append-nil (ended last (first h)))) ts
               (λ t vs us e h. turns-says (length us) t vs us (le-refl _) (λ k. first (h k))) (tells .says ts);
         }

@@ -1,10 +1,11 @@
--- What is said of the tokens of a whole text, with any number of levels.
+-- Reading agrees with the grammar, at any number of levels: what is read is a phrase with that tree, and every phrase is read;
+-- and what the answers on a whole text say of its tokens.
 use Prim.Native.Nat.{ℕ, zero, suc}
 use mathlib.Core.Path.{_≡_, refl, ap, subst, fun-ext, _∙_}
 use mathlib.Core.Bool.{true, false}
 use mathlib.Core.Option.{Option, none}
 use mathlib.Core.List.{List, [], _∷_, _++_, append-nil}
-use Rattle.paper.specs.Tokens.{Join, sequel, implies, orElse, andAlso, Comparison, join, comparison, Token}
+use Rattle.paper.specs.Tokens.{Join, sequel, implies, orElse, andAlso, Comparison, join, comparison, closing, Token}
 use Rattle.paper.specs.Grammar.{Tree, got, stuck, Out, ends, deep, bad, _>>>_, Parser, Make, Reader, once, chain, joins, compares, implication, sequence, prefixes, finished, whole}
 use Rattle.paper.specs.Sentences.{signAt, Operator, Joining, joining, Comparing, comparing, Once, Chain, none-of, first, Operand, a-numeral, Implication, Sequence, Prefixed, Whole, lenient}
 use Rattle.paper.proofs.Taken.{of-end, of-next, Kind, exact, deeper, laxer, Family, Says, Tells, stays, bind}
@@ -35,7 +36,8 @@ module _ {fn : Token → Option Make} {op : Operator} (finds : Finds fn op) {p :
         complete = chain-complete finds between (reads .complete) false (tells-shrinks (reads .tells));
       }
 
-joining-is : (P : Token → Type 0) {o : Join} → ((at : ℕ) → P (signAt at (join o))) → (u : Token) (make : Make) → Joining o u make → P u
+joining-is : (P : Token → Type 0) {o : Join} → ((at : ℕ) → P (signAt at (join o))) → (u : Token) (make : Make)
+    → Joining o u make → P u
 joining-is P h u make (joining at) = h at
 
 comparing-is : (P : Token → Type 0) → ((at : ℕ) (c : Comparison) → P (signAt at (comparison c))) → (u : Token) (make : Make)
@@ -49,6 +51,9 @@ AfterImplication = Past (Past (Past (Past AfterAtom compares) (joins andAlso)) (
 
 abbrev AfterSequence : Token → Type 0
 AfterSequence = Past AfterImplication (joins sequel)
+
+closing-after : (at : ℕ) → AfterSequence (signAt at closing)
+closing-after at = (((((refl, refl), refl), refl), refl), refl)
 
 module _ {p : Parser} {S : Family} (reads : Reads p S AfterAtom) where
   implication-reads : Reads (implication p) (λ k. Implication (S k)) AfterImplication
@@ -118,6 +123,7 @@ then-emptied (deep at) = tt
 then-emptied (bad at) = tt
 
 module _ (read : Reader) (readers : Readers (readings read)) where
+  -- no level is left, but for phrases with one level more
   abbrev inner₀ : Family
   inner₀ exact = λ t ts. ⊥
   inner₀ deeper = Prefixed read zero
@@ -128,7 +134,8 @@ module _ (read : Reader) (readers : Readers (readings read)) where
   outer₀ deeper = Sequence (Prefixed read zero)
   outer₀ laxer = λ t ts. ⊥
 
-  into₀ : (k : Kind) (t : Tree) (ts : List Token) → Operand (readings read k) (inner₀ k) (outer₀ k) t ts → Level read zero k t ts
+  into₀ : (k : Kind) (t : Tree) (ts : List Token) → Operand (readings read k) (inner₀ k) (outer₀ k) t ts
+      → Level read zero k t ts
   unfolding Prefixed
   into₀ exact t ts h = h
   into₀ deeper t ts h = h
@@ -143,7 +150,7 @@ module _ (read : Reader) (readers : Readers (readings read)) where
             (first (none-of (first (first (none-of (a-numeral 0 0))))));
         complete =
             operand-complete read (λ at us. deep at) (λ at us. deep at) (inner₀ exact) (outer₀ exact) AfterSequence
-            (λ at t ts us h. absurd h) (λ at t ts us h. absurd h) (λ at. (((((refl, refl), refl), refl), refl), refl));
+            (λ at t ts us h. absurd h) (λ at t ts us h. absurd h) closing-after;
       }
   prefixes-reads (suc levels) =
       let below = prefixes-reads levels in
@@ -156,7 +163,7 @@ module _ (read : Reader) (readers : Readers (readings read)) where
         complete =
             operand-complete read (λ at. prefixes read levels) (λ at. sequence false (prefixes read levels))
             (Level read levels exact) (Sequence (Level read levels exact)) AfterSequence
-            (λ at. below .complete .takes) (λ at. inside .complete .takes) (λ at. (((((refl, refl), refl), refl), refl), refl));
+            (λ at. below .complete .takes) (λ at. inside .complete .takes) closing-after;
       }
 
   finished-says : (S : Family) (t : Tree) (vs us : List Token) → ((k : Kind) → S k t vs)
@@ -172,7 +179,8 @@ module _ (read : Reader) (readers : Readers (readings read)) where
   text-tells levels =
       record {
         says = λ ts.
-            bind (sequence true (prefixes read levels)) finished (Text levels) (Text levels) (λ k t vs h. (t, [], rw append-nil h)) ts
+            bind (sequence true (prefixes read levels)) finished (Text levels) (Text levels)
+            (λ k t vs h. (t, [], rw append-nil h)) ts
             (λ t vs us e h. finished-says (Text levels) t vs us h) (top-tells (prefixes-reads levels) .says ts);
       }
 
@@ -192,11 +200,17 @@ module _ (read : Reader) (readers : Readers (readings read)) where
   limited levels deeper = rw level-deeper
   limited levels laxer = rw level-laxer
 
-  pub whole-tells : (levels : ℕ) → Tells (whole read levels) (Limited levels)
+  whole-tells : (levels : ℕ) → Tells (whole read levels) (Limited levels)
   whole-tells levels = subst (λ (S : Family). Tells (whole read levels) S) (fun-ext (limited levels)) (text-tells levels)
 
+  pub whole-says : (levels : ℕ) (ts : List Token) (o : Out) → whole read levels ts ≡ o
+      → Says (whole read levels) (Limited levels) ts o
+  whole-says levels ts o e =
+      subst (λ (o : Out). Says (whole read levels) (Limited levels) ts o) e (whole-tells levels .says ts)
+
   -- every phrase is read, to its tree
-  pub phrase-read : (levels : ℕ) (t : Tree) (ts : List Token) → Whole (Prefixed read levels) t ts → whole read levels ts ≡ ends (got t) []
+  pub phrase-read : (levels : ℕ) (t : Tree) (ts : List Token) → Whole (Prefixed read levels) t ts
+      → whole read levels ts ≡ ends (got t) []
   phrase-read levels t ts h = text-takes levels t ts (rw level-exact h)
 
   -- what is read is a phrase with that tree, and all tokens are read
@@ -205,9 +219,10 @@ module _ (read : Reader) (readers : Readers (readings read)) where
   unfolding whole
   whole-emptied levels ts = then-emptied (sequence true (prefixes read levels) ts)
 
-  pub read-phrase : (levels : ℕ) (t : Tree) (ts us : List Token) → whole read levels ts ≡ ends (got t) us → Whole (Prefixed read levels) t ts
+  pub read-phrase : (levels : ℕ) (t : Tree) (ts us : List Token) → whole read levels ts ≡ ends (got t) us
+      → Whole (Prefixed read levels) t ts
   read-phrase levels t ts us e =
-      let h = subst (λ (o : Out). Says (whole read levels) (Limited levels) ts o) e (whole-tells levels .says ts) in
+      let h = whole-says levels ts (ends (got t) us) e in
       let none-left : us ≡ [] = subst (λ (o : Out). Emptied o) e (whole-emptied levels ts) in
       let all-taken : ts ≡ h .taken = h .split ∙ ap (h .taken ++_) none-left ∙ append-nil (h .taken) in
       rw all-taken (h .front exact)

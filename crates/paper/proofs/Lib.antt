@@ -12,3 +12,5 @@ pub mod Limits
 pub mod Sentences
 pub mod Cuts
 pub mod Refusals
+pub mod Nodes
+pub mod Offsets

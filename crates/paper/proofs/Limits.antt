@@ -34,7 +34,8 @@ module _ (Nine Ten : Type 0) where
     pub keeps : (ts : List Token) → Keeps Nine Ten (p ts) (q ts)
 
   module _ (op : Token → Option Make) {p q : Parser} (kept : Kept p q) where
-    once-with : (t : Tree) (u : Token) (us : List Token) (o : Option Make) → Keeps Nine Ten (onceWith p t u us o) (onceWith q t u us o)
+    once-with : (t : Tree) (u : Token) (us : List Token) (o : Option Make)
+        → Keeps Nine Ten (onceWith p t u us o) (onceWith q t u us o)
     once-with t u us none = refl
     once-with t u us (some make) = keeps-then (p us) (q us) _ _ (kept .keeps us) (λ r vs. refl)
 
@@ -64,7 +65,8 @@ module _ (Nine Ten : Type 0) where
       more-keeps (suc n) t [] = refl
       more-keeps (suc n) t (u ∷ us) =
           more-with t u us (op u) _ _
-          (λ make. behind-keeps last t us _ _ (keeps-then (p us) (q us) _ _ (kept .keeps us) (λ r vs. more-keeps n (make t r) vs)))
+          (λ make. behind-keeps last t us _ _
+          (keeps-then (p us) (q us) _ _ (kept .keeps us) (λ r vs. more-keeps n (make t r) vs)))
 
       chain-keeps : Kept (chain last op p) (chain last op q)
       unfolding chain
@@ -123,10 +125,12 @@ module _ (Nine Ten : Type 0) where
 
     module _ (inner inner′ outer outer′ : ℕ → Parser) (inner-kept : (at : ℕ) → Kept (inner at) (inner′ at))
         (outer-kept : (at : ℕ) → Kept (outer at) (outer′ at)) where
-      signed-keeps : (g : Sign) (u : Token) (us : List Token) → Keeps Nine Ten (signed inner outer g u us) (signed inner′ outer′ g u us)
+      signed-keeps : (g : Sign) (u : Token) (us : List Token)
+          → Keeps Nine Ten (signed inner outer g u us) (signed inner′ outer′ g u us)
       signed-keeps (join j) u us = refl
       signed-keeps (comparison c) u us = refl
-      signed-keeps (prefix o) u us = keeps-then (inner (u .at) us) (inner′ (u .at) us) _ _ (inner-kept (u .at) .keeps us) (λ t vs. refl)
+      signed-keeps (prefix o) u us =
+          keeps-then (inner (u .at) us) (inner′ (u .at) us) _ _ (inner-kept (u .at) .keeps us) (λ t vs. refl)
       signed-keeps opening u us =
           keeps-then (outer (u .at) us) (outer′ (u .at) us) _ _ (outer-kept (u .at) .keeps us) (λ t vs. keeps-same (closed t vs))
       signed-keeps closing u us = refl
@@ -155,14 +159,16 @@ module _ (Nine Ten : Type 0) where
         (λ at. record { keeps = λ ts _. refl }) (λ at. record { keeps = λ ts _. refl })
     prefixes-keeps zero (suc m) h e =
         operand-keeps (λ at us. deep at) (λ at. prefixes read′ m) (λ at us. deep at) (λ at. sequence false (prefixes read′ m))
-        (λ at. record { keeps = λ ts c. absurd (omega (arith, e c)) }) (λ at. record { keeps = λ ts c. absurd (omega (arith, e c)) })
+        (λ at. record { keeps = λ ts c. absurd (omega (arith, e c)) })
+        (λ at. record { keeps = λ ts c. absurd (omega (arith, e c)) })
     prefixes-keeps (suc l) zero h e = absurd (omega arith)
     prefixes-keeps (suc l) (suc m) h e =
         let below = prefixes-keeps l m (omega arith) (λ c. omega (arith, e c)) in
         operand-keeps (λ at. prefixes read l) (λ at. prefixes read′ m) (λ at. sequence false (prefixes read l))
         (λ at. sequence false (prefixes read′ m)) (λ at. below) (λ at. sequence-keeps below false)
 
-    pub whole-keeps : (l m : ℕ) → l ≤ m → (Nine → l ≡ m) → (ts : List Token) → Keeps Nine Ten (whole read l ts) (whole read′ m ts)
+    pub whole-keeps : (l m : ℕ) → l ≤ m → (Nine → l ≡ m) → (ts : List Token)
+        → Keeps Nine Ten (whole read l ts) (whole read′ m ts)
     unfolding whole
     whole-keeps l m h e ts =
         keeps-then (sequence true (prefixes read l) ts) (sequence true (prefixes read′ m) ts) finished finished

@@ -5,7 +5,7 @@ use mathlib.Core.Path.{refl}
 use mathlib.Core.List.{List, [], _∷_, _++_, append-nil}
 use Rattle.paper.specs.Tokens.{Prefix, join, comparison, prefix, opening, closing, colons, Tok, word, numeral, string, sign, Token}
 use Rattle.paper.specs.Grammar.{Tree, number, attribute, prefixed, got, ends, deep, _>>>_, Parser, Reader, closed, named, worded, operand}
-use Rattle.paper.specs.Sentences.{tokenAt, signAt, Operand, a-numeral, an-attribute, a-prefixed, a-parenthesis}
+use Rattle.paper.specs.Sentences.{tokenAt, signAt, Operand, a-numeral, an-attribute, a-prefixed, a-parenthesis, by-prefix, by-parenthesis}
 use Rattle.paper.proofs.Taken.{of-end, of-next, Kind, exact, deeper, Family, Begun, Says, Tells, stays, extend, bind}
 use Rattle.paper.proofs.Atoms.{Readers, closes-says, named-says, word-says}
 
@@ -45,7 +45,8 @@ module _ (reads : Kind → Reader) (readers : Readers reads) (inner outer : ℕ 
     operand-at at (sign closing) us = stays (of-next _ λ ws. refl) operand-begun
     operand-at at (sign colons) us =
         extend P (named (attribute at)) S (signAt at colons ∷ us) (signAt at colons ∷ []) us refl (λ vs _. refl)
-        (named-says (λ k t ws. S k t (signAt at colons ∷ ws)) (attribute at) (λ k to f plain. into k _ _ (an-attribute at to f plain)) us)
+        (named-says (λ k t ws. S k t (signAt at colons ∷ ws)) (attribute at)
+        (λ k to f plain. into k _ _ (an-attribute at to f plain)) us)
 
     operand-says : (ts : List Token) → Says P S ts (P ts)
     unfolding operand
@@ -71,7 +72,9 @@ module _ (reads : Kind → Reader) (readers : Readers reads) (Inner Outer S : Fa
     signAt at (prefix o),
     us,
     refl,
-    stays (of-next _ λ ws. refl) (begun, (prefixed at o (number 0 0), zeroAt ∷ [], into deeper _ _ (a-prefixed at o one-inner))),
+    by-prefix at o,
+    stays (of-next _ λ ws. refl)
+        (begun, (prefixed at o (number 0 0), zeroAt ∷ [], into deeper _ _ (a-prefixed at o one-inner))),
   )
 
   lowest-opening : (at : ℕ) (us : List Token) → Says lowest S (signAt at opening ∷ us) (deep at)
@@ -80,7 +83,9 @@ module _ (reads : Kind → Reader) (readers : Readers reads) (Inner Outer S : Fa
     signAt at opening,
     us,
     refl,
-    stays (of-next _ λ ws. refl) (begun, (number 0 0, zeroAt ∷ signAt 0 closing ∷ [], into deeper _ _ (a-parenthesis at 0 one-outer))),
+    by-parenthesis at,
+    stays (of-next _ λ ws. refl)
+        (begun, (number 0 0, zeroAt ∷ signAt 0 closing ∷ [], into deeper _ _ (a-parenthesis at 0 one-outer))),
   )
 
   pub lowest-tells : Tells lowest S
@@ -98,8 +103,8 @@ module _ (reads : Kind → Reader) (readers : Readers reads) (p q : Parser) (Inn
       → Says higher S (signAt at (prefix o) ∷ us) (p us >>> λ t vs. ends (got (prefixed at o t)) vs)
   unfolding operand
   higher-prefix at o us =
-      extend higher (λ vs. p vs >>> λ t vs. ends (got (prefixed at o t)) vs) S (signAt at (prefix o) ∷ us) (signAt at (prefix o) ∷ [])
-      us refl (λ vs _. refl)
+      extend higher (λ vs. p vs >>> λ t vs. ends (got (prefixed at o t)) vs) S (signAt at (prefix o) ∷ us)
+      (signAt at (prefix o) ∷ []) us refl (λ vs _. refl)
       (bind p (λ t vs. ends (got (prefixed at o t)) vs) Inner (λ k t ws. S k t (signAt at (prefix o) ∷ ws))
       (λ k t vs h. (prefixed at o t, [], rw append-nil (into k _ _ (a-prefixed at o h)))) us
       (λ t vs us _ h. stays (λ ws _. refl) (λ k. rw append-nil (into k _ _ (a-prefixed at o (h k))))) (inner-tells .says us))

@@ -8,16 +8,16 @@ use Rattle.paper.specs.Answers.{inText, Answer, ok, refused}
 use Rattle.paper.specs.Tokens.{Token}
 use Rattle.paper.specs.Addresses.{address}
 use Rattle.paper.specs.Grammar.{Tree, got, stuck, Out, ends, deep, bad, whole, mostLevels, outcome, parsed}
-use Rattle.paper.specs.Sentences.{Phrases, Prefixed, Whole, lenient, Sentence, Bounded, Valid, Continues, FirstBad, Number, text-ends, no-sentence, too-deep, bad-string, Stops, placeFrom, Right, ParsedIsRight, ReadIsValid, EightIsFirstBad, FirstBadIsEight}
+use Rattle.paper.specs.Sentences.{Phrases, Prefixed, Whole, Sentence, Bounded, OneDeeper, WellSpelled, Valid, Continues, FirstBad, Number, text-ends, no-sentence, too-deep, bad-string, Stops, placeFrom, Right, ParsedIsRight, ReadIsValid, EightIsFirstBad, FirstBadIsEight}
 use Rattle.paper.proofs.Taken.{same-next, exact, Says}
-use Rattle.paper.proofs.Cuts.{Further, Cuts, one-cut, left-first, right-first, cuts, continues-sooner}
-use Rattle.paper.proofs.Levels.{Limited, whole-tells, phrase-read, read-phrase}
-use Rattle.paper.proofs.Limits.{Keeps, whole-keeps}
-use Rattle.paper.proofs.Sentences.{address-readers, lenient-readers, lenient-keeps, not-both, no-further, strict-lenient, valid-is-sentence, one-tree}
+use Rattle.paper.proofs.Cuts.{Further, sole-cut, continues-sooner}
+use Rattle.paper.proofs.Levels.{Limited, whole-says, read-phrase}
+use Rattle.paper.proofs.Sentences.{address-readers, not-both, no-further, deep-further, bad-further, strict-lenient, valid-is-sentence, one-tree}
 
--- valid texts are bounded sentences, and bounded sentences are sentences
+-- what begins a valid text begins one of the others, and what begins any begins a sentence
 
-continues-as : (S R : Phrases) (taken : List Token) → ((t : Tree) (ts : List Token) → S t ts → R t ts) → Continues S taken → Continues R taken
+continues-as : (S R : Phrases) (taken : List Token) → ((t : Tree) (ts : List Token) → S t ts → R t ts)
+    → Continues S taken → Continues R taken
 continues-as S R taken into (t, rest, h) = (t, rest, into t (taken ++ rest) h)
 
 valid-bounded : (taken : List Token) → Continues Valid taken → Continues Bounded taken
@@ -26,34 +26,26 @@ valid-bounded taken = continues-as Valid Bounded taken (strict-lenient mostLevel
 bounded-sentence : (taken : List Token) → Continues Bounded taken → Continues Sentence taken
 bounded-sentence taken = continues-as Bounded Sentence taken (λ t ts h. (mostLevels, h))
 
--- where a level too many opens no bounded sentence continues, and at a bad string no valid text
+deeper-sentence : (taken : List Token) → Continues OneDeeper taken → Continues Sentence taken
+deeper-sentence taken = continues-as OneDeeper Sentence taken (λ t ts h. (suc mostLevels, h))
 
-deep-further : (taken : List Token) (u : Token) (at : ℕ) → ((us : List Token) → whole address mostLevels (taken ++ (u ∷ us)) ≡ deep at)
-    → ¬ Continues Bounded (taken ++ (u ∷ []))
-deep-further taken u at h (t, rest, b) =
-    let is-deep =
-    subst (λ (o : Out). Keeps (Unit {0}) ⊥ o (whole lenient mostLevels (taken ++ (u ∷ rest)))) (h rest)
-    (whole-keeps (Unit {0}) ⊥ address lenient lenient-keeps (λ c. absurd c) mostLevels mostLevels (omega arith) (λ _. refl)
-    (taken ++ (u ∷ rest)))
-    tt in
-    let is-got = phrase-read lenient lenient-readers mostLevels t (taken ++ (u ∷ rest)) (rw append-assoc at b) in
-    let z : _≡_ {A = ℕ} 0 1 = cc (is-deep, is-got) in
-    omega arith
+valid-spelled : (taken : List Token) → Continues Valid taken → Continues WellSpelled taken
+valid-spelled taken = continues-as Valid WellSpelled taken (λ t ts h. (mostLevels, h))
 
-bad-further : (taken : List Token) (u : Token) (at : ℕ) → ((us : List Token) → whole address mostLevels (taken ++ (u ∷ us)) ≡ bad at)
-    → ¬ Continues Valid (taken ++ (u ∷ []))
-bad-further taken u at h (t, rest, v) =
-    let is-got = phrase-read address address-readers mostLevels t (taken ++ (u ∷ rest)) (rw append-assoc at v) in
-    let z : _≡_ {A = ℕ} 0 1 = cc (h rest, is-got) in
-    omega arith
+-- it answers what is asked
 
 module _ (size : ℕ) (ts : List Token) where
-  told : (o : Out) → whole address mostLevels ts ≡ o → Says (whole address mostLevels) (Limited address address-readers mostLevels) ts o
-      → Right size ts (outcome size o)
+  told : (o : Out) → whole address mostLevels ts ≡ o
+      → Says (whole address mostLevels) (Limited address address-readers mostLevels) ts o → Right size ts (outcome size o)
   told (ends (got t) us) e h = read-phrase address address-readers mostLevels t ts us e
   told (ends stuck []) e h = (
     [],
-    record { taken = h .taken; split = h .split; before = h .front exact; number = text-ends (λ t. not-both mostLevels ts [] t e) },
+    record {
+      taken = h .taken;
+      split = h .split;
+      before = h .front exact;
+      number = text-ends (λ t. not-both mostLevels ts [] t e);
+    },
     refl,
     refl,
   )
@@ -68,28 +60,28 @@ module _ (size : ℕ) (ts : List Token) where
     refl,
     refl,
   )
-  told (deep at) e (u, us, place, h) = (
+  told (deep at) e (u, us, place, cause, h) = (
     u ∷ us,
     record {
       taken = h .taken;
       split = h .split;
       before = h .front .0 exact;
       number =
-          too-deep
-          (continues-as (Whole (Prefixed address (suc mostLevels))) Sentence (h .taken ++ (u ∷ []))
-          (λ t ts h. (suc mostLevels, strict-lenient (suc mostLevels) t ts h)) (h .front .1))
-          (deep-further (h .taken) u at (λ ws. h .local (u ∷ ws) same-next));
+          too-deep cause
+          (continues-as (Whole (Prefixed address (suc mostLevels))) OneDeeper (h .taken ++ (u ∷ []))
+          (strict-lenient (suc mostLevels)) (h .front .1))
+          (deep-further mostLevels (h .taken) u at (λ ws. h .local (u ∷ ws) same-next));
     },
     refl,
     sym place,
   )
-  told (bad at) e (u, us, place, h) = (
+  told (bad at) e (u, us, place, cause, h) = (
     u ∷ us,
     record {
       taken = h .taken;
       split = h .split;
       before = h .front .0 exact;
-      number = bad-string (h .front .1) (bad-further (h .taken) u at (λ ws. h .local (u ∷ ws) same-next));
+      number = bad-string cause (h .front .1) (bad-further mostLevels (h .taken) u at (λ ws. h .local (u ∷ ws) same-next));
     },
     refl,
     sym place,
@@ -97,26 +89,29 @@ module _ (size : ℕ) (ts : List Token) where
 
   is-right : Right size ts (parsed size ts)
   unfolding parsed
-  is-right = told (whole address mostLevels ts) refl (whole-tells address address-readers mostLevels .says ts)
+  is-right =
+      let o = whole address mostLevels ts in
+      told o refl (whole-says address address-readers mostLevels ts o refl)
 
 -- no other answer is right
 
-refutes : (ts taken : List Token) (u : Token) (us : List Token) (n : ℕ) → Number ts taken (u ∷ us) n → ¬ Continues Valid (taken ++ (u ∷ []))
+refutes : (ts taken : List Token) (u : Token) (us : List Token) (n : ℕ) → Number ts taken (u ∷ us) n
+    → ¬ Continues Valid (taken ++ (u ∷ []))
 refutes ts taken u us n (no-sentence h) c = h (bounded-sentence (taken ++ (u ∷ [])) (valid-bounded (taken ++ (u ∷ [])) c))
-refutes ts taken u us n (too-deep s h) c = h (valid-bounded (taken ++ (u ∷ [])) c)
-refutes ts taken u us n (bad-string b h) c = h c
+refutes ts taken u us n (too-deep o s h) c = h (valid-bounded (taken ++ (u ∷ [])) c)
+refutes ts taken u us n (bad-string q b h) c = h (valid-spelled (taken ++ (u ∷ [])) c)
 
 same-number : (ts taken us : List Token) (m n : ℕ) → Number ts taken us m → Number ts taken us n → m ≡ n
 same-number ts taken us m n (text-ends h) (text-ends g) = refl
 same-number ts taken us m n (no-sentence h) (no-sentence g) = refl
-same-number ts taken us m n (no-sentence h) (too-deep s g) = absurd (h s)
-same-number ts taken us m n (no-sentence {u = u} h) (bad-string b g) = absurd (h (bounded-sentence (taken ++ (u ∷ [])) b))
-same-number ts taken us m n (too-deep s h) (no-sentence g) = absurd (g s)
-same-number ts taken us m n (too-deep s h) (too-deep r g) = refl
-same-number ts taken us m n (too-deep s h) (bad-string b g) = absurd (h b)
-same-number ts taken us m n (bad-string {u = u} b h) (no-sentence g) = absurd (g (bounded-sentence (taken ++ (u ∷ [])) b))
-same-number ts taken us m n (bad-string b h) (too-deep s g) = absurd (g b)
-same-number ts taken us m n (bad-string b h) (bad-string c g) = refl
+same-number ts taken us m n (no-sentence {u = u} h) (too-deep o s g) = absurd (h (deeper-sentence (taken ++ (u ∷ [])) s))
+same-number ts taken us m n (no-sentence {u = u} h) (bad-string q b g) = absurd (h (bounded-sentence (taken ++ (u ∷ [])) b))
+same-number ts taken us m n (too-deep {u = u} o s h) (no-sentence g) = absurd (g (deeper-sentence (taken ++ (u ∷ [])) s))
+same-number ts taken us m n (too-deep o s h) (too-deep p r g) = refl
+same-number ts taken us m n (too-deep o s h) (bad-string q b g) = absurd (h b)
+same-number ts taken us m n (bad-string {u = u} q b h) (no-sentence g) = absurd (g (bounded-sentence (taken ++ (u ∷ [])) b))
+same-number ts taken us m n (bad-string q b h) (too-deep o s g) = absurd (g b)
+same-number ts taken us m n (bad-string q b h) (bad-string r c g) = refl
 
 not-ended : (ts taken : List Token) (n : ℕ) (t : Tree) → Number ts taken [] n → ¬ Sentence t ts
 not-ended ts taken n t (text-ends h) = h t
@@ -132,12 +127,10 @@ module _ (ts : List Token) where
       refutes ts (s .taken) u rest m (rw e at (s .number)) (continues-sooner Valid (s .taken) u more (rw d at (r .before)))
 
   one-stop : (us vs : List Token) (m n : ℕ) → Stops ts us m → Stops ts vs n → (us ≡ vs) × (m ≡ n)
-  one-stop us vs m n s r = go (cuts (s .taken) us (r .taken) vs (sym (s .split) ∙ r .split))
-    where
-      go : Cuts (s .taken) us (r .taken) vs → (us ≡ vs) × (m ≡ n)
-      go (one-cut d e) = (e, same-number ts (r .taken) vs m n (rw (d, e) at (s .number)) (r .number))
-      go (left-first f) = absurd (not-behind us vs m n s r f)
-      go (right-first f) = absurd (not-behind vs us n m r s f)
+  one-stop us vs m n s r =
+      let (d, e) =
+      sole-cut (s .taken) us (r .taken) vs (sym (s .split) ∙ r .split) (not-behind us vs m n s r) (not-behind vs us n m r s) in
+      (e, same-number ts (r .taken) vs m n (rw (d, e) at (s .number)) (r .number))
 
   one-right : (size : ℕ) (a b : Answer Tree) → Right size ts a → Right size ts b → a ≡ b
   one-right size (ok t) (ok r) h g =
@@ -149,8 +142,10 @@ module _ (ts : List Token) where
       cc
 
 pub parsed-is-right : ParsedIsRight
-parsed-is-right size ts a =
-    (λ e. subst (λ (a : Answer Tree). Right size ts a) e (is-right size ts), λ h. one-right ts size (parsed size ts) a (is-right size ts) h)
+parsed-is-right size ts a = (
+  λ e. subst (λ (a : Answer Tree). Right size ts a) e (is-right size ts),
+  λ h. one-right ts size (parsed size ts) a (is-right size ts) h,
+)
 
 pub read-is-valid : ReadIsValid
 read-is-valid size ts t = parsed-is-right size ts (ok t)
@@ -160,8 +155,8 @@ read-is-valid size ts t = parsed-is-right size ts (ok t)
 eight-no-sentence : (ts taken : List Token) (u : Token) (us : List Token) (n : ℕ) → n ≡ 8 → Number ts taken (u ∷ us) n
     → ¬ Continues Sentence (taken ++ (u ∷ []))
 eight-no-sentence ts taken u us n e (no-sentence h) = h
-eight-no-sentence ts taken u us n e (too-deep s h) = absurd (omega arith)
-eight-no-sentence ts taken u us n e (bad-string b h) = absurd (omega arith)
+eight-no-sentence ts taken u us n e (too-deep o s h) = absurd (omega arith)
+eight-no-sentence ts taken u us n e (bad-string q b h) = absurd (omega arith)
 
 stops-first-bad : (ts us : List Token) → Stops ts us 8 → FirstBad ts us
 stops-first-bad ts us s =
@@ -184,12 +179,8 @@ module _ (ts : List Token) where
       f .after u rest e (continues-sooner Sentence (f .taken) u more (rw d at (g .before)))
 
   one-first-bad : (us vs : List Token) → FirstBad ts us → FirstBad ts vs → us ≡ vs
-  one-first-bad us vs f g = go (cuts (f .taken) us (g .taken) vs (sym (f .split) ∙ g .split))
-    where
-      go : Cuts (f .taken) us (g .taken) vs → us ≡ vs
-      go (one-cut d e) = e
-      go (left-first h) = absurd (bad-before us vs f g h)
-      go (right-first h) = absurd (bad-before vs us g f h)
+  one-first-bad us vs f g =
+      sole-cut (f .taken) us (g .taken) vs (sym (f .split) ∙ g .split) (bad-before us vs f g) (bad-before vs us g f) .1
 
   no-bad-sentence : (t : Tree) (us : List Token) → FirstBad ts us → ¬ Sentence t ts
   no-bad-sentence t [] f s = f .short refl t s
@@ -198,8 +189,8 @@ module _ (ts : List Token) where
   else-eight : (taken us : List Token) (n : ℕ) → Number ts taken us n → n ≢ 9 → n ≢ 10 → n ≡ 8
   else-eight taken us n (text-ends h) nine ten = refl
   else-eight taken us n (no-sentence h) nine ten = refl
-  else-eight taken us n (too-deep s h) nine ten = absurd (nine refl)
-  else-eight taken us n (bad-string b h) nine ten = absurd (ten refl)
+  else-eight taken us n (too-deep o s h) nine ten = absurd (nine refl)
+  else-eight taken us n (bad-string q b h) nine ten = absurd (ten refl)
 
 pub first-bad-is-eight : FirstBadIsEight
 first-bad-is-eight size ts us f nine ten = go (parsed size ts) refl (is-right size ts)

@@ -5,7 +5,7 @@ use mathlib.Core.Path.{_≡_, refl, sym, ap, _∙_}
 use mathlib.Core.List.{List, [], _∷_, _++_, append-assoc}
 use Rattle.paper.specs.Tokens.{Token}
 use Rattle.paper.specs.Grammar.{Tree, got, stuck, Out, ends, deep, bad, _>>>_, Parser}
-use Rattle.paper.specs.Sentences.{Phrases, Continues}
+use Rattle.paper.specs.Sentences.{Phrases, Continues, OpensLevel, IsString}
 
 -- the same next token, or none
 pub data Same : List Token → List Token → Type 0 where
@@ -15,10 +15,6 @@ pub data Same : List Token → List Token → Type 0 where
 pub same-after : (ts : List Token) {us vs : List Token} → Same us vs → Same (ts ++ us) (ts ++ vs)
 same-after [] h = h
 same-after (t ∷ ts) h = same-next
-
-pub same-self : (us : List Token) → Same us us
-same-self [] = same-end
-same-self (u ∷ us) = same-next
 
 -- what holds of all lists with the same next token
 pub of-end : (P : List Token → Type 0) → P [] → (vs : List Token) → Same [] vs → P vs
@@ -45,10 +41,16 @@ pub record Takes (p : Parser) (ts us : List Token) (answer : List Token → Out)
 abbrev pub Begun : Family → List Token → Type 0
 Begun S taken = (k : Kind) → Continues (S k) taken
 
--- broken off at a token that phrases of another kind go on with
+-- the tokens that another kind of phrase may go on with
+abbrev Cause : Kind → Token → Type 0
+Cause exact u = ⊥
+Cause deeper u = OpensLevel u
+Cause laxer u = IsString u
+
+-- broken off at such a token
 abbrev pub Breaks : Parser → Family → List Token → Kind → (ℕ → Out) → ℕ → Type 0
 Breaks p S ts k answer at =
-    (u : Token) × (us : List Token) × (u .at ≡ at)
+    (u : Token) × (us : List Token) × (u .at ≡ at) × Cause k u
     × Takes p ts (u ∷ us) (λ vs. answer at) (λ taken. Begun S taken × Continues (S k) (taken ++ (u ∷ [])))
 
 abbrev pub Says : Parser → Family → List Token → Out → Type 0
@@ -69,7 +71,7 @@ stays same front = record { taken = []; split = refl; front = front; local = sam
 
 -- a parser that goes on as another one does, behind some first tokens
 
-pub continues-after : (S : Phrases) (head taken : List Token)
+continues-after : (S : Phrases) (head taken : List Token)
     → Continues (λ t ws. S t (head ++ ws)) taken → Continues S (head ++ taken)
 continues-after S head taken (t, rest, h) = (t, rest, rw append-assoc h)
 
@@ -94,8 +96,9 @@ module _ (q f : Parser) (R : Family) (ts head us : List Token) (split : ts ≡ h
     h .0,
     h .1,
     h .2,
+    h .3,
     takes-after
-        (λ taken g. (begun taken (g .0), rw append-assoc (continues-after (R k) head (taken ++ (h .0 ∷ [])) (g .1)))) (h .3),
+        (λ taken g. (begun taken (g .0), rw append-assoc (continues-after (R k) head (taken ++ (h .0 ∷ [])) (g .1)))) (h .4),
   )
 
   extended : (o : Out) → Says f (λ k t ws. R k t (head ++ ws)) us o → Says q R ts o
@@ -118,10 +121,11 @@ module _ (p : Parser) (f : Tree → List Token → Out) (S R : Family)
 
   breaks-first : (k : Kind) (answer : ℕ → Out) (at : ℕ) (ts : List Token) → (answer at >>> f) ≡ answer at
       → Breaks p S ts k answer at → Breaks (λ vs. p vs >>> f) R ts k answer at
-  breaks-first k answer at ts e (u, us, place, h) = (
+  breaks-first k answer at ts e (u, us, place, cause, h) = (
     u,
     us,
     place,
+    cause,
     record {
       taken = h .taken;
       split = h .split;

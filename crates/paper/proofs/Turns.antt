@@ -43,7 +43,8 @@ module _ (last : Bool) (op : Token → Option Make) (p : Parser) where
   turns-end t = refl
 
   module _ (shrinks : Shrinks p) where
-    enough : (n m : ℕ) (t : Tree) (us : List Token) → length us ≤ n → length us ≤ m → more last op p n t us ≡ more last op p m t us
+    enough : (n m : ℕ) (t : Tree) (us : List Token) → length us ≤ n → length us ≤ m
+        → more last op p n t us ≡ more last op p m t us
     unfolding more
     enough zero zero t [] h k = refl
     enough zero (suc m) t [] h k = refl

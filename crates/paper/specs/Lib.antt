@@ -6,6 +6,7 @@ pub mod Entry
 pub mod Addresses
 pub mod Grammar
 pub mod Sentences
+pub mod Places
 pub mod Types
 pub mod Meaning
 pub mod Code

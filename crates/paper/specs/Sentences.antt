@@ -11,7 +11,7 @@ use mathlib.Core.List.{List, [], _∷_, _++_}
 use Rattle.paper.specs.Answers.{Input, inText, Answer, ok, refused}
 use Rattle.paper.specs.Tokens.{bytes, undotted, Prefix, Join, sequel, implies, orElse, andAlso, Comparison, Sign, join, comparison, prefix, opening, closing, colons, Tok, word, numeral, string, sign, Token}
 use Rattle.paper.specs.Addresses.{Scheme, schemeOf, address}
-use Rattle.paper.specs.Grammar.{Tree, truth, number, key, field, attribute, prefixed, joined, compared, Make, Reader, mostLevels, parsed}
+use Rattle.paper.specs.Grammar.{Tree, truth, number, key, field, attribute, prefixed, joined, compared, Make, stuck, ends, Reader, whole, mostLevels, parsed}
 
 -- a kind of phrase: which tokens are one, and with which tree
 abbrev pub Phrases : Type 1
@@ -74,7 +74,7 @@ pub data Operand (read : Reader) (Inner Outer : Phrases) : Tree → List Token �
   a-prefixed : {t : Tree} {ts : List Token} (at : ℕ) (o : Prefix)
       → Inner t ts → Operand read Inner Outer (prefixed at o t) (signAt at (prefix o) ∷ ts)
   a-parenthesis : {t : Tree} {ts : List Token} (at to : ℕ)
-      → Outer t ts → Operand read Inner Outer t (signAt at opening ∷ ts ++ (signAt to closing ∷ []))
+      → Outer t ts → Operand read Inner Outer t (signAt at opening ∷ (ts ++ (signAt to closing ∷ [])))
 
 -- with at most so many levels: "A level is opened by each prefix operator and each parenthesis (not an address's)"
 unfoldable pub Prefixed : Reader → ℕ → Phrases
@@ -107,6 +107,14 @@ Sentence t ts = (levels : ℕ) × Whole (Prefixed lenient levels) t ts
 abbrev pub Bounded : Phrases
 Bounded = Whole (Prefixed lenient mostLevels)
 
+-- with at most one level more
+abbrev pub OneDeeper : Phrases
+OneDeeper = Whole (Prefixed lenient (suc mostLevels))
+
+-- with good address strings, level limit aside
+abbrev pub WellSpelled : Phrases
+WellSpelled t ts = (levels : ℕ) × Whole (Prefixed address levels) t ts
+
 -- with at most 64 levels and good address strings
 abbrev pub Valid : Phrases
 Valid = Whole (Prefixed address mostLevels)
@@ -125,14 +133,25 @@ pub record FirstBad (ts us : List Token) : Type 0 where
   pub after : (u : Token) (rest : List Token) → us ≡ u ∷ rest → ¬ Continues Sentence (taken ++ (u ∷ []))
   pub short : us ≡ [] → (t : Tree) → ¬ Sentence t ts
 
--- the number of the refusal behind tokens that some valid text begins with: the lowest that the next token gives
+-- a token that opens a level, and one that may hold an address
+
+pub data OpensLevel : Token → Type 0 where
+  by-prefix : (at : ℕ) (o : Prefix) → OpensLevel (signAt at (prefix o))
+  by-parenthesis : (at : ℕ) → OpensLevel (signAt at opening)
+
+pub data IsString : Token → Type 0 where
+  a-string : (at : ℕ) (q : List ℕ) → IsString (tokenAt at (string q))
+
+-- the number of the refusal behind tokens that some valid text begins with: 8 where the text ends, or no sentence continues
+-- with the next token; 9 where one of 65 levels does, and none of 64, whatever its address strings; 10 where one of 64 levels
+-- does, and none with good address strings, whatever its levels
 pub data Number (ts taken : List Token) : List Token → ℕ → Type 0 where
   text-ends : ((t : Tree) → ¬ Sentence t ts) → Number ts taken [] 8
   no-sentence : {u : Token} {us : List Token} → ¬ Continues Sentence (taken ++ (u ∷ [])) → Number ts taken (u ∷ us) 8
-  too-deep : {u : Token} {us : List Token} → Continues Sentence (taken ++ (u ∷ [])) → ¬ Continues Bounded (taken ++ (u ∷ []))
-      → Number ts taken (u ∷ us) 9
-  bad-string : {u : Token} {us : List Token} → Continues Bounded (taken ++ (u ∷ [])) → ¬ Continues Valid (taken ++ (u ∷ []))
-      → Number ts taken (u ∷ us) 10
+  too-deep : {u : Token} {us : List Token} → OpensLevel u → Continues OneDeeper (taken ++ (u ∷ []))
+      → ¬ Continues Bounded (taken ++ (u ∷ [])) → Number ts taken (u ∷ us) 9
+  bad-string : {u : Token} {us : List Token} → IsString u → Continues Bounded (taken ++ (u ∷ []))
+      → ¬ Continues WellSpelled (taken ++ (u ∷ [])) → Number ts taken (u ∷ us) 10
 
 pub record Stops (ts us : List Token) (n : ℕ) : Type 0 where
   pub taken : List Token
@@ -167,12 +186,16 @@ ValidIsSentence = (t : Tree) (ts : List Token) → Valid t ts → Sentence t ts
 abbrev pub OneTree : Type 0
 OneTree = (t r : Tree) (ts : List Token) → Sentence t ts → Sentence r ts → t ≡ r
 
--- 8 stands at the first bad token
+-- the reading is stuck at the first bad token, whatever the number of levels; so 8 stands there
+
+abbrev pub StuckIsFirstBad : Type 0
+StuckIsFirstBad = (levels : ℕ) (ts us : List Token) → whole address levels ts ≡ ends stuck us → FirstBad ts us
+
 abbrev pub EightIsFirstBad : Type 0
 EightIsFirstBad = (size : ℕ) (ts : List Token) (at : ℕ) → parsed size ts ≡ refused 8 inText at
     → (us : List Token) × FirstBad ts us × (at ≡ placeFrom size us)
 
--- and is given there, where neither 9 nor 10 is given
+-- and it is given there, where neither 9 nor 10 is given
 abbrev pub FirstBadIsEight : Type 0
 FirstBadIsEight = (size : ℕ) (ts us : List Token) → FirstBad ts us → ((i : Input) (at : ℕ) → parsed size ts ≢ refused 9 i at)
     → ((i : Input) (at : ℕ) → parsed size ts ≢ refused 10 i at) → parsed size ts ≡ refused 8 inText (placeFrom size us)

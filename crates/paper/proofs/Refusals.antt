@@ -127,10 +127,11 @@ module _ (ts : List Token) where
       refutes ts (s .taken) u rest m (rw e at (s .number)) (continues-sooner Valid (s .taken) u more (rw d at (r .before)))
 
   one-stop : (us vs : List Token) (m n : ℕ) → Stops ts us m → Stops ts vs n → (us ≡ vs) × (m ≡ n)
-  one-stop us vs m n s r =
-      let (d, e) =
-      sole-cut (s .taken) us (r .taken) vs (sym (s .split) ∙ r .split) (not-behind us vs m n s r) (not-behind vs us n m r s) in
-      (e, same-number ts (r .taken) vs m n (rw (d, e) at (s .number)) (r .number))
+  one-stop us vs m n s r = (cut .1, same-number ts (r .taken) vs m n (rw (cut .0, cut .1) at (s .number)) (r .number))
+    where
+      cut : (s .taken ≡ r .taken) × (us ≡ vs)
+      cut =
+          sole-cut (s .taken) us (r .taken) vs (sym (s .split) ∙ r .split) (not-behind us vs m n s r) (not-behind vs us n m r s)
 
   one-right : (size : ℕ) (a b : Answer Tree) → Right size ts a → Right size ts b → a ≡ b
   one-right size (ok t) (ok r) h g =

@@ -5,6 +5,8 @@ pub mod Keys
 pub mod Entry
 pub mod Addresses
 pub mod Grammar
+pub mod Sentences
+pub mod Places
 pub mod Types
 pub mod Meaning
 pub mod Code

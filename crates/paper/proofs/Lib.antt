@@ -1,1 +1,5 @@
 pub mod Marked
+pub mod Walks
+pub mod Stages
+pub mod Sound
+pub mod Meant

@@ -12,4 +12,6 @@ pub mod Blocks
 pub mod Loading
 pub mod Translating
 pub mod Calls
+pub mod Sound
+pub mod Meant
 pub mod Marked

@@ -3,3 +3,5 @@ pub mod Walks
 pub mod Stages
 pub mod Sound
 pub mod Meant
+pub mod Translated
+pub mod Counted

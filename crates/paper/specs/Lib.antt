@@ -14,4 +14,5 @@ pub mod Translating
 pub mod Calls
 pub mod Sound
 pub mod Meant
+pub mod Translated
 pub mod Marked

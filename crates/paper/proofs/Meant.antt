@@ -15,7 +15,7 @@ use Rattle.paper.specs.Types.{Ty, bool, int, of, sameTy, when, andThen, 
 use Rattle.paper.specs.Meaning.{Value, truth, whole, matched, tyOf, bareValue, fieldValue, prefixValue, connective, oneValue, asNumber, inType, compareValue, comparisonValue, valueOf}
 use Rattle.paper.specs.Translating.{hasType}
 use Rattle.paper.specs.Meant.{ValuesHaveTypes, TypedMeant, Judged}
-use Rattle.paper.proofs.Walks.{map-when}
+use Rattle.paper.proofs.Basics.{map-when}
 use Rattle.paper.proofs.Stages.{never-ok, bind-ok}
 use Rattle.paper.proofs.Sound.{not-follows, negate-follows, join-follows, compare-follows, key-follows, field-value-follows}
 

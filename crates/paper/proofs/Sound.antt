@@ -18,7 +18,8 @@ use Rattle.paper.specs.Code.{Instruction, pushBool, pushInt, pushKey, pu
 use Rattle.paper.specs.Blocks.{totalOf, layout}
 use Rattle.paper.specs.Loading.{instructionsFrom, program, typesAlong, valuesAlong, loadCheck, loaded}
 use Rattle.paper.specs.Sound.{seen, Covers, CheckIsRun, HeldBehind, LoadedRuns}
-use Rattle.paper.proofs.Walks.{map-when, Follows, walk-follows, walk-front, walk-few}
+use Rattle.paper.proofs.Basics.{map-when, map-then}
+use Rattle.paper.proofs.Walks.{Follows, walk-follows, walk-front, walk-few}
 use Rattle.paper.proofs.Stages.{Of, never-ok, bind-ok}
 
 -- every entry that conforms has a record for each key
@@ -81,10 +82,6 @@ field-follows mask x m = map-when tyOf (has (x .kind) mask) _
 field-follows prefixLength x m = map-when tyOf (has (x .kind) prefixLength) _
 field-follows low x m = map-when tyOf (has (x .kind) low) _
 field-follows high x m = map-when tyOf (has (x .kind) high) _
-
-map-then : {A B : Type 0} (f : A → B) (o : Option A) → Option·map f o ≡ andThen o (λ a. some (f a))
-map-then f none = refl
-map-then f (some a) = refl
 
 -- instruction by instruction
 

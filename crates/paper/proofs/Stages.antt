@@ -22,3 +22,9 @@ bind-ok (refused n i at) f b e = absurd (never-ok e)
 pub require-ok : (t : Bool) (n : ℕ) (i : Input) (at : ℕ) (u : Unit {0}) → require t n i at ≡ ok u → t ≡ true
 require-ok true n i at u e = refl
 require-ok false n i at u e = absurd (never-ok e)
+
+-- a property along two stages
+pub of-bind : {A B : Type 0} (P : A → Type 0) (Q : B → Type 0) (x : Answer A) (f : A → Answer B) → Of P x → ((a : A) → P a → Of Q (f a))
+    → Of Q (x >>= f)
+of-bind P Q (ok a) f h k = k a h
+of-bind P Q (refused n i at) f h k = tt

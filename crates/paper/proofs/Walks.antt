@@ -11,10 +11,7 @@ use lib.Dec.{ltb}
 use borrow.Author.Tests.{ltb-true}
 use Rattle.paper.specs.Types.{when}
 use Rattle.paper.specs.Code.{Action, leaves, takesOne, takesTwo, mostHeld, put, act, Walk, fails, ends, goOn, walk}
-
-pub map-when : {A B : Type 0} (f : A → B) (b : Bool) (a : A) → when b (f a) ≡ Option·map f (when b a)
-map-when f true a = refl
-map-when f false a = refl
+use Rattle.paper.proofs.Basics.{map-when}
 
 -- one walk seen through another, along a map of what they hold
 

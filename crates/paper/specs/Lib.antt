@@ -15,4 +15,5 @@ pub mod Calls
 pub mod Sound
 pub mod Meant
 pub mod Translated
+pub mod Written
 pub mod Marked

@@ -16,3 +16,4 @@ pub mod AddressNumbers
 pub mod TokenNumbers
 pub mod Yields
 pub mod Shallow
+pub mod Carried

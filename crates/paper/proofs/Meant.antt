@@ -171,7 +171,7 @@ typed-meant ks e covers t a h =
     let v = of-type (valueOf ks e t) a (sym (ap hasType h) ∙ values-have-types ks e covers t) in
     record { worth = v .0; there = v .1; type = v .2 }
 
-bool-root : (t : Tree) (a : Ty) (u : Unit {0}) → rootType t a ≡ ok u → a ≡ bool
+pub bool-root : (t : Tree) (a : Ty) (u : Unit {0}) → rootType t a ≡ ok u → a ≡ bool
 bool-root t bool u h = refl
 bool-root t int u h = absurd (never-ok h)
 bool-root t (of k w) u h = absurd (never-ok h)

@@ -16,4 +16,5 @@ pub mod Sound
 pub mod Meant
 pub mod Translated
 pub mod Written
+pub mod Carried
 pub mod Marked

@@ -20,10 +20,11 @@ drop-on s p q at to h e = ap (λ n. drop n s) (sym e) ∙ sym (drop-drop (length
 pub byte-there : (s p : List ℕ) (at i : ℕ) → drop at s ≡ p → byteAt s (at + i) ≡ byteAt p i
 byte-there s p at i h = sym (getD-drop at s i 0) ∙ ap (λ l. byteAt l i) h
 
-number-there : (s p : List ℕ) (at n : ℕ) → drop at s ≡ p → numberAt s at n ≡ numberAt p 0 n
-number-there s p at zero h = refl
-number-there s p at (suc n) h =
-    ap₂ (λ x y. x * 256 + y) (number-there s p at n h) (byte-there s p at n h ∙ ap (byteAt p) (sym (zero-add n)))
+-- a number is its bytes
+pub number-same : (s t : List ℕ) (at to n : ℕ) → ((i : ℕ) → i < n → byteAt s (at + i) ≡ byteAt t (to + i)) → numberAt s at n ≡ numberAt t to n
+number-same s t at to zero h = refl
+number-same s t at to (suc n) h =
+    ap₂ (λ x y. x * 256 + y) (number-same s t at to n (λ i l. h i (omega arith))) (h n (omega arith))
 
 number-cons : (d : ℕ) (s : List ℕ) (n : ℕ) → numberAt (d ∷ s) 0 (suc n) ≡ d * 256 ^ n + numberAt s 0 n
 number-cons d s zero = omega arith
@@ -39,4 +40,6 @@ big-number (suc n) x rest =
     ∙ sym (mod-mul x (omega arith) (one-le-pow n 256 (omega arith))) ∙ ap (λ m. x % m) (sym (pow-succ' 256 n))
 
 pub number-back : (s rest : List ℕ) (at n x : ℕ) → drop at s ≡ bigEndian n x ++ rest → x < 256 ^ n → numberAt s at n ≡ x
-number-back s rest at n x h small = number-there s _ at n h ∙ big-number n x rest ∙ mod-eq-of-lt small
+number-back s rest at n x h small =
+    let p = bigEndian n x ++ rest in
+    number-same s p at 0 n (λ i l. byte-there s p at i h ∙ ap (byteAt p) (sym (zero-add i))) ∙ big-number n x rest ∙ mod-eq-of-lt small

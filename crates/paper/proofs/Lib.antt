@@ -17,3 +17,7 @@ pub mod TokenNumbers
 pub mod Yields
 pub mod Shallow
 pub mod Carried
+pub mod Sums
+pub mod Bits
+pub mod Laid
+pub mod Damaged

@@ -17,4 +17,5 @@ pub mod Meant
 pub mod Translated
 pub mod Written
 pub mod Carried
+pub mod Damaged
 pub mod Marked

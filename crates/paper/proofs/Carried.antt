@@ -8,29 +8,32 @@ use lib.Seq.{take-at, drop-at}
 use lib.Dec.{leb}
 use borrow.Author.Tests.{leb-true, le-leb}
 use Rattle.paper.specs.Answers.{Answer, ok, refused, _>>=_, require, inBuffer}
+use Rattle.paper.specs.Tokens.{tokens}
 use Rattle.paper.specs.Keys.{Key, keys}
 use Rattle.paper.specs.Entry.{Entry, entryOf}
 use Rattle.paper.specs.Grammar as G
-use Rattle.paper.specs.Grammar.{Tree, nodes}
+use Rattle.paper.specs.Grammar.{Tree, nodes, parsed}
 use Rattle.paper.specs.Types.{bool, typeOf, rootType, typed}
 use Rattle.paper.specs.Meaning.{truth, valueOf, isTrue}
-use Rattle.paper.specs.Code.{Instruction, ends}
+use Rattle.paper.specs.Code.{Instruction, ends, mostHeld}
 use Rattle.paper.specs.Blocks.{blockSize, inBlock, mostBlocks, blocksNeeded, blocksOf}
 use Rattle.paper.specs.Loading.{program, typesAlong, loaded, valuesAlong, leftTrue}
 use Rattle.paper.specs.Translating.{codeOf, conversions}
 use Rattle.paper.specs.Calls.{sized, tree, Restriction, restriction, checkAnswer, judgeAnswer, translateAnswer, over, filled, translateBuffer, loadAnswer, runAnswer}
 use Rattle.paper.specs.Sound.{Covers}
+use Rattle.paper.specs.Translated.{needs}
 use Rattle.paper.specs.Written.{Written}
-use Rattle.paper.specs.Carried.{FewNodes, Carries, Filled, TranslationCarries, CheckedTranslates, RefusedUnchanged}
+use Rattle.paper.specs.Carried.{FewNodes, Carries, Filled, TranslationCarries, CheckedTranslates, RefusedUnchanged, LoadedAnswers}
 use Rattle.paper.proofs.Stages.{Of, bind-ok, require-ok}
-use Rattle.paper.proofs.Sound.{conforming}
+use Rattle.paper.proofs.Sound.{conforming, loaded-runs}
 use Rattle.paper.proofs.Meant.{judged, bool-root}
 use Rattle.paper.proofs.Translated.{code-pushes-value, code-pushes-type}
-use Rattle.paper.proofs.Counted.{code-counted, few-conversions}
+use Rattle.paper.proofs.Counted.{code-counted, code-fits}
 use Rattle.paper.proofs.Written.{blocks-back}
 use Rattle.paper.proofs.Ranged.{code-in-range}
 use Rattle.paper.proofs.KeyLists.{keys-listed}
-use Rattle.paper.proofs.Shallow.{Shallow, tree-shallow}
+use Rattle.paper.proofs.TokenNumbers.{tokens-within}
+use Rattle.paper.proofs.Shallow.{few-held, numbers-read}
 
 -- what is known of a text and a list that pass
 
@@ -90,23 +93,26 @@ module _ (few-nodes : FewNodes) (text list : List ℕ) (r : Restriction) (passed
       let a = bind-ok (typeOf ks t) (rootType t) tt (known .checked) in
       a .1 ∙ ap (λ x. ok x) (bool-root t (a .0) tt (a .2))
 
-  shallow : Shallow 325 t
-  shallow = tree-shallow text t (known .read)
+  room : needs t ≤ mostHeld
+  room = omega (arith, few-held text t (known .read))
 
   counted : length code ≡ nodes t + conversions ks t
   counted = code-counted ks t bool a-bool
 
   short : length code ≤ mostBlocks * inBlock
-  short = omega (arith, counted, few-conversions ks t, few-nodes text t (known .read))
+  unfolding tree
+  short =
+      let a = bind-ok (tokens text) (parsed (length text)) t (known .read) in
+      code-fits ks t bool a-bool (omega (arith, few-nodes (length text) (a .0) t (a .2), tokens-within text (a .0) (a .1) .few))
 
   written : Written (length ks) code blocks
   written =
       let k = keys-listed list ks (known .listed) in
-      blocks-back (length ks) code (k .few) (omega (arith, counted, nodes-some t)) short (code-in-range ks (k .few) (k .widths) t (shallow .numbers))
+      blocks-back (length ks) code (k .few) (omega (arith, counted, nodes-some t)) short (code-in-range ks k t (numbers-read text t (known .read)))
 
   types-end : typesAlong ks (program blocks) ≡ ends (bool ∷ [])
   unfolding typesAlong
-  types-end = rw (written .back) (code-pushes-type ks t bool a-bool [] (omega (arith, shallow .held)) 0)
+  types-end = rw (written .back) (code-pushes-type ks t bool a-bool [] (omega (arith, room)) 0)
 
   loads : loaded ks blocks ≡ ok (length code)
   unfolding loaded
@@ -116,7 +122,7 @@ module _ (few-nodes : FewNodes) (text list : List ℕ) (r : Restriction) (passed
   unfolding valuesAlong
   judged-alike e covers =
       let v = judged ks e covers t (known .checked) in
-      let w = code-pushes-value ks e covers t (truth (v .0)) (v .1) [] (omega (arith, shallow .held)) 0 in
+      let w = code-pushes-value ks e covers t (truth (v .0)) (v .1) [] (omega (arith, room)) 0 in
       rw (written .back, w, v .1)
 
   module _ (entry : List ℕ) where
@@ -204,3 +210,12 @@ module _ (few-nodes : FewNodes) where
 pub refused-unchanged : RefusedUnchanged
 unfolding translateBuffer
 refused-unchanged text list buffer m i at h = ap (λ x. filled x (restriction text list) buffer) h
+
+-- all blocks that load
+
+pub loaded-answers : LoadedAnswers
+unfolding loadAnswer runAnswer
+loaded-answers list blocks entry ks e n h k c =
+    let good : loaded ks blocks ≡ ok n = rw k at h in
+    let r = loaded-runs ks blocks n good e (conforming ks entry e c) in
+    record { run = r; answer = rw (k, good, c, r .to) }

@@ -12,7 +12,7 @@ use Rattle.paper.specs.Grammar.{truth, number, key, field, attribute, pr
 use Rattle.paper.specs.Types.{Ty, bool, int, of, sameTy, when, andThen, Field, fieldNamed, takes, meet, fieldType, prefixType, joinType, comparisonType, operatorType, known, namedType, typeOf}
 use Rattle.paper.specs.Code.{pushKey, pushField}
 use Rattle.paper.specs.Translating.{hasType, changed, convertTo, pushing, codeOf, conversions}
-use Rattle.paper.specs.Translated.{CodeCounted, FewConversions}
+use Rattle.paper.specs.Translated.{CodeCounted, FewConversions, CodeFits}
 use Rattle.paper.proofs.Stages.{never-ok, bind-ok}
 use Rattle.paper.proofs.Meant.{same-self}
 
@@ -93,3 +93,6 @@ few-conversions ks (prefixed at o t) = omega (arith, few-conversions ks t)
 few-conversions ks (joined at o l r) = omega (arith, few-conversions ks l, few-conversions ks r)
 few-conversions ks (compared at c l r) =
     omega (arith, few-conversions ks l, few-conversions ks r, one-changes (hasType (typeOf ks l)) (hasType (typeOf ks r)))
+
+pub code-fits : CodeFits
+code-fits ks t a h few = omega (arith, code-counted ks t a h, few-conversions ks t)

@@ -9,8 +9,8 @@ use lib.Dec.{eqb, leb}
 use borrow.Author.Tests.{leb-true}
 use Rattle.paper.specs.Answers.{ok, refused, _>>=_, require, inList}
 use Rattle.paper.specs.Numbers.{byteAt}
-use Rattle.paper.specs.Keys.{Key, mostKeys, recordSize, recordAt, recordOk, nameOf, find, keysFrom, isNone, recordsFrom, keys}
-use Rattle.paper.specs.Written.{Widths}
+use Rattle.paper.specs.Keys.{mostKeys, recordSize, recordAt, recordOk, nameOf, find, keysFrom, isNone, recordsFrom, keys}
+use Rattle.paper.specs.Written.{Widths, Listed, KeysListed}
 use Rattle.paper.proofs.Basics.{and-false, and-right}
 use Rattle.paper.proofs.Stages.{never-ok, bind-ok, require-ok}
 
@@ -45,11 +45,7 @@ keys-length : (list : List ℕ) (n k : ℕ) → length (keysFrom list k n) ≡ n
 keys-length list zero k = refl
 keys-length list (suc n) k = ap suc (keys-length list n (suc k))
 
-pub record Listed (ks : List Key) : Type 0 where
-  pub few : length ks ≤ mostKeys
-  pub widths : Widths ks
-
-pub keys-listed : (list : List ℕ) (ks : List Key) → keys list ≡ ok ks → Listed ks
+pub keys-listed : KeysListed
 unfolding keys
 keys-listed list ks h =
     let n = length list / recordSize in

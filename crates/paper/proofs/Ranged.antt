@@ -144,26 +144,26 @@ change-ranged (some a) (some m) h = go (sameTy a m)
 
 pub code-in-range : CodeInRange
 unfolding codeOf
-code-in-range ks few widths (truth at b) h = (tt, tt)
-code-in-range ks few widths (number at n) h = (h, tt)
-code-in-range ks few widths (key at w) h = key-ranged (find ks w) (found-below ks 0 (2 ^ 16) w (omega arith))
-code-in-range ks few widths (field at w to f) h = field-ranged (find ks w) (fieldNamed f) (found-below ks 0 (2 ^ 16) w (omega arith))
-code-in-range ks few widths (attribute at to f) h = (tt, tt)
-code-in-range ks few widths (prefixed at o t) h = all-append (codeOf ks t) _ (code-in-range ks few widths t h) (prefix-ranged o)
-code-in-range ks few widths (joined at o l r) h =
+code-in-range ks listed (truth at b) h = (tt, tt)
+code-in-range ks listed (number at n) h = (h, tt)
+code-in-range ks listed (key at w) h = key-ranged (find ks w) (found-below ks 0 (2 ^ 16) w (omega (arith, listed .few)))
+code-in-range ks listed (field at w to f) h = field-ranged (find ks w) (fieldNamed f) (found-below ks 0 (2 ^ 16) w (omega (arith, listed .few)))
+code-in-range ks listed (attribute at to f) h = (tt, tt)
+code-in-range ks listed (prefixed at o t) h = all-append (codeOf ks t) _ (code-in-range ks listed t h) (prefix-ranged o)
+code-in-range ks listed (joined at o l r) h =
     all-append (codeOf ks l ++ codeOf ks r) _
-    (all-append (codeOf ks l) (codeOf ks r) (code-in-range ks few widths l (h .0)) (code-in-range ks few widths r (h .1))) (tt, tt)
-code-in-range ks few widths (compared at c l r) h =
+    (all-append (codeOf ks l) (codeOf ks r) (code-in-range ks listed l (h .0)) (code-in-range ks listed r (h .1))) (tt, tt)
+code-in-range ks listed (compared at c l r) h =
     let a = hasType (typeOf ks l) in
     let b = hasType (typeOf ks r) in
     let m = andThen a (λ x. andThen b (meet x)) in
-    let left = has-narrow (typeOf ks l) (type-narrow ks widths l) in
-    let right = has-narrow (typeOf ks r) (type-narrow ks widths r) in
+    let left = has-narrow (typeOf ks l) (type-narrow ks (listed .widths) l) in
+    let right = has-narrow (typeOf ks r) (type-narrow ks (listed .widths) r) in
     let met : If Narrow m = if-then Narrow Narrow a _ left (λ x n. if-then Narrow Narrow b _ right (λ y k. meet-narrow x y n k)) in
     all-append (codeOf ks l ++ changed a m ++ codeOf ks r ++ changed b m) _
     (all-append (codeOf ks l ++ changed a m ++ codeOf ks r) (changed b m)
     (all-append (codeOf ks l ++ changed a m) (codeOf ks r)
-    (all-append (codeOf ks l) (changed a m) (code-in-range ks few widths l (h .0)) (change-ranged a m met))
-    (code-in-range ks few widths r (h .1)))
+    (all-append (codeOf ks l) (changed a m) (code-in-range ks listed l (h .0)) (change-ranged a m met))
+    (code-in-range ks listed r (h .1)))
     (change-ranged b m met))
     (tt, tt)

@@ -11,11 +11,11 @@ use Rattle.paper.specs.Tokens.{Join, implies, orElse, andAlso, sequel, T
 use Rattle.paper.specs.Addresses.{address}
 use Rattle.paper.specs.Grammar.{Tree, compared, got, stuck, Out, ends, deep, bad, Parser, joins, compares, once, chain, sequence, operand, prefixes, finished, whole, mostLevels, outcome, parsed}
 use Rattle.paper.specs.Calls.{tree}
-use Rattle.paper.specs.Translated.{needs}
-use Rattle.paper.specs.Written.{NumbersFit}
+use Rattle.paper.specs.Translated.{needs, FewHeld}
+use Rattle.paper.specs.Written.{NumbersFit, NumbersRead}
 use Rattle.paper.proofs.Stages.{Of, bind-ok}
 use Rattle.paper.proofs.AddressNumbers.{address-fits}
-use Rattle.paper.proofs.TokenNumbers.{AllGood, tokens-good}
+use Rattle.paper.proofs.TokenNumbers.{AllGood, tokens-within}
 use Rattle.paper.proofs.Yields.{Got, Yields, got-all, got-then, join-makes, comparison-makes, once-yields, chain-yields, operand-yields}
 
 -- a tree whose code holds at most so many values below the last one
@@ -105,8 +105,14 @@ parsed-shallow size ts gs =
     (got-then (Shallow 325) (Shallow 325) (sequence true (prefixes address mostLevels) ts) finished
     (sequence-step 320 (prefixes address mostLevels) (prefixes-step 64) true ts gs) (finished-got (Shallow 325)))
 
-pub tree-shallow : (text : List ℕ) (t : Tree) → tree text ≡ ok t → Shallow 325 t
+tree-shallow : (text : List ℕ) (t : Tree) → tree text ≡ ok t → Shallow 325 t
 unfolding tree
 tree-shallow text t h =
     let cut = bind-ok (tokens text) (parsed (length text)) t h in
-    subst (Of (Shallow 325)) (cut .2) (parsed-shallow (length text) (cut .0) (tokens-good text (cut .0) (cut .1)))
+    subst (Of (Shallow 325)) (cut .2) (parsed-shallow (length text) (cut .0) (tokens-within text (cut .0) (cut .1) .good))
+
+pub few-held : FewHeld
+few-held text t h = tree-shallow text t h .held
+
+pub numbers-read : NumbersRead
+numbers-read text t h = tree-shallow text t h .numbers

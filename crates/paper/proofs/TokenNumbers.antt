@@ -1,15 +1,15 @@
--- The numerals of a text that is cut into tokens are below 2^128.
-use Prim.Native.Nat.{ℕ, zero, suc, _^_, _<_}
+-- A text that is cut into tokens has at most 1,024, and its numerals are below 2^128.
+use Prim.Native.Nat.{ℕ, zero, suc, _^_, _≤_, _<_, zero-le, suc-le-suc}
 use mathlib.Core.Path.{_≡_, refl, subst}
 use mathlib.Core.Bool.{Bool, true, false, not, cond, _||_}
 use mathlib.Core.Option.{Option, none, some}
 use mathlib.Core.List.{List, [], _∷_}
-use lib.ListN.{take, drop}
+use lib.ListN.{length, take, drop}
 use lib.Dec.{eqb, ltb}
 use borrow.Author.Tests.{ltb-true}
-use Rattle.paper.specs.Answers.{Answer, ok, refused, _>>=_}
+use Rattle.paper.specs.Answers.{Answer, ok}
 use Rattle.paper.specs.Tokens.{is, span, starts, isIdByte, Numeral, spelling, isNumeral, numeralValue, Sign, oneByte, twoBytes, Tok, word, numeral, string, sign, Token, Scan, blank, token, noToken, tooLarge, scanComment, scanOne, scanTwo, scanSign, Class, isSpace, isSlash, isQuote, isLetter, isFigure, isOther, classOf, scanClass, scan, onward, tokensFrom, tokens, mostTokens}
-use Rattle.paper.proofs.Stages.{Of}
+use Rattle.paper.proofs.Stages.{Of, of-bind}
 
 abbrev pub Good : Tok → Type 0
 Good (word w) = Unit {0}
@@ -65,25 +65,27 @@ class-good isFigure b s =
     (numeral-good n (span isIdByte s) (ltb (numeralValue n) (2 ^ 128)) refl) tt
 class-good isOther b s = signs-good b s
 
-onward-good : (c : Scan) (at room : ℕ) (go : ℕ → ℕ → Answer (List Token)) → Scanned c → ((n left : ℕ) → Of AllGood (go n left))
-    → Of AllGood (onward c at room go)
-onward-good (blank n) at room go h k = k n room
-onward-good (token t n) at zero go h k = tt
-onward-good (token t n) at (suc room) go h k = more (go n room) (k n room)
-  where
-    more : (x : Answer (List Token)) → Of AllGood x → Of AllGood (x >>= λ ts. ok (record { at = at; tok = t } ∷ ts))
-    more (ok ts) all = (h, all)
-    more (refused m i p) all = tt
-onward-good noToken at room go h k = tt
-onward-good tooLarge at room go h k = tt
+-- good tokens, and not more than there is room for
+pub record Within (room : ℕ) (ts : List Token) : Type 0 where
+  pub good : AllGood ts
+  pub few : length ts ≤ room
 
-all-good : (s : List ℕ) (n at room : ℕ) → Of AllGood (tokensFrom n at room s)
+onward-within : (c : Scan) (at room : ℕ) (go : ℕ → ℕ → Answer (List Token)) → Scanned c → ((n left : ℕ) → Of (Within left) (go n left))
+    → Of (Within room) (onward c at room go)
+onward-within (blank n) at room go h k = k n room
+onward-within (token t n) at zero go h k = tt
+onward-within (token t n) at (suc room) go h k =
+    of-bind (Within room) (Within (suc room)) (go n room) _ (k n room) (λ ts w. record { good = (h, w .good); few = suc-le-suc (w .few) })
+onward-within noToken at room go h k = tt
+onward-within tooLarge at room go h k = tt
+
+from-within : (s : List ℕ) (n at room : ℕ) → Of (Within room) (tokensFrom n at room s)
 unfolding tokensFrom
-all-good [] n at room = tt
-all-good (b ∷ s) (suc n) at room = all-good s n (suc at) room
-all-good (b ∷ s) zero at room =
-    onward-good (scan b s) at room (λ n left. tokensFrom n (suc at) left s) (class-good (classOf b) b s) (λ n left. all-good s n (suc at) left)
+from-within [] n at room = record { good = tt; few = zero-le }
+from-within (b ∷ s) (suc n) at room = from-within s n (suc at) room
+from-within (b ∷ s) zero at room =
+    onward-within (scan b s) at room (λ n left. tokensFrom n (suc at) left s) (class-good (classOf b) b s) (λ n left. from-within s n (suc at) left)
 
-pub tokens-good : (text : List ℕ) (ts : List Token) → tokens text ≡ ok ts → AllGood ts
+pub tokens-within : (text : List ℕ) (ts : List Token) → tokens text ≡ ok ts → Within mostTokens ts
 unfolding tokens
-tokens-good text ts h = subst (Of AllGood) h (all-good text 0 0 mostTokens)
+tokens-within text ts h = subst (Of (Within mostTokens)) h (from-within text 0 0 mostTokens)

@@ -4,14 +4,17 @@ use mathlib.Core.Path.{_≡_}
 use mathlib.Core.List.{List}
 use lib.ListN.{length, take, drop}
 use Rattle.paper.specs.Answers.{Input, ok, refused}
-use Rattle.paper.specs.Tokens.{mostTokens}
-use Rattle.paper.specs.Grammar.{Tree, nodes}
+use Rattle.paper.specs.Tokens.{Token}
+use Rattle.paper.specs.Keys.{Key, keys}
+use Rattle.paper.specs.Entry.{Entry, entryOf}
+use Rattle.paper.specs.Grammar.{Tree, nodes, parsed}
 use Rattle.paper.specs.Blocks.{blockSize, inBlock, mostBlocks, blocksNeeded}
-use Rattle.paper.specs.Calls.{tree, checkAnswer, judgeAnswer, translateAnswer, translateBuffer, loadAnswer, runAnswer}
+use Rattle.paper.specs.Calls.{checkAnswer, judgeAnswer, translateAnswer, translateBuffer, loadAnswer, runAnswer}
+use Rattle.paper.specs.Sound.{Runs}
 
--- "a 1,025th token" is refused, and each node has a token of its own
+-- each node of a tree has a token of its own
 abbrev pub FewNodes : Type 0
-FewNodes = (text : List ℕ) (t : Tree) → tree text ≡ ok t → nodes t ≤ mostTokens
+FewNodes = (size : ℕ) (ts : List Token) (t : Tree) → parsed size ts ≡ ok t → nodes t ≤ length ts
 
 -- the same verdict or the same refusal, for every entry
 pub record Carries (text list blocks : List ℕ) (n : ℕ) : Type 0 where
@@ -40,3 +43,13 @@ abbrev pub RefusedUnchanged : Type 0
 RefusedUnchanged =
     (text list buffer : List ℕ) (m : ℕ) (i : Input) (at : ℕ) → translateAnswer text list buffer ≡ refused m i at
     → translateBuffer text list buffer ≡ buffer
+
+-- "The entry is accepted exactly when the bool left at the end is true, else violated; this holds for all blocks that load"
+pub record Answered (list blocks entry : List ℕ) (ks : List Key) (e : Entry) (n : ℕ) : Type 0 where
+  pub run : Runs ks e blocks n
+  pub answer : runAnswer list blocks entry ≡ ok (run .bit)
+
+abbrev pub LoadedAnswers : Type 0
+LoadedAnswers =
+    (list blocks entry : List ℕ) (ks : List Key) (e : Entry) (n : ℕ) → loadAnswer list blocks ≡ ok n → keys list ≡ ok ks → entryOf ks entry ≡ ok e
+    → Answered list blocks entry ks e n

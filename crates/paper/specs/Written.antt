@@ -5,12 +5,13 @@ use mathlib.Core.Option.{some}
 use mathlib.Core.List.{List, [], _∷_, _++_, map}
 use lib.ListN.{length, drop}
 use Rattle.paper.specs.Answers.{ok}
-use Rattle.paper.specs.Keys.{Key, mostKeys}
+use Rattle.paper.specs.Keys.{Key, mostKeys, keys}
 use Rattle.paper.specs.Grammar.{Tree, truth, number, key, field, attribute, prefixed, joined, compared}
 use Rattle.paper.specs.Code.{Instruction, pushBool, pushInt, pushKey, pushField, pushPriority, invert, negate, convert, compare, connects, partsOf, encode, partsAt, decode}
 use Rattle.paper.specs.Blocks.{blockSize, inBlock, mostBlocks, blocksNeeded, blocksOf, totalOf, layout}
 use Rattle.paper.specs.Loading.{program}
 use Rattle.paper.specs.Translating.{codeOf}
+use Rattle.paper.specs.Calls.{tree}
 
 -- "two-byte operand, 16-byte constant", and "operand W, 1 to 128"
 abbrev pub InRange : Instruction → Type 0
@@ -55,6 +56,14 @@ abbrev pub Widths : List Key → Type 0
 Widths [] = Unit {0}
 Widths (k ∷ ks) = (1 ≤ k .width) × (k .width ≤ 128) × Widths ks
 
+-- a key list that passes
+pub record Listed (ks : List Key) : Type 0 where
+  pub few : length ks ≤ mostKeys
+  pub widths : Widths ks
+
+abbrev pub KeysListed : Type 0
+KeysListed = (list : List ℕ) (ks : List Key) → keys list ≡ ok ks → Listed ks
+
 -- every number of a tree is below 2^128
 abbrev pub NumbersFit : Tree → Type 0
 NumbersFit (truth at b) = Unit {0}
@@ -66,6 +75,10 @@ NumbersFit (prefixed at o t) = NumbersFit t
 NumbersFit (joined at o l r) = NumbersFit l × NumbersFit r
 NumbersFit (compared at c l r) = NumbersFit l × NumbersFit r
 
+-- of a text, by 6 and by what addresses are
+abbrev pub NumbersRead : Type 0
+NumbersRead = (text : List ℕ) (t : Tree) → tree text ≡ ok t → NumbersFit t
+
 -- the code of a tree can be written
 abbrev pub CodeInRange : Type 0
-CodeInRange = (ks : List Key) → length ks ≤ mostKeys → Widths ks → (t : Tree) → NumbersFit t → AllInRange (codeOf ks t)
+CodeInRange = (ks : List Key) → Listed ks → (t : Tree) → NumbersFit t → AllInRange (codeOf ks t)

@@ -12,15 +12,11 @@ use borrow.Author.Tests.{eqb-true, ltb-true, leb-true}
 use Rattle.paper.specs.Numbers.{digitsAfter, inBase}
 use Rattle.paper.specs.Tokens.{is, span, starts, digitOf}
 use Rattle.paper.specs.Addresses.{Scheme, ipv4, ipv6, mac, parts, every, allDigits, valueOf, isDecimal, isPair, isGroup, only, beforeGap, groups, eightGroups, gapped, ipv6Of, address}
-use Rattle.paper.proofs.Basics.{If, and-right}
+use Rattle.paper.specs.Written.{All}
+use Rattle.paper.proofs.Basics.{all-append, If, and-right}
 
 abbrev AllBelow : ℕ → List ℕ → Type 0
-AllBelow m [] = Unit {0}
-AllBelow m (d ∷ ds) = (d < m) × AllBelow m ds
-
-below-append : (m : ℕ) (xs ys : List ℕ) → AllBelow m xs → AllBelow m ys → AllBelow m (xs ++ ys)
-below-append m [] ys h k = k
-below-append m (x ∷ xs) ys h k = (h .0, below-append m xs ys (h .1) k)
+AllBelow m ds = All (λ d. d < m) ds
 
 below-zeros : (m n : ℕ) → 0 < m → AllBelow m (replicate n 0)
 below-zeros m zero h = tt
@@ -110,8 +106,8 @@ gapped-fits ps qs =
     let short = leb-true (length ps + length qs) 7 (left .0) in
     fits 65536 8 (first ++ replicate missing 0 ++ last)
     (simp (length-append, length-replicate, length-map) (omega arith))
-    (below-append 65536 (first ++ replicate missing 0) last
-    (below-append 65536 first (replicate missing 0) (every-below isGroup (valueOf 16) 65536 group-below ps (left .1)) (below-zeros 65536 missing (omega arith)))
+    (all-append (λ d. d < 65536) (first ++ replicate missing 0) last
+    (all-append (λ d. d < 65536) first (replicate missing 0) (every-below isGroup (valueOf 16) 65536 group-below ps (left .1)) (below-zeros 65536 missing (omega arith)))
     (every-below isGroup (valueOf 16) 65536 group-below qs (right .1)))
     (lit≤ tt))
 

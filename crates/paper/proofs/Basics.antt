@@ -1,8 +1,13 @@
--- Small laws of tests and of what may be missing.
+-- Small laws of tests, of what may be missing, and of what each element of a list has.
+use Prim.Native.Nat.{ℕ, zero, suc, _<_}
+use native.Mathlib.Nat.{not-suc-le-zero, le-of-suc-le-suc}
 use mathlib.Core.Path.{_≡_, refl}
 use mathlib.Core.Bool.{Bool, true, false, _&&_, and-eq-true-iff}
 use mathlib.Core.Option.{Option, none, some, Option·map}
+use mathlib.Core.List.{List, [], _∷_, _++_}
+use lib.ListN.{length, getD}
 use Rattle.paper.specs.Types.{when, andThen}
+use Rattle.paper.specs.Written.{All}
 
 -- tests
 
@@ -40,3 +45,14 @@ any (some a) = tt
 pub if-when : {A : Type 0} (P : A → Type 0) (b : Bool) (a : A) → P a → If P (when b a)
 if-when P true a h = h
 if-when P false a h = tt
+
+-- each element of a list
+
+pub all-append : {A : Type 0} (P : A → Type 0) (xs ys : List A) → All P xs → All P ys → All P (xs ++ ys)
+all-append P [] ys h k = k
+all-append P (x ∷ xs) ys h k = (h .0, all-append P xs ys (h .1) k)
+
+pub all-at : {A : Type 0} (P : A → Type 0) (xs : List A) (d : A) → All P xs → (i : ℕ) → i < length xs → P (getD xs i d)
+all-at P [] d h i l = absurd (not-suc-le-zero l)
+all-at P (x ∷ xs) d h zero l = h .0
+all-at P (x ∷ xs) d h (suc i) l = all-at P xs d (h .1) i (le-of-suc-le-suc l)

@@ -1,5 +1,5 @@
 -- A key list that passes has at most 32 keys, each of a width from 1 to 128.
-use Prim.Native.Nat.{ℕ, zero, suc, _*_, _/_, _%_, _≤_}
+use Prim.Native.Nat.{ℕ, zero, suc, _*_, _/_, _%_}
 use native.Mathlib.Omega.{arith}
 use mathlib.Core.Path.{_≡_, refl, ap, subst}
 use mathlib.Core.Bool.{Bool, true, false, cond, _&&_}
@@ -10,13 +10,13 @@ use borrow.Author.Tests.{leb-true}
 use Rattle.paper.specs.Answers.{ok, refused, _>>=_, require, inList}
 use Rattle.paper.specs.Numbers.{byteAt}
 use Rattle.paper.specs.Keys.{mostKeys, recordSize, recordAt, recordOk, nameOf, find, keysFrom, isNone, recordsFrom, keys}
-use Rattle.paper.specs.Written.{Widths, Listed, KeysListed}
+use Rattle.paper.specs.Written.{All, Width, Listed, KeysListed}
 use Rattle.paper.proofs.Basics.{and-false, and-right}
 use Rattle.paper.proofs.Stages.{never-ok, bind-ok, require-ok}
 
 -- a record that passes has such a width
 
-narrow-record : (r : List ℕ) → recordOk r ≡ true → (1 ≤ byteAt r 2) × (byteAt r 2 ≤ 128)
+narrow-record : (r : List ℕ) → recordOk r ≡ true → Width (byteAt r 2)
 narrow-record r h = (leb-true 1 (byteAt r 2) (low (leb 1 (byteAt r 2)) refl), leb-true (byteAt r 2) 128 (high (leb (byteAt r 2) 128) refl))
   where
     low : (b : Bool) → leb 1 (byteAt r 2) ≡ b → b ≡ true
@@ -27,17 +27,15 @@ narrow-record r h = (leb-true 1 (byteAt r 2) (low (leb 1 (byteAt r 2)) refl), le
     high true e = refl
     high false e = (simp (e, and-false) at h)
 
-narrow-keys : (list : List ℕ) (n k : ℕ) (u : Unit {0}) → recordsFrom list k n ≡ ok u → Widths (keysFrom list k n)
+narrow-keys : (list : List ℕ) (n k : ℕ) (u : Unit {0}) → recordsFrom list k n ≡ ok u → All (λ x. Width (x .width)) (keysFrom list k n)
 narrow-keys list zero k u h = tt
 narrow-keys list (suc n) k u h =
     go (recordOk (recordAt list k)) (isNone (find (keysFrom list 0 k) (nameOf (recordAt list k)))) refl h (narrow-keys list n (suc k) u)
   where
     go : (b c : Bool) → recordOk (recordAt list k) ≡ b
         → cond b (cond c (recordsFrom list (suc k) n) (refused 4 inList (k * recordSize))) (refused 3 inList (k * recordSize)) ≡ ok u
-        → (recordsFrom list (suc k) n ≡ ok u → Widths (keysFrom list (suc k) n)) → Widths (keysFrom list k (suc n))
-    go true true e h later =
-        let w = narrow-record (recordAt list k) e in
-        (w .0, w .1, later h)
+        → (recordsFrom list (suc k) n ≡ ok u → All (λ x. Width (x .width)) (keysFrom list (suc k) n)) → All (λ x. Width (x .width)) (keysFrom list k (suc n))
+    go true true e h later = (narrow-record (recordAt list k) e, later h)
     go true false e h later = absurd (never-ok h)
     go false c e h later = absurd (never-ok h)
 

@@ -11,10 +11,10 @@ use Rattle.paper.specs.Keys.{Key, findFrom, find}
 use Rattle.paper.specs.Entry.{isExact}
 use Rattle.paper.specs.Grammar.{Tree, truth, number, key, field, attribute, prefixed, joined, compared}
 use Rattle.paper.specs.Types.{Ty, bool, int, of, sameTy, when, andThen, Field, value, mask, prefixLength, low, high, has, fieldTy, fieldNamed, bareType, fieldType, prefixType, joinType, takes, meet, suits, compareType, comparisonType, operatorType, known, namedType, typeOf}
-use Rattle.paper.specs.Code.{Instruction, pushKey, pushField}
+use Rattle.paper.specs.Code.{pushKey, pushField}
 use Rattle.paper.specs.Translating.{hasType, changed, convertTo, pushing, operation, codeOf}
-use Rattle.paper.specs.Written.{AllInRange, Widths, CodeInRange}
-use Rattle.paper.proofs.Basics.{If, if-then, if-when, any, map-then}
+use Rattle.paper.specs.Written.{All, Width, InRange, CodeInRange}
+use Rattle.paper.proofs.Basics.{all-append, If, if-then, if-when, any, map-then}
 use Rattle.paper.proofs.Stages.{Of, of-bind}
 
 -- types of a width from 1 to 128
@@ -22,7 +22,7 @@ use Rattle.paper.proofs.Stages.{Of, of-bind}
 abbrev Narrow : Ty → Type 0
 Narrow bool = Unit {0}
 Narrow int = Unit {0}
-Narrow (of k w) = (1 ≤ w) × (w ≤ 128)
+Narrow (of k w) = Width w
 
 of-operator : (at : ℕ) (o : Option Ty) → If Narrow o → Of Narrow (operatorType at o)
 of-operator at none h = tt
@@ -52,7 +52,7 @@ meet-narrow a b h k = go (sameTy a b) (takes b a)
     go false true = k
     go false false = if-when Narrow (takes a b) a h
 
-field-narrow : (w : ℕ) (f : Field) → (1 ≤ w) × (w ≤ 128) → Narrow (fieldTy w f)
+field-narrow : (w : ℕ) (f : Field) → Width w → Narrow (fieldTy w f)
 field-narrow w value h = h
 field-narrow w mask h = h
 field-narrow w prefixLength h = tt
@@ -60,17 +60,17 @@ field-narrow w low h = h
 field-narrow w high h = h
 
 -- of the key of an index
-elem-narrow : (ks : List Key) → Widths ks → (k : ℕ) (f : Key → Option Ty) → ((x : Key) → (1 ≤ x .width) × (x .width ≤ 128) → If Narrow (f x))
+elem-narrow : (ks : List Key) → All (λ x. Width (x .width)) ks → (k : ℕ) (f : Key → Option Ty) → ((x : Key) → Width (x .width) → If Narrow (f x))
     → If Narrow (andThen (getElem? ks k) f)
 elem-narrow [] h k f g = tt
-elem-narrow (x ∷ ks) h zero f g = g x (h .0, h .1)
-elem-narrow (x ∷ ks) h (suc k) f g = elem-narrow ks (h .2) k f g
+elem-narrow (x ∷ ks) h zero f g = g x (h .0)
+elem-narrow (x ∷ ks) h (suc k) f g = elem-narrow ks (h .1) k f g
 
 known-narrow : (at to : ℕ) (o : Option ℕ) (f : ℕ → Option Ty) → ((k : ℕ) → If Narrow (f k)) → Of Narrow (known at o >>= λ k. namedType to (f k))
 known-narrow at to none f h = tt
 known-narrow at to (some k) f h = of-named to (f k) (h k)
 
-type-narrow : (ks : List Key) → Widths ks → (t : Tree) → Of Narrow (typeOf ks t)
+type-narrow : (ks : List Key) → All (λ x. Width (x .width)) ks → (t : Tree) → Of Narrow (typeOf ks t)
 unfolding typeOf
 type-narrow ks h (truth at b) = tt
 type-narrow ks h (number at n) = tt
@@ -110,35 +110,31 @@ found-below (x ∷ ks) k n name h = go (sameBytes (x .name) name) (found-below k
 
 -- instructions
 
-all-append : (xs ys : List Instruction) → AllInRange xs → AllInRange ys → AllInRange (xs ++ ys)
-all-append [] ys h k = k
-all-append (x ∷ xs) ys h k = (h .0, all-append xs ys (h .1) k)
-
-key-ranged : (o : Option ℕ) → If (λ j. j < 2 ^ 16) o → AllInRange (pushing (andThen o (λ k. some (pushKey k))))
+key-ranged : (o : Option ℕ) → If (λ j. j < 2 ^ 16) o → All InRange (pushing (andThen o (λ k. some (pushKey k))))
 key-ranged none h = tt
 key-ranged (some k) h = (h, tt)
 
 field-ranged : (o : Option ℕ) (p : Option Field) → If (λ j. j < 2 ^ 16) o
-    → AllInRange (pushing (andThen o (λ k. andThen p (λ g. some (pushField g k)))))
+    → All InRange (pushing (andThen o (λ k. andThen p (λ g. some (pushField g k)))))
 field-ranged none p h = tt
 field-ranged (some k) none h = tt
 field-ranged (some k) (some g) h = (h, tt)
 
-prefix-ranged : (o : Prefix) → AllInRange (operation o ∷ [])
+prefix-ranged : (o : Prefix) → All InRange (operation o ∷ [])
 prefix-ranged notSign = (tt, tt)
 prefix-ranged minusSign = (tt, tt)
 
-convert-ranged : (m : Ty) → Narrow m → AllInRange (convertTo m)
+convert-ranged : (m : Ty) → Narrow m → All InRange (convertTo m)
 convert-ranged bool h = tt
 convert-ranged int h = tt
 convert-ranged (of k w) h = (h, tt)
 
-change-ranged : (a m : Option Ty) → If Narrow m → AllInRange (changed a m)
+change-ranged : (a m : Option Ty) → If Narrow m → All InRange (changed a m)
 change-ranged none m h = tt
 change-ranged (some a) none h = tt
 change-ranged (some a) (some m) h = go (sameTy a m)
   where
-    go : (b : Bool) → AllInRange (cond b [] (convertTo m))
+    go : (b : Bool) → All InRange (cond b [] (convertTo m))
     go true = tt
     go false = convert-ranged m h
 
@@ -149,10 +145,10 @@ code-in-range ks listed (number at n) h = (h, tt)
 code-in-range ks listed (key at w) h = key-ranged (find ks w) (found-below ks 0 (2 ^ 16) w (omega (arith, listed .few)))
 code-in-range ks listed (field at w to f) h = field-ranged (find ks w) (fieldNamed f) (found-below ks 0 (2 ^ 16) w (omega (arith, listed .few)))
 code-in-range ks listed (attribute at to f) h = (tt, tt)
-code-in-range ks listed (prefixed at o t) h = all-append (codeOf ks t) _ (code-in-range ks listed t h) (prefix-ranged o)
+code-in-range ks listed (prefixed at o t) h = all-append InRange (codeOf ks t) _ (code-in-range ks listed t h) (prefix-ranged o)
 code-in-range ks listed (joined at o l r) h =
-    all-append (codeOf ks l ++ codeOf ks r) _
-    (all-append (codeOf ks l) (codeOf ks r) (code-in-range ks listed l (h .0)) (code-in-range ks listed r (h .1))) (tt, tt)
+    all-append InRange (codeOf ks l ++ codeOf ks r) _
+    (all-append InRange (codeOf ks l) (codeOf ks r) (code-in-range ks listed l (h .0)) (code-in-range ks listed r (h .1))) (tt, tt)
 code-in-range ks listed (compared at c l r) h =
     let a = hasType (typeOf ks l) in
     let b = hasType (typeOf ks r) in
@@ -160,10 +156,10 @@ code-in-range ks listed (compared at c l r) h =
     let left = has-narrow (typeOf ks l) (type-narrow ks (listed .widths) l) in
     let right = has-narrow (typeOf ks r) (type-narrow ks (listed .widths) r) in
     let met : If Narrow m = if-then Narrow Narrow a _ left (λ x n. if-then Narrow Narrow b _ right (λ y k. meet-narrow x y n k)) in
-    all-append (codeOf ks l ++ changed a m ++ codeOf ks r ++ changed b m) _
-    (all-append (codeOf ks l ++ changed a m ++ codeOf ks r) (changed b m)
-    (all-append (codeOf ks l ++ changed a m) (codeOf ks r)
-    (all-append (codeOf ks l) (changed a m) (code-in-range ks listed l (h .0)) (change-ranged a m met))
+    all-append InRange (codeOf ks l ++ changed a m ++ codeOf ks r ++ changed b m) _
+    (all-append InRange (codeOf ks l ++ changed a m ++ codeOf ks r) (changed b m)
+    (all-append InRange (codeOf ks l ++ changed a m) (codeOf ks r)
+    (all-append InRange (codeOf ks l) (changed a m) (code-in-range ks listed l (h .0)) (change-ranged a m met))
     (code-in-range ks listed r (h .1)))
     (change-ranged b m met))
     (tt, tt)

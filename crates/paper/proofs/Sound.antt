@@ -17,7 +17,7 @@ use Rattle.paper.specs.Meaning.{Value, truth, whole, matched, tyOf, bare
 use Rattle.paper.specs.Code.{Instruction, pushBool, pushInt, pushKey, pushField, pushPriority, invert, negate, convert, compare, connects, Walk, fails, ends, walk, typeAction, valueAction, actionOf}
 use Rattle.paper.specs.Blocks.{totalOf, layout}
 use Rattle.paper.specs.Loading.{instructionsFrom, program, typesAlong, valuesAlong, loadCheck, loaded}
-use Rattle.paper.specs.Sound.{seen, Covers, CheckIsRun, HeldBehind, LoadedRuns}
+use Rattle.paper.specs.Sound.{seenBy, Covers, CheckIsRun, HeldBehind, LoadedRuns}
 use Rattle.paper.proofs.Basics.{map-when, map-then}
 use Rattle.paper.proofs.Walks.{Follows, walk-follows, walk-front, walk-few}
 use Rattle.paper.proofs.Stages.{Of, never-ok, bind-ok}
@@ -112,7 +112,7 @@ module _ (ks : List Key) (e : Entry) (covers : Covers ks e) where
 
   -- from any point of the way
   pub types-follow : (code : List (Option Instruction)) (i : ℕ) (held : List Value)
-      → walk i (map (actionOf (typeAction ks)) code) (map tyOf held) ≡ seen (walk i (map (actionOf (valueAction ks e)) code) held)
+      → walk i (map (actionOf (typeAction ks)) code) (map tyOf held) ≡ seenBy tyOf (walk i (map (actionOf (valueAction ks e)) code) held)
   types-follow code i held = walk-follows tyOf _ _ action-follows code i held
 
 pub check-is-run : CheckIsRun
@@ -121,7 +121,7 @@ check-is-run ks e covers code = types-follow ks e covers code 0 []
 
 -- blocks that load
 
-bool-left : (size : ℕ) (w : Walk Value) (u : Unit {0}) → loadCheck size (seen w) ≡ ok u → (b : Bool) × (w ≡ ends (truth b ∷ []))
+bool-left : (size : ℕ) (w : Walk Value) (u : Unit {0}) → loadCheck size (seenBy tyOf w) ≡ ok u → (b : Bool) × (w ≡ ends (truth b ∷ []))
 bool-left size (fails i) u h = absurd (never-ok h)
 bool-left size (ends []) u h = absurd (never-ok h)
 bool-left size (ends (truth b ∷ [])) u h = (b, refl)

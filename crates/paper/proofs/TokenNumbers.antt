@@ -9,6 +9,7 @@ use lib.Dec.{eqb, ltb}
 use borrow.Author.Tests.{ltb-true}
 use Rattle.paper.specs.Answers.{Answer, ok}
 use Rattle.paper.specs.Tokens.{is, span, starts, isIdByte, Numeral, spelling, isNumeral, numeralValue, Sign, oneByte, twoBytes, Tok, word, numeral, string, sign, Token, Scan, blank, token, noToken, tooLarge, scanComment, scanOne, scanTwo, scanSign, Class, isSpace, isSlash, isQuote, isLetter, isFigure, isOther, classOf, scanClass, scan, onward, tokensFrom, tokens, mostTokens}
+use Rattle.paper.specs.Written.{All}
 use Rattle.paper.proofs.Stages.{Of, of-bind}
 
 abbrev pub Good : Tok → Type 0
@@ -18,8 +19,7 @@ Good (string q) = Unit {0}
 Good (sign g) = Unit {0}
 
 abbrev pub AllGood : List Token → Type 0
-AllGood [] = Unit {0}
-AllGood (u ∷ us) = Good (u .tok) × AllGood us
+AllGood us = All (λ u. Good (u .tok)) us
 
 abbrev Scanned : Scan → Type 0
 Scanned (blank n) = Unit {0}

@@ -17,7 +17,7 @@ use Rattle.paper.specs.Types.{Ty, bool, int, of, sameTy, when, andThen, 
 use Rattle.paper.specs.Meaning.{Value, truth, whole, matched, tyOf, bareValue, fieldValue, prefixValue, connective, convertValue, joinValue, inType, compareValue, comparisonValue, valueOf}
 use Rattle.paper.specs.Code.{Instruction, pushBool, pushInt, pushKey, pushField, pushPriority, convert, compare, connects, Action, mostHeld, put, act, ends, walk, typeAction, valueAction, actionOf}
 use Rattle.paper.specs.Translating.{hasType, changed, convertTo, pushing, operation, codeOf}
-use Rattle.paper.specs.Sound.{seen, Covers}
+use Rattle.paper.specs.Sound.{seenBy, Covers}
 use Rattle.paper.specs.Translated.{needs, CodePushesType, CodePushesValue}
 use Rattle.paper.proofs.Walks.{walk-append}
 use Rattle.paper.proofs.Sound.{types-follow}
@@ -198,5 +198,5 @@ code-pushes-type ks t a h held room i =
     let at : length values ≡ length held = length-map held someOf in
     ap (walk i (map (actionOf (typeAction ks)) code)) (sym (types-back held))
     ∙ types-follow ks e (an-entry-covers ks) code i values
-    ∙ ap seen (code-pushes-value ks e (an-entry-covers ks) t (v .worth) (v .there) values (omega arith) i)
+    ∙ ap (seenBy tyOf) (code-pushes-value ks e (an-entry-covers ks) t (v .worth) (v .there) values (omega arith) i)
     ∙ ap₂ (λ b s. ends (b ∷ s)) (v .type) (types-back held)

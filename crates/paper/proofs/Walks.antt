@@ -11,15 +11,12 @@ use lib.Dec.{ltb}
 use borrow.Author.Tests.{ltb-true}
 use Rattle.paper.specs.Types.{when}
 use Rattle.paper.specs.Code.{Action, leaves, takesOne, takesTwo, mostHeld, put, act, Walk, fails, ends, goOn, walk}
+use Rattle.paper.specs.Sound.{seenBy}
 use Rattle.paper.proofs.Basics.{map-when}
 
 -- one walk seen through another, along a map of what they hold
 
 module _ {A B : Type 0} (g : A → B) where
-  abbrev pub imageWalk : Walk A → Walk B
-  imageWalk (fails i) = fails i
-  imageWalk (ends held) = ends (map g held)
-
   -- an action that does on images what another does
   abbrev pub Follows : Action B → Action A → Type 0
   Follows (leaves o) (leaves p) = o ≡ Option·map g p
@@ -51,12 +48,12 @@ module _ {A B : Type 0} (g : A → B) where
   act-follows (takesTwo k) (takesTwo f) h (b ∷ a ∷ s) = rw (h a b) (put-follows (f a b) s)
 
   go-follows : (i : ℕ) (o : Option (List A)) (w : List B → Walk B) (w′ : List A → Walk A)
-      → ((s : List A) → w (map g s) ≡ imageWalk (w′ s)) → goOn i (Option·map (map g) o) w ≡ imageWalk (goOn i o w′)
+      → ((s : List A) → w (map g s) ≡ seenBy g (w′ s)) → goOn i (Option·map (map g) o) w ≡ seenBy g (goOn i o w′)
   go-follows i none w w′ h = refl
   go-follows i (some s) w w′ h = h s
 
   pub walk-follows : {C : Type 0} (u : C → Action B) (v : C → Action A) → ((c : C) → Follows (u c) (v c)) → (code : List C) (i : ℕ) (s : List A)
-      → walk i (map u code) (map g s) ≡ imageWalk (walk i (map v code) s)
+      → walk i (map u code) (map g s) ≡ seenBy g (walk i (map v code) s)
   unfolding walk
   walk-follows u v h [] i s = refl
   walk-follows u v h (c ∷ code) i s =

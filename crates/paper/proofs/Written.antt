@@ -1,12 +1,12 @@
 -- The blocks of a sequence read back: their layout is right, and they hold the sequence.
 use Prim.Native.Nat.{ℕ, zero, suc, _+_, _*_, _-_, _/_, _%_, _≤_, _<_, min}
-use native.Mathlib.Nat.{sub-zero, div-add-mod, zero-add, not-suc-le-zero, le-of-suc-le-suc}
+use native.Mathlib.Nat.{sub-zero, div-add-mod, zero-add}
 use native.Mathlib.Numerals.{add-one}
 use native.Mathlib.Omega.{arith}
 use mathlib.Core.Path.{_≡_, refl, sym, ap, _∙_}
 use mathlib.Core.Bool.{true}
 use mathlib.Core.Option.{some}
-use mathlib.Core.List.{List, [], _∷_, _++_, map, append-assoc}
+use mathlib.Core.List.{List, _∷_, _++_, map, append-assoc}
 use lib.ListN.{length, getD, take, drop, length-take, length-drop, drop-of-length-le}
 use lib.Seq.{take-at, drop-drop, drop-cons, getD-take, getD-drop}
 use borrow.Author.Tests.{eq-eqb, le-leb, lt-ltb}
@@ -16,15 +16,11 @@ use Rattle.paper.specs.Keys.{mostKeys}
 use Rattle.paper.specs.Code.{Instruction, pushPriority, instructionSize, encode, partsAt, decode}
 use Rattle.paper.specs.Blocks.{blockSize, inBlock, mostBlocks, checkOf, sealed, blocksNeeded, blocksFrom, blocksOf, countAt, countsFrom, totalOf, countOk, layoutFrom, layout}
 use Rattle.paper.specs.Loading.{instructionAt, instructionsFrom}
-use Rattle.paper.specs.Written.{InRange, AllInRange, Written, BlocksBack}
+use Rattle.paper.specs.Written.{All, InRange, Written, BlocksBack}
+use Rattle.paper.proofs.Basics.{all-at}
 use Rattle.paper.proofs.Digits.{number-back}
 use Rattle.paper.proofs.Encoded.{bytes-back, row-there}
 use Rattle.paper.proofs.OneBlock.{body, behindCode, at-count, at-code, block-passes, taken, block-length, blocks-length, block-there}
-
-each-in-range : (code : List Instruction) → AllInRange code → (i : ℕ) → i < length code → InRange (getD code i pushPriority)
-each-in-range [] h i l = absurd (not-suc-le-zero l)
-each-in-range (x ∷ code) h zero l = h .0
-each-in-range (x ∷ code) h (suc i) l = each-in-range code (h .1) i (le-of-suc-le-suc l)
 
 module _ (keys : ℕ) (code : List Instruction) (keys-few : keys ≤ mostKeys) (nonempty : 1 ≤ length code) (few : length code ≤ mostBlocks * inBlock) where
   abbrev total : ℕ
@@ -109,7 +105,7 @@ module _ (keys : ℕ) (code : List Instruction) (keys-few : keys ≤ mostKeys) (
 
   -- the sequence
 
-  module _ (ranged : AllInRange code) where
+  module _ (ranged : All InRange code) where
     abbrev at : ℕ → Instruction
     at i = getD code i pushPriority
 
@@ -125,7 +121,7 @@ module _ (keys : ℕ) (code : List Instruction) (keys-few : keys ≤ mostKeys) (
         ∙ ap at (div-add-mod i inBlock)
         in
         let place : instructionAt i ≡ start + instructionSize * j = omega arith in
-        bytes-back (at i) (each-in-range code ranged i h) blocks (row .0) (instructionAt i)
+        bytes-back (at i) (all-at InRange code pushPriority ranged i h) blocks (row .0) (instructionAt i)
         (ap (λ n. drop n blocks) place ∙ sym (drop-drop (instructionSize * j) start blocks)
         ∙ ap (drop (instructionSize * j)) (at-code total keys k (part k) (few-here k) blocks (r .0) (k * blockSize) (r .1)) ∙ row .1
         ∙ ap (λ x. encode x ++ row .0) same)

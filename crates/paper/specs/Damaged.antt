@@ -13,6 +13,7 @@ use Rattle.paper.specs.Blocks.{blockSize}
 use Rattle.paper.specs.Calls.{loadAnswer}
 
 -- "Blocks cut at a block's end that still load because the shorter program also ends in a bool: the total count forbids it."
+-- (Cut to nothing, they are refused with 16.)
 abbrev pub CutRefused : Type 0
 CutRefused =
     (list blocks : List ℕ) (n : ℕ) → loadAnswer list blocks ≡ ok n → (m : ℕ) → 1 ≤ m → m * blockSize < length blocks

@@ -8,15 +8,14 @@ use lib.ListN.{length}
 use Rattle.paper.specs.Answers.{ok}
 use Rattle.paper.specs.Keys.{Key}
 use Rattle.paper.specs.Entry.{Entry}
-use Rattle.paper.specs.Types.{Ty}
 use Rattle.paper.specs.Meaning.{Value, truth, tyOf}
 use Rattle.paper.specs.Code.{Instruction, Walk, fails, ends, mostHeld}
 use Rattle.paper.specs.Loading.{program, typesAlong, loaded, valuesAlong}
 
--- a walk of values, seen through their types
-abbrev pub seen : Walk Value → Walk Ty
-seen (fails i) = fails i
-seen (ends held) = ends (map tyOf held)
+-- a walk, seen through a map of what is held
+abbrev pub seenBy : {A B : Type 0} → (A → B) → Walk A → Walk B
+seenBy g (fails i) = fails i
+seenBy g (ends held) = ends (map g held)
 
 -- an entry has a record for each key; every entry that conforms does
 abbrev pub Covers : List Key → Entry → Type 0
@@ -25,7 +24,7 @@ Covers ks e = length (e .matches) ≡ length ks
 -- The load check is the run, seen through types: an equation, so that it also fails nothing that would run.
 abbrev pub CheckIsRun : Type 0
 CheckIsRun =
-    (ks : List Key) (e : Entry) → Covers ks e → (code : List (Option Instruction)) → typesAlong ks code ≡ seen (valuesAlong ks e code)
+    (ks : List Key) (e : Entry) → Covers ks e → (code : List (Option Instruction)) → typesAlong ks code ≡ seenBy tyOf (valuesAlong ks e code)
 
 -- behind a front part of a sequence: no operand was missing, and at most 384 values are held
 pub record HeldBehind (ks : List Key) (e : Entry) (front : List (Option Instruction)) : Type 0 where

@@ -13,6 +13,10 @@ use Rattle.paper.specs.Loading.{program}
 use Rattle.paper.specs.Translating.{codeOf}
 use Rattle.paper.specs.Calls.{tree}
 
+-- "width W, 1 to 128"
+abbrev pub Width : ℕ → Type 0
+Width w = (1 ≤ w) × (w ≤ 128)
+
 -- "two-byte operand, 16-byte constant", and "operand W, 1 to 128"
 abbrev pub InRange : Instruction → Type 0
 InRange (pushBool b) = Unit {0}
@@ -22,13 +26,14 @@ InRange (pushField f k) = k < 2 ^ 16
 InRange pushPriority = Unit {0}
 InRange invert = Unit {0}
 InRange negate = Unit {0}
-InRange (convert k w) = (1 ≤ w) × (w ≤ 128)
+InRange (convert k w) = Width w
 InRange (compare c) = Unit {0}
 InRange (connects o) = Unit {0}
 
-abbrev pub AllInRange : List Instruction → Type 0
-AllInRange [] = Unit {0}
-AllInRange (i ∷ code) = InRange i × AllInRange code
+-- of each element of a list
+abbrev pub All : {A : Type 0} → (A → Type 0) → List A → Type 0
+All P [] = Unit {0}
+All P (a ∷ s) = P a × All P s
 
 -- by its parts
 abbrev pub PartsBack : Type 0
@@ -48,18 +53,13 @@ pub record Written (keys : ℕ) (code : List Instruction) (blocks : List ℕ) : 
 
 abbrev pub BlocksBack : Type 0
 BlocksBack =
-    (keys : ℕ) (code : List Instruction) → keys ≤ mostKeys → 1 ≤ length code → length code ≤ mostBlocks * inBlock → AllInRange code
+    (keys : ℕ) (code : List Instruction) → keys ≤ mostKeys → 1 ≤ length code → length code ≤ mostBlocks * inBlock → All InRange code
     → Written keys code (blocksOf keys code)
-
--- "width W, 1 to 128", for every key
-abbrev pub Widths : List Key → Type 0
-Widths [] = Unit {0}
-Widths (k ∷ ks) = (1 ≤ k .width) × (k .width ≤ 128) × Widths ks
 
 -- a key list that passes
 pub record Listed (ks : List Key) : Type 0 where
   pub few : length ks ≤ mostKeys
-  pub widths : Widths ks
+  pub widths : All (λ k. Width (k .width)) ks
 
 abbrev pub KeysListed : Type 0
 KeysListed = (list : List ℕ) (ks : List Key) → keys list ≡ ok ks → Listed ks
@@ -81,4 +81,4 @@ NumbersRead = (text : List ℕ) (t : Tree) → tree text ≡ ok t → NumbersFit
 
 -- the code of a tree can be written
 abbrev pub CodeInRange : Type 0
-CodeInRange = (ks : List Key) → Listed ks → (t : Tree) → NumbersFit t → AllInRange (codeOf ks t)
+CodeInRange = (ks : List Key) → Listed ks → (t : Tree) → NumbersFit t → All InRange (codeOf ks t)

@@ -17,7 +17,7 @@ use Rattle.paper.specs.Meaning.{Value, truth, whole, matched, tyOf, bare
 use Rattle.paper.specs.Code.{Instruction, pushBool, pushInt, pushKey, pushField, pushPriority, invert, negate, convert, compare, connects, Walk, fails, ends, walk, typeAction, valueAction, actionOf}
 use Rattle.paper.specs.Blocks.{totalOf, layout}
 use Rattle.paper.specs.Loading.{instructionsFrom, program, typesAlong, valuesAlong, loadCheck, loaded}
-use Rattle.paper.specs.Sound.{seenBy, Covers, CheckIsRun, HeldBehind, LoadedRuns}
+use Rattle.paper.specs.Sound.{seenBy, Covers, ConformingCovers, CheckIsRun, HeldBehind, LoadedRuns}
 use Rattle.paper.proofs.Basics.{map-when, map-then}
 use Rattle.paper.proofs.Walks.{Follows, walk-follows, walk-front, walk-few}
 use Rattle.paper.proofs.Stages.{Of, never-ok, bind-ok}
@@ -34,7 +34,7 @@ three-stages P (ok _) (refused n i at) z a h = tt
 three-stages P (ok _) (ok _) (refused n i at) a h = tt
 three-stages P (ok _) (ok _) (ok _) a h = h
 
-pub conforming : (ks : List Key) (entry : List ℕ) (e : Entry) → entryOf ks entry ≡ ok e → Covers ks e
+pub conforming : ConformingCovers
 unfolding entryOf
 conforming ks entry e h =
     subst (Of (Covers ks)) h

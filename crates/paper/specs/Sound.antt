@@ -7,7 +7,7 @@ use mathlib.Core.List.{List, [], _∷_, _++_, map}
 use lib.ListN.{length}
 use Rattle.paper.specs.Answers.{ok}
 use Rattle.paper.specs.Keys.{Key}
-use Rattle.paper.specs.Entry.{Entry}
+use Rattle.paper.specs.Entry.{Entry, entryOf}
 use Rattle.paper.specs.Meaning.{Value, truth, tyOf}
 use Rattle.paper.specs.Code.{Instruction, Walk, fails, ends, mostHeld}
 use Rattle.paper.specs.Loading.{program, typesAlong, loaded, valuesAlong}
@@ -17,9 +17,13 @@ abbrev pub seenBy : {A B : Type 0} → (A → B) → Walk A → Walk B
 seenBy g (fails i) = fails i
 seenBy g (ends held) = ends (map g held)
 
--- an entry has a record for each key; every entry that conforms does
+-- an entry has a record for each key
 abbrev pub Covers : List Key → Entry → Type 0
 Covers ks e = length (e .matches) ≡ length ks
+
+-- every entry that conforms does
+abbrev pub ConformingCovers : Type 0
+ConformingCovers = (ks : List Key) (entry : List ℕ) (e : Entry) → entryOf ks entry ≡ ok e → Covers ks e
 
 -- The load check is the run, seen through types: an equation, so that it also fails nothing that would run.
 abbrev pub CheckIsRun : Type 0

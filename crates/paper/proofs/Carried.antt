@@ -23,7 +23,8 @@ use Rattle.paper.specs.Calls.{sized, tree, Restriction, restriction, che
 use Rattle.paper.specs.Sound.{Covers}
 use Rattle.paper.specs.Translated.{needs}
 use Rattle.paper.specs.Written.{Written}
-use Rattle.paper.specs.Carried.{FewNodes, Carries, Filled, TranslationCarries, CheckedTranslates, RefusedUnchanged, LoadedAnswers}
+use Rattle.paper.specs.Carried.{Carries, Filled, TranslationCarries, CheckedTranslates, RefusedUnchanged, LoadedAnswers}
+use Rattle.paper.proofs.Nodes.{nodes-within-tokens}
 use Rattle.paper.proofs.Stages.{Of, bind-ok, require-ok}
 use Rattle.paper.proofs.Sound.{conforming, loaded-runs}
 use Rattle.paper.proofs.Meant.{judged, bool-root}
@@ -71,7 +72,7 @@ nodes-some (G.prefixed at o t) = omega arith
 nodes-some (G.joined at o l r) = omega arith
 nodes-some (G.compared at c l r) = omega arith
 
-module _ (few-nodes : FewNodes) (text list : List ℕ) (r : Restriction) (passed : restriction text list ≡ ok r) where
+module _ (text list : List ℕ) (r : Restriction) (passed : restriction text list ≡ ok r) where
   abbrev ks : List Key
   ks = r .keys
 
@@ -103,7 +104,7 @@ module _ (few-nodes : FewNodes) (text list : List ℕ) (r : Restriction) (passed
   unfolding tree
   short =
       let a = bind-ok (tokens text) (parsed (length text)) t (known .read) in
-      code-fits ks t bool a-bool (omega (arith, few-nodes (length text) (a .0) t (a .2), tokens-within text (a .0) (a .1) .few))
+      code-fits ks t bool a-bool (omega (arith, nodes-within-tokens (length text) (a .0) t (a .2), tokens-within text (a .0) (a .1) .few))
 
   written : Written (length ks) code blocks
   written =
@@ -189,23 +190,22 @@ translated buffer r n h =
     let b = bind-ok (require test 15 inBuffer (length buffer)) (λ _. ok (length code)) n h in
     (cc, leb-true (blockSize * blocksNeeded (length code)) (length buffer) (require-ok test 15 inBuffer (length buffer) (b .0) (b .1)))
 
-module _ (few-nodes : FewNodes) where
-  pub translation-carries : TranslationCarries
-  translation-carries text list buffer n h =
-      let a = bind-ok (restriction text list) (translating buffer) n (sym (translates text list buffer) ∙ h) in
-      let b = translated buffer (a .0) n (a .2) in
-      subst (Filled text list buffer) (b .0) (in-buffer few-nodes text list (a .0) (a .1) buffer (b .1) (fills text list buffer (a .0) n h (a .1)))
+pub translation-carries : TranslationCarries
+translation-carries text list buffer n h =
+    let a = bind-ok (restriction text list) (translating buffer) n (sym (translates text list buffer) ∙ h) in
+    let b = translated buffer (a .0) n (a .2) in
+    subst (Filled text list buffer) (b .0) (in-buffer text list (a .0) (a .1) buffer (b .1) (fills text list buffer (a .0) n h (a .1)))
 
-  pub checked-translates : CheckedTranslates
-  unfolding checkAnswer
-  checked-translates text list h buffer room =
-      let a = bind-ok (restriction text list) (λ _. ok tt) tt h in
-      let r = a .0 in
-      let size = blockSize * blocksNeeded (length (codeOf (r .keys) (r .root))) in
-      let fits : size ≤ length buffer = omega (arith, short few-nodes text list r (a .1)) in (
-        length (codeOf (r .keys) (r .root)),
-        translates text list buffer ∙ ap (λ x. x >>= translating buffer) (a .1) ∙ rw (le-leb size (length buffer) fits),
-      )
+pub checked-translates : CheckedTranslates
+unfolding checkAnswer
+checked-translates text list h buffer room =
+    let a = bind-ok (restriction text list) (λ _. ok tt) tt h in
+    let r = a .0 in
+    let size = blockSize * blocksNeeded (length (codeOf (r .keys) (r .root))) in
+    let fits : size ≤ length buffer = omega (arith, short text list r (a .1)) in (
+      length (codeOf (r .keys) (r .root)),
+      translates text list buffer ∙ ap (λ x. x >>= translating buffer) (a .1) ∙ rw (le-leb size (length buffer) fits),
+    )
 
 pub refused-unchanged : RefusedUnchanged
 unfolding translateBuffer

@@ -4,17 +4,11 @@ use mathlib.Core.Path.{_≡_}
 use mathlib.Core.List.{List}
 use lib.ListN.{length, take, drop}
 use Rattle.paper.specs.Answers.{Input, ok, refused}
-use Rattle.paper.specs.Tokens.{Token}
 use Rattle.paper.specs.Keys.{Key, keys}
 use Rattle.paper.specs.Entry.{Entry, entryOf}
-use Rattle.paper.specs.Grammar.{Tree, nodes, parsed}
 use Rattle.paper.specs.Blocks.{blockSize, inBlock, mostBlocks, blocksNeeded}
 use Rattle.paper.specs.Calls.{checkAnswer, judgeAnswer, translateAnswer, translateBuffer, loadAnswer, runAnswer}
 use Rattle.paper.specs.Sound.{Runs}
-
--- each node of a tree has a token of its own
-abbrev pub FewNodes : Type 0
-FewNodes = (size : ℕ) (ts : List Token) (t : Tree) → parsed size ts ≡ ok t → nodes t ≤ length ts
 
 -- the same verdict or the same refusal, for every entry
 pub record Carries (text list blocks : List ℕ) (n : ℕ) : Type 0 where

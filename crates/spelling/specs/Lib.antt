@@ -1,3 +1,3 @@
-pub mod Bases
+pub mod Numerals
 pub mod Runs
 pub mod Words

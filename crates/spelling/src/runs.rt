@@ -1,6 +1,6 @@
 // Runs: bytes of one sort that stand together.
 ghost use mathlib.Core.Path.{_≡_};
-ghost use Prim.Native.Nat.{_+_, _≤_};
+ghost use Prim.Native.Nat.{_≤_};
 ghost use lib.ListN.{length, drop};
 ghost use Rattle.paper.specs.Tokens.{span};
 ghost use Rattle.spelling.specs.Runs.{inRun, EndsAt};
@@ -24,10 +24,10 @@ pub fn goes_on(run: Run, byte: u8) -> bool
         Run::Name => bytes::is_id_byte(byte),
         Run::Line => byte != b'\n',
         Run::Quoted => {
-            if byte == b'\'' {
+            if byte == b'\n' {
                 return false;
             }
-            byte != b'\n'
+            byte != b'\''
         }
         Run::Digits(base) => bytes::digit_of(byte) < base,
     }

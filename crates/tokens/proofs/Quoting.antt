@@ -1,12 +1,12 @@
 -- Strings and comments, from the byte that opens them.
 use Prim.Native.Nat.{ℕ, suc, _+_, _-_, _≤_, _<_}
-use mathlib.Core.Path.{_≡_, refl, ap, ap₂, sym, _∙_}
+use mathlib.Core.Path.{_≡_, ap, ap₂, sym, _∙_}
 use mathlib.Core.List.{List}
 use native.Mathlib.Omega.{arith}
 use lib.ListN.{length, getD, take, drop, drop-of-length-le}
 use lib.Seq.{slice, drop-drop}
 use borrow.Author.Tests.{eq-eqb, ne-eqb}
-use Rattle.paper.specs.Tokens.{span, scanComment, scanString, string, token, blank}
+use Rattle.paper.specs.Tokens.{span, scanComment, scanString, string, token}
 use Rattle.spelling.specs.Runs.{inRun, EndsAt}
 use Rattle.spelling.specs.declared.runs.Run.the-variants.{Line, Quoted}
 use Rattle.spelling.proofs.Spans.{cut}

@@ -1,17 +1,18 @@
 -- Signs, from their first byte.
 use Prim.Native.Nat.{ℕ, suc, _+_, _-_, _≤_, _<_}
-use mathlib.Core.Path.{_≡_, refl, ap, ap₂, sym, _∙_}
-use mathlib.Core.Bool.{Bool, true, false, not, _&&_, and-false, false≢true}
+use mathlib.Core.Path.{_≡_, ap₂, sym, _∙_}
+use mathlib.Core.Bool.{true, false, not, _&&_, and-false}
 use mathlib.Core.Logic.{_⊎_, inl, inr, ⊎-elim}
-use mathlib.Core.Option.{none, some}
+use mathlib.Core.Option.{none}
 use mathlib.Core.List.{List}
 use native.Mathlib.Decide.{decLt}
 use native.Mathlib.Omega.{arith}
 use lib.Dec.{eqb}
-use lib.ListN.{length, getD, take, drop, drop-of-length-le, List·getD-eq-default}
+use lib.ListN.{length, getD, drop, drop-of-length-le, List·getD-eq-default}
 use borrow.Author.Tests.{eqb-true, eqb-false, eq-eqb, ne-eqb, not-true}
-use Rattle.paper.specs.Tokens.{twoBytes, oneByte, scanTwo, scanOne, scanSign, token, sign}
+use Rattle.paper.specs.Tokens.{twoBytes, scanTwo, scanSign, token, sign}
 use Rattle.spelling.proofs.Spans.{cut}
+use Rattle.spelling.proofs.Tests.{and-both}
 use Rattle.tokens.specs.Tape.{signOf}
 use Rattle.tokens.specs.Scanned.{Stands, Begins, tokOf}
 use Rattle.tokens.specs.declared.found.Found.the-variants.{Token, NoToken}
@@ -32,10 +33,6 @@ next s at b = go (decLt at (length s))
 
 tok-sign : (s : List ℕ) (k from to n : ℕ) → 3 ≤ k → tokOf s k from to n ≡ sign (signOf k)
 tok-sign s k from to n h = rw (ne-eqb k 0 (omega arith), ne-eqb k 1 (omega arith), ne-eqb k 2 (omega arith))
-
-and-both : (a b : Bool) → (a && b) ≡ true → (a ≡ true) × (b ≡ true)
-and-both true b e = (refl, e)
-and-both false b e = absurd (false≢true e)
 
 reaches : (s : List ℕ) (at : ℕ) → (at + 2 ≤ length s) ⊎ (length s ≤ at + 1)
 reaches s at = go (decLt (at + 1) (length s))

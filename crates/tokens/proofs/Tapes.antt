@@ -1,14 +1,11 @@
 -- The tokens that stand in slices.
-use Prim.Native.Nat.{ℕ, zero, suc, _+_, _*_, _-_, _≤_, _<_}
-use mathlib.Core.Path.{_≡_, refl, ap, ap₂, sym, _∙_}
-use mathlib.Core.List.{List, [], _∷_, _++_}
+use Prim.Native.Nat.{ℕ, zero, suc, _+_, _-_, _<_}
+use mathlib.Core.Path.{_≡_, refl, ap, ap₂, _∙_}
+use mathlib.Core.List.{[], _∷_, _++_}
 use native.Mathlib.Nat.{add-zero, suc-add, zero-add}
-use native.Mathlib.Numerals.{add-one}
 use native.Mathlib.Omega.{arith}
-use lib.ListN.{length, getD, set, drop, length-set}
-use lib.Seq.{sets, getD-set-same, getD-set-other}
-use Rattle.paper.specs.Tokens.{Token}
-use Rattle.tokens.specs.Tape.{Tape, tokenOn, tokensOn, limbsAt}
+use lib.ListN.{length, drop}
+use Rattle.tokens.specs.Tape.{Tape, tokenOn, tokensOn}
 
 module _ (T : Tape) where
   pub tape-cons : (i n : ℕ) → tokensOn T i (suc n) ≡ tokenOn T i ∷ tokensOn T (i + 1) n
@@ -45,16 +42,3 @@ unfolding tokensOn
 tape-same T U i zero e = refl
 tape-same T U i (suc n) e =
     ap₂ (λ t ts. t ∷ ts) (e i (omega arith)) (tape-same T U (i + 1) n (λ k h. e k (omega arith)))
-
-sets-below : (vs l : List ℕ) (at i : ℕ) → i < at → getD (sets l at vs) i 0 ≡ getD l i 0
-sets-below [] l at i h = refl
-sets-below (x ∷ vs) l at i h =
-    sets-below vs (set l at x) (suc at) i (omega arith) ∙ getD-set-other l at i x 0 (λ e. omega arith)
-
-sets-at : (vs l : List ℕ) (at k : ℕ) → k < length vs → at + length vs ≤ length l → getD (sets l at vs) (at + k) 0 ≡ getD vs k 0
-sets-at [] l at k h g = absurd (omega arith)
-sets-at (x ∷ vs) l at zero h g =
-    rw add-zero (sets-below vs (set l at x) (suc at) at (omega arith) ∙ getD-set-same l at x 0 (omega arith))
-sets-at (x ∷ vs) l at (suc k) h g =
-    let e : at + suc k ≡ suc at + k = omega arith in
-    rw e (sets-at vs (set l at x) (suc at) k (omega arith) (simp length-set (omega arith)))

@@ -18,7 +18,8 @@ returns-3 c =
     let s = c .before .before .before .before .before .before .args .run .now in
     record {
       says = spelled-by s (search needs) (c .before .before .if2 .left) ∙ ap (λ b. spelled b s (drop 2 s)) (sym (c .base-of .ensures));
-      long = omega arith }
+      long = omega arith;
+    }
 
 pub announced-spec : {M : Type 1} → statement M
 announced-spec =

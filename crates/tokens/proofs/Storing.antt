@@ -88,7 +88,7 @@ module _ (T U : Tape) (n kind from to : ℕ) (m : Magnitude) (w : Stored T U n k
   tokens-stored =
       let same = tape-same T U 0 n (λ k h. token-kept k (omega arith)) in
       let last : tokenOn U (0 + n) ≡ made (T .text) kind from to (value m) = rw zero-add token-new in
-      rw add-one (tape-snoc U 0 n ∙ λ j. sym same j ++ (last j ∷ []))
+      rw (add-one n) (tape-snoc U 0 n ∙ λ j. sym same j ++ (last j ∷ []))
 
   pub spans-stored : Spans (T .text) kind from to → ((i : ℕ) → i < n → SpansOn T i) → (i : ℕ) → i < n + 1 → SpansOn U i
   spans-stored here old =

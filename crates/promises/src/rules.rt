@@ -1,11 +1,17 @@
 // The rules by example: what document 01 marks, and both sides of every limit.
 ghost use Rattle.paper.specs.Marked.{Marked};
+ghost use Rattle.paper.specs.Readings.{Readings};
 ghost use Rattle.paper.specs.CaseFour.{CaseFour};
 ghost use Rattle.paper.specs.Limits.{Texts, Lists, Entries, Held, Sizes};
 
 // The sixteen marked judgements.
 pub fn marked_judgements()
     ensures { λ _. ⌜ Marked ⌝ }
+{}
+
+// Where document 01 leaves room for two readings, texts that show ours.
+pub fn readings_shown()
+    ensures { λ _. ⌜ Readings ⌝ }
 {}
 
 // Case 4: its block, byte for byte, which loads and accepts the marked entry.

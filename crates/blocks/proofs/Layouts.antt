@@ -8,15 +8,15 @@ use mathlib.Core.Bool.{Bool, true, false, cond, _&&_}
 use mathlib.Core.List.{List, [], _∷_}
 use lib.ListN.{length, getD, take, drop, length-drop}
 use lib.Dec.{eqb, leb}
-use borrow.Author.Tests.{leb-true, eqb-true}
-use Rattle.paper.specs.Answers.{Answer, ok, refused, inBlocks}
+use borrow.Author.Tests.{leb-true, eqb-true, eq-eqb, ne-eqb, lt-ltb, le-ltb, le-leb, lt-leb}
+use Rattle.paper.specs.Answers.{Answer, ok, refused, _>>=_, inBlocks}
 use Rattle.paper.specs.Numbers.{bytesAt}
 use Rattle.paper.specs.Tokens.{sameBytes}
-use Rattle.paper.specs.Blocks.{Sums, sumsOf, checkOf, countOk, countAt, countsFrom, totalOf, blockOk, layoutFrom}
+use Rattle.paper.specs.Blocks.{Sums, sumsOf, checkOf, countOk, countAt, countsFrom, totalOf, blockOk, layoutFrom, layout}
 use Rattle.paper.specs.Keys.{allZero}
 use Rattle.blocks.specs.declared.fields.Block.{Block}
 use Rattle.blocks.specs.Fields.{BlockOf}
-use Rattle.blocks.specs.Layout.{blockRight}
+use Rattle.blocks.specs.Layout.{laidOut, blockRight}
 use Rattle.blocks.proofs.Steps.{two-off}
 
 pub count-last : (later count : ℕ) → later ≡ 0 → (leb 1 count && leb count 25) ≡ countOk later count
@@ -79,7 +79,35 @@ module _ (keys total k later : ℕ) (b : List ℕ) (r : Block) (says : BlockOf b
   pub right-by :
       blockRight keys total k later b
       ≡ (eqb (r .number) k && countOk later (r .count) && allZero (take (504 - (4 + 20 * r .count)) (drop (4 + 20 * r .count) b))
-        && eqb (r .total) total && eqb (r .keys) keys && sameBytes (bytesAt b 508 4) (checkOf (take 508 b)))
+      && eqb (r .total) total && eqb (r .keys) keys && sameBytes (bytesAt b 508 4) (checkOf (take 508 b)))
   right-by =
       let e : 504 - (4 + 20 * r .count) ≡ 500 - 20 * r .count = omega arith in
       rw (e, says .number, says .count, says .total, says .keys)
+
+-- refusal 16, and the way past it
+module _ (keys : ℕ) (blocks : List ℕ) where
+  pub laid-empty : length blocks ≡ 0 → laidOut keys blocks ≡ refused 16 inBlocks (length blocks)
+  unfolding layout
+  laid-empty e = rw (le-ltb 0 (length blocks) (omega arith))
+
+  pub laid-broken : (length blocks % 512 ≡ 0 → ⊥) → 0 < length blocks → laidOut keys blocks ≡ refused 16 inBlocks (length blocks)
+  unfolding layout
+  laid-broken e h = rw (lt-ltb 0 (length blocks) h, ne-eqb (length blocks % 512) 0 e)
+
+  pub laid-long : 82 * 512 < length blocks → length blocks % 512 ≡ 0 → laidOut keys blocks ≡ refused 16 inBlocks (length blocks)
+  unfolding layout
+  laid-long h e =
+      let p : 0 < length blocks = omega arith in
+      rw (lt-ltb 0 (length blocks) p, eq-eqb (length blocks % 512) 0 e, lt-leb (length blocks) (82 * 512) h)
+
+  pub laid-through : 0 < length blocks → length blocks % 512 ≡ 0 → length blocks ≤ 82 * 512 →
+      laidOut keys blocks ≡ (layoutFrom keys blocks 0 (length blocks / 512) >>= λ _. ok (totalOf blocks))
+  unfolding layout
+  laid-through p e h = rw (lt-ltb 0 (length blocks) p, eq-eqb (length blocks % 512) 0 e, le-leb (length blocks) (82 * 512) h)
+
+  -- a block of the blocks is right as the block by itself is
+  pub block-there : (k later total from : ℕ) → total ≡ totalOf blocks → from ≡ k * 512 →
+      blockOk keys blocks k later ≡ blockRight keys total k later (take (from + 512 - from) (drop from blocks))
+  block-there k later total from e f =
+      let s : from + 512 - from ≡ 512 = omega arith in
+      rw (s, e, f)

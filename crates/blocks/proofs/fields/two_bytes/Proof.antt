@@ -2,9 +2,6 @@ use borrow.Author.Needs.{needs}
 use Rattle.blocks.proofs.Steps.{number-two}
 use Rattle.blocks.proofs.fields.two_bytes.Statement.{statement}
 use Rattle.blocks.proofs.fields.two_bytes.Tie as tie
-use Rattle.blocks.proofs.fields.two_bytes.Reads as reads
-use Rattle.blocks.proofs.fields.two_bytes.Lts as lts
-use Rattle.blocks.proofs.fields.wide.Reads as wide-reads
 
 shared-slice-read-wide : tie.Need-shared-slice-read-wide
 shared-slice-read-wide c = search needs

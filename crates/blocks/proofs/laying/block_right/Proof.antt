@@ -6,12 +6,6 @@ use Rattle.blocks.proofs.Layouts.{count-most, right-by}
 use borrow.Author.Needs.{needs}
 use Rattle.blocks.proofs.laying.block_right.Statement.{statement}
 use Rattle.blocks.proofs.laying.block_right.Tie as tie
-use Rattle.blocks.proofs.laying.block_right.Reads as reads
-use Rattle.blocks.proofs.laying.block_right.Lts as lts
-use Rattle.blocks.proofs.fields.Block.read.Reads as read-reads
-use Rattle.blocks.proofs.laying.all_zero.Reads as all-zero-reads
-use Rattle.blocks.proofs.laying.check_right.Reads as check-right-reads
-use Rattle.blocks.proofs.laying.count_right.Reads as count-right-reads
 
 read-requires : tie.Need-read-requires
 read-requires c κs = search needs

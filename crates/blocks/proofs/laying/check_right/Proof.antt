@@ -9,10 +9,6 @@ use Rattle.blocks.proofs.Layouts.{check-compared, if-then-true}
 use borrow.Author.Needs.{needs}
 use Rattle.blocks.proofs.laying.check_right.Statement.{statement}
 use Rattle.blocks.proofs.laying.check_right.Tie as tie
-use Rattle.blocks.proofs.laying.check_right.Reads as reads
-use Rattle.blocks.proofs.laying.check_right.Lts as lts
-use Rattle.blocks.proofs.laying.wide.Reads as wide-reads
-use Rattle.blocks.proofs.sums.sums_of.Reads as sums-of-reads
 
 slice-aggregate-sums-of : tie.Need-slice-aggregate-sums-of
 slice-aggregate-sums-of c = sym (length-take-le 508 (c .before .before .args .block .now) (omega arith))

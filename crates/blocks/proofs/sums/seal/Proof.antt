@@ -7,9 +7,6 @@ use Rattle.paper.specs.Blocks.{Sums}
 use borrow.Author.Needs.{needs}
 use Rattle.blocks.proofs.sums.seal.Statement.{statement}
 use Rattle.blocks.proofs.sums.seal.Tie as tie
-use Rattle.blocks.proofs.sums.seal.Reads as reads
-use Rattle.blocks.proofs.sums.seal.Lts as lts
-use Rattle.blocks.proofs.sums.sums_of.Reads as sums-of-reads
 
 slice-reshare-prefix-sums-of : tie.Need-slice-reshare-prefix-sums-of
 slice-reshare-prefix-sums-of c = search needs

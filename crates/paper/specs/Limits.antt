@@ -4,14 +4,15 @@ use mathlib.Core.Path.{_≡_}
 use mathlib.Core.Bool.{Bool, true, false}
 use mathlib.Core.Option.{Option, none, some}
 use mathlib.Core.List.{List, [], _∷_, _++_, map}
-use lib.ListN.{length, replicate}
+use lib.ListN.{length, take, replicate}
 use Rattle.paper.specs.Answers.{Answer, ok, refused, _>>=_, inText, inList, inEntry, inBlocks, inBuffer}
 use Rattle.paper.specs.Numbers.{bigEndian}
 use Rattle.paper.specs.Tokens.{bytes}
 use Rattle.paper.specs.Keys.{keys}
 use Rattle.paper.specs.Types.{Ty, bool}
 use Rattle.paper.specs.Meaning.{both}
-use Rattle.paper.specs.Code.{Instruction, pushBool, connects, Walk, fails, ends}
+use Rattle.paper.specs.Code.{Instruction, pushBool, invert, connects, Walk, fails, ends}
+use Rattle.paper.specs.Blocks.{blocksOf}
 use Rattle.paper.specs.Loading.{typesAlong}
 use Rattle.paper.specs.Calls.{readAnswer, judgeAnswer, translateAnswer, loadAnswer}
 use Rattle.paper.specs.Marked.{keyRecord, matchRecord, theKeys}
@@ -164,6 +165,19 @@ lengths =
     ∷ on (replicate (83 * 512) 0) (refused 16 inBlocks 42496)
     ∷ []
 
+-- blocks of 25 instructions and one more, whole and cut at the first one's end: the shorter program also ends in a bool, and the
+-- total count forbids it
+abbrev pub justOver : List Instruction
+justOver = replicate 13 (pushBool true) ++ replicate 12 (connects both) ++ (invert ∷ [])
+
+abbrev pub cuts : List (On ℕ)
+cuts =
+    on (blocksOf 0 justOver) (ok 26)
+    ∷ on (take 512 (blocksOf 0 justOver)) (refused 17 inBlocks 0)
+    ∷ on (blocksOf 0 (take 25 justOver)) (ok 25)
+    ∷ []
+
 pub record Sizes : Type 0 where
   pub buffer : Agree (translateAnswer (bytes "true") []) buffers
   pub blocks : Agree (loadAnswer []) lengths
+  pub cut : Agree (loadAnswer []) cuts

@@ -1,4 +1,5 @@
 pub mod Marked
+pub mod Readings
 pub mod Taken
 pub mod Turns
 pub mod Ladder

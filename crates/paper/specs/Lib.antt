@@ -21,5 +21,6 @@ pub mod Written
 pub mod Carried
 pub mod Damaged
 pub mod Marked
+pub mod Readings
 pub mod Limits
 pub mod CaseFour

@@ -11,12 +11,12 @@ use lib.Dec.{ltb}
 use borrow.Author.Tests.{ltb-true, ltb-false, lt-ltb, le-ltb, eq-eqb, ne-eqb}
 use Rattle.paper.specs.Numbers.{digitsAfter}
 use Rattle.paper.specs.Tokens.{spelling, spelled, baseOf, digitOf, span, isNumeral}
+use Rattle.spelling.proofs.Spans.{cut}
 use Rattle.number.specs.Values.{value, Grows}
 use Rattle.number.specs.declared.digits.Grown.{Grown}
 use Rattle.spelling.specs.Numerals.{inBaseOf, Counts}
 use Rattle.spelling.specs.Runs.{inRun, EndsAt}
 use Rattle.spelling.specs.declared.runs.Run.the-variants.{Digits}
-use Rattle.spelling.proofs.Spans.{cut}
 
 pub spelled-short : (run : List ℕ) → length run < 2 → spelling run ≡ spelled none run (drop 2 run)
 spelled-short [] h = refl

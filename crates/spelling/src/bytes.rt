@@ -1,42 +1,11 @@
 // Classes of bytes.
 ghost use mathlib.Core.Path.{_≡_};
-ghost use Rattle.paper.specs.Tokens as tokens;
-ghost use Rattle.paper.specs.Tokens.{isDigit, isIdStart, isIdByte, isBlank, digitOf};
-
-fn within(low: u8, high: u8, byte: u8) -> bool
-    ensures { λ r. ⌜ r ≡ tokens.within low high byte ⌝ }
-{
-    if byte < low {
-        return false;
-    }
-    byte <= high
-}
+ghost use Rattle.paper.specs.Tokens.{isDigit, isBlank, digitOf};
 
 pub fn is_digit(byte: u8) -> bool
     ensures { λ r. ⌜ r ≡ isDigit byte ⌝ }
 {
-    within(b'0', b'9', byte)
-}
-
-pub fn is_id_start(byte: u8) -> bool
-    ensures { λ r. ⌜ r ≡ isIdStart byte ⌝ }
-{
-    if within(b'a', b'z', byte) {
-        return true;
-    }
-    if within(b'A', b'Z', byte) {
-        return true;
-    }
-    byte == b'_'
-}
-
-pub fn is_id_byte(byte: u8) -> bool
-    ensures { λ r. ⌜ r ≡ isIdByte byte ⌝ }
-{
-    if is_id_start(byte) {
-        return true;
-    }
-    is_digit(byte)
+    keys::bytes::within(b'0', b'9', byte)
 }
 
 pub fn is_blank(byte: u8) -> bool
@@ -61,10 +30,10 @@ pub fn digit_of(byte: u8) -> u8
     if is_digit(byte) {
         return byte - b'0';
     }
-    if within(b'a', b'f', byte) {
+    if keys::bytes::within(b'a', b'f', byte) {
         return byte - b'a' + 10;
     }
-    if within(b'A', b'F', byte) {
+    if keys::bytes::within(b'A', b'F', byte) {
         return byte - b'A' + 10;
     }
     16

@@ -21,7 +21,7 @@ pub fn goes_on(run: Run, byte: u8) -> bool
     ensures { λ r. ⌜ r ≡ inRun run byte ⌝ }
 {
     match run {
-        Run::Name => bytes::is_id_byte(byte),
+        Run::Name => keys::word::is_id_byte(byte),
         Run::Line => byte != b'\n',
         Run::Quoted => {
             if byte == b'\n' {

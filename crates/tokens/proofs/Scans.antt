@@ -1,12 +1,12 @@
 -- What stands at a byte: by its class, and words and numerals.
-use Prim.Native.Nat.{ℕ, _+_, _-_, _<_}
-use mathlib.Core.Path.{_≡_, ap, ap₂, sym, _∙_, subst}
-use mathlib.Core.Bool.{true, false}
-use mathlib.Core.List.{List, _∷_}
+use Prim.Native.Nat.{ℕ, suc, _+_, _-_, _≤_, _<_}
+use mathlib.Core.Path.{_≡_, refl, ap, ap₂, sym, _∙_, subst}
+use mathlib.Core.Bool.{Bool, true, false, cond, _&&_, _||_}
+use mathlib.Core.List.{List, [], _∷_}
 use native.Mathlib.Omega.{arith}
 use lib.Dec.{eqb}
-use lib.ListN.{length, getD, take, drop}
-use Rattle.paper.specs.Tokens.{isBlank, isIdStart, isDigit, isIdByte, wordMore, span, spelling, Scan, scan, scanComment, scanString, scanWord, scanNumeral, scanSign, blank, token, word}
+use lib.ListN.{length, getD, take, drop, length-drop}
+use Rattle.paper.specs.Tokens.{is, starts, isBlank, isIdStart, isDigit, isIdByte, wordMore, span, spelling, Scan, scan, scanComment, scanString, scanWord, scanNumeral, scanSign, blank, token, word}
 use Rattle.number.specs.Values.{value}
 use Rattle.number.specs.declared.magnitude.Magnitude.{Magnitude}
 use Rattle.spelling.specs.Numerals.{SpeltAs}
@@ -52,19 +52,29 @@ stands-as e p q h = rw (e, p, q) h
 
 -- words and numerals
 
-module _ (s : List ℕ) (at end : ℕ) (h : at < length s) where
+more-fits : (s : List ℕ) → wordMore s ≤ length s
+more-fits [] = omega arith
+more-fits (b ∷ s) = go (isIdByte b || is "." b && starts isIdStart s) (more-fits s)
+  where
+    go : (t : Bool) → wordMore s ≤ length s → cond t (suc (wordMore s)) 0 ≤ suc (length s)
+    go true h = omega arith
+    go false h = omega arith
+
+module _ (s : List ℕ) (at : ℕ) (h : at < length s) where
   pub blank-stands : Stands s at 0 (blank 0) (Blank (at + 1))
   blank-stands =
       let e : at + 1 - (at + 1) ≡ 0 = omega arith in
       record { says = ap blank e; ends = omega arith }
 
-  pub word-stands : EndsAt s (at + 1) (wordMore (drop (at + 1) s)) end
-      → Stands s at 0 (scanWord (getD s at 0) (drop (at + 1) s)) (Token 0 end)
-  word-stands f =
+  pub word-inside : at + 1 + wordMore (drop (at + 1) s) ≤ length s
+  word-inside = omega (arith, more-fits (drop (at + 1) s), length-drop (at + 1) s)
+
+  pub word-stands : Stands s at 0 (scanWord (getD s at 0) (drop (at + 1) s)) (Token 0 (at + 1 + wordMore (drop (at + 1) s)))
+  word-stands =
       let n = wordMore (drop (at + 1) s) in
-      let m : end - (at + 1) ≡ n = omega arith in
-      let p = sym (part-slice at end s (omega arith)) ∙ part-first s at n end h (f .far) in
-      record { says = ap₂ (λ l i. token (word l) i) p m; ends = omega arith }
+      let m : at + 1 + n - (at + 1) ≡ n = omega arith in
+      let p = sym (part-slice at (at + 1 + n) s (omega arith)) ∙ part-first s at n (at + 1 + n) h refl in
+      record { says = ap₂ (λ l i. token (word l) i) p m; ends = omega (arith, word-inside) }
 
 module _ (s : List ℕ) (at end : ℕ) (h : at < length s) (f : EndsAt s (at + 1) (span isIdByte (drop (at + 1) s)) end) (m : Magnitude) where
   run : take (end - at) (drop at s) ≡ getD s at 0 ∷ take (span isIdByte (drop (at + 1) s)) (drop (at + 1) s)

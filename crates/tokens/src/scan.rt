@@ -15,7 +15,6 @@ use spelling::numerals;
 use spelling::numerals::Sort;
 use spelling::runs;
 use spelling::runs::Run;
-use spelling::words;
 
 // The number is that of a numeral.
 pub struct Scanned {
@@ -36,7 +35,8 @@ fn word(text: &[u8], at: usize) -> Found
     requires { ⌜ at < length (now text) ⌝ }
     ensures { λ r. ⌜ Stands (now (text .entry)) at 0 (paper.scanWord (getD (now (text .entry)) at 0) (drop (at + 1) (now (text .entry)))) r ⌝ }
 {
-    Found::Token(kinds::WORD, words::word_end(text, at + 1))
+    let next = at + 1;
+    Found::Token(kinds::WORD, next + keys::word::word_more(text, next))
 }
 
 fn numeral(text: &[u8], at: usize) -> Scanned
@@ -71,7 +71,7 @@ pub fn scan(text: &[u8], at: usize) -> Scanned
     if byte == b'\'' {
         return unnumbered(quotes::string(text, at));
     }
-    if bytes::is_id_start(byte) {
+    if keys::word::is_id_start(byte) {
         return unnumbered(word(text, at));
     }
     if bytes::is_digit(byte) {

@@ -21,7 +21,7 @@ returns c =
     let s = a .text .now in
     let b = getD s (a .at) 0 in
     stands-as (c .unnumbered .ensures .0) (c .unnumbered .ensures .1) (as-blank b (drop (a .at + 1) s) (sym (c .before .before .is-blank .ensures) ∙ c .before .if1 .taken))
-    (blank-stands s (a .at) 0 (search needs))
+    (blank-stands s (a .at) (search needs))
 
 returns-2 : tie.Need-returns-2
 returns-2 c =

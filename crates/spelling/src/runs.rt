@@ -17,7 +17,7 @@ pub enum Run {
     Digits(u8),
 }
 
-pub fn goes_on(run: Run, byte: u8) -> bool
+fn goes_on(run: Run, byte: u8) -> bool
     ensures { λ r. ⌜ r ≡ inRun run byte ⌝ }
 {
     match run {

@@ -2,7 +2,6 @@
 use Prim.Native.Nat.{ℕ, suc, _+_, _-_, _≤_, _<_}
 use mathlib.Core.Path.{_≡_, ap₂, sym, _∙_}
 use mathlib.Core.Bool.{true, false, not, _&&_, and-false}
-use mathlib.Core.Logic.{_⊎_, inl, inr, ⊎-elim}
 use mathlib.Core.Option.{none}
 use mathlib.Core.List.{List}
 use native.Mathlib.Decide.{decLt}
@@ -34,12 +33,15 @@ next s at b = go (decLt at (length s))
 tok-sign : (s : List ℕ) (k from to n : ℕ) → 3 ≤ k → tokOf s k from to n ≡ sign (signOf k)
 tok-sign s k from to n h = rw (ne-eqb k 0 (omega arith), ne-eqb k 1 (omega arith), ne-eqb k 2 (omega arith))
 
-reaches : (s : List ℕ) (at : ℕ) → (at + 2 ≤ length s) ⊎ (length s ≤ at + 1)
-reaches s at = go (decLt (at + 1) (length s))
+-- what is not 0 stands in the text
+there : (s : List ℕ) (i : ℕ) → 0 < getD s i 0 → i < length s
+there s i h = go (decLt i (length s))
   where
-    go : Dec (at + 1 < length s) → (at + 2 ≤ length s) ⊎ (length s ≤ at + 1)
-    go (yes h) = inl (omega arith)
-    go (no h) = inr (omega arith)
+    go : Dec (i < length s) → i < length s
+    go (yes k) = k
+    go (no k) =
+        let past : length s ≤ i = omega arith in
+        absurd (omega (arith, List·getD-eq-default s 0 past))
 
 module _ (s : List ℕ) (at : ℕ) (r : Signs) (g : Begins (getD s at 0) r) (h : at < length s) where
   stands : (k m : ℕ) → 3 ≤ k → k ≤ 17 → at + suc m ≤ length s
@@ -58,8 +60,8 @@ module _ (s : List ℕ) (at : ℕ) (r : Signs) (g : Begins (getD s at 0) r) (h :
       let both = and-both (not (eqb (r .1) 0)) (eqb (getD s (at + 1) 0) (r .0)) e in
       let range = g .double (eqb-false (r .1) 0 (not-true (eqb (r .1) 0) (both .0))) in
       let same = eqb-true (getD s (at + 1) 0) (r .0) (both .1) in
-      let inside : at + 2 ≤ length s = ⊎-elim (λ k. k) (λ k. absurd (omega (arith, List·getD-eq-default s 0 k))) (reaches s at) in
-      stands (r .1) 1 (range .0) (range .1) inside (rw (g .two (getD s (at + 1) 0), e))
+      let inside = there s (at + 1) (omega arith) in
+      stands (r .1) 1 (range .0) (range .1) (omega arith) (rw (g .two (getD s (at + 1) 0), e))
 
   pub sign-one : (not (eqb (r .1) 0) && eqb (getD s (at + 1) 0) (r .0)) ≡ false → (r .2 ≡ 0 → ⊥)
       → Stands s at 0 (scanSign (getD s at 0) (drop (at + 1) s)) (Token (r .2) (at + 1))

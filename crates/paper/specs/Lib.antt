@@ -5,6 +5,8 @@ pub mod Keys
 pub mod Entry
 pub mod Addresses
 pub mod Grammar
+pub mod Sentences
+pub mod Places
 pub mod Types
 pub mod Meaning
 pub mod Code
@@ -12,6 +14,13 @@ pub mod Blocks
 pub mod Loading
 pub mod Translating
 pub mod Calls
+pub mod Sound
+pub mod Meant
+pub mod Translated
+pub mod Written
+pub mod Carried
+pub mod Damaged
 pub mod Marked
+pub mod Readings
 pub mod Limits
 pub mod CaseFour

@@ -1,0 +1,55 @@
+-- How the check's sums and a two-byte number go on along a slice.
+use Prim.Native.Nat.{ℕ, zero, suc, _+_, _*_, _-_, _%_, _≤_, _<_}
+use native.Mathlib.Nat.{add-zero, zero-add, zero-mul}
+use native.Mathlib.Numerals.{add-one}
+use native.Mathlib.Omega.{arith}
+use mathlib.Core.Path.{_≡_, refl, sym, _∙_, ap}
+use mathlib.Core.List.{List, [], _∷_}
+use lib.ListN.{length, getD, take, drop, length-drop, drop-of-length-le}
+use lib.Seq.{drop-cons}
+use lib.Dec.{eqb}
+use borrow.Author.Tests.{eq-eqb, ne-eqb}
+use mathlib.Core.Bool.{Bool, true, false}
+use Rattle.paper.specs.Keys.{allZero}
+use Rattle.paper.specs.Numbers.{numberAt}
+use Rattle.paper.specs.Blocks.{Sums, sumsFrom}
+
+pub number-two : (s : List ℕ) (at : ℕ) → numberAt s at 2 ≡ getD s at 0 * 256 + getD s (at + 1) 0
+number-two s at = ap (λ (k : ℕ). (0 * 256 + getD s k 0) * 256 + getD s (at + 1) 0) (add-zero at) ∙ rw (zero-mul, zero-add)
+
+-- the two next elements of a slice
+pub two-off : (s : List ℕ) (i : ℕ) → 2 ≤ length s - i → drop i s ≡ getD s i 0 ∷ getD s (i + 1) 0 ∷ drop (i + 2) s
+two-off s i h =
+    let e : suc (i + 1) ≡ i + 2 = omega arith in
+    drop-cons s i 0 (omega arith)
+    ∙ ap (λ (n : ℕ). getD s i 0 ∷ drop n s) (sym (add-one i))
+    ∙ ap (λ (l : List ℕ). getD s i 0 ∷ l) (drop-cons s (i + 1) 0 (omega arith) ∙ ap (λ (n : ℕ). getD s (i + 1) 0 ∷ drop n s) e)
+
+module _ (s : List ℕ) (i a b : ℕ) where
+  pub sums-on : 2 ≤ length s - i →
+      sumsFrom a b (drop i s)
+      ≡ sumsFrom ((a + (getD s i 0 * 256 + getD s (i + 1) 0)) % 65535)
+      ((b + (a + (getD s i 0 * 256 + getD s (i + 1) 0)) % 65535) % 65535) (drop (i + 2) s)
+  sums-on h = ap (sumsFrom a b) (two-off s i h)
+
+  pub sums-end : length s - i < 2 → sumsFrom a b (drop i s) ≡ record { first = a; second = b }
+  sums-end h = short (drop i s) (omega (arith, length-drop i s))
+    where
+      short : (l : List ℕ) → length l < 2 → sumsFrom a b l ≡ record { first = a; second = b }
+      short [] k = refl
+      short (x ∷ []) k = refl
+      short (x ∷ y ∷ l) k = absurd (omega arith)
+
+-- zeros, an element at a time
+pub one-off : (s : List ℕ) (i : ℕ) → i < length s → drop i s ≡ getD s i 0 ∷ drop (i + 1) s
+one-off s i h = drop-cons s i 0 h ∙ ap (λ (n : ℕ). getD s i 0 ∷ drop n s) (sym (add-one i))
+
+module _ (s : List ℕ) (i : ℕ) where
+  pub zeros-on : i < length s → getD s i 0 ≡ 0 → allZero (drop i s) ≡ allZero (drop (i + 1) s)
+  zeros-on h e = rw (one-off s i h, eq-eqb _ _ e)
+
+  pub zeros-stop : i < length s → (getD s i 0 ≡ 0 → ⊥) → allZero (drop i s) ≡ false
+  zeros-stop h e = rw (one-off s i h, ne-eqb _ _ e)
+
+  pub zeros-end : length s ≤ i → allZero (drop i s) ≡ true
+  zeros-end h = rw (drop-of-length-le s h)

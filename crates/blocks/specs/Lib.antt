@@ -1,0 +1,3 @@
+pub mod Sealed
+pub mod Fields
+pub mod Layout

@@ -1,0 +1,137 @@
+// Refusals 16 and 17: whether blocks are laid out as they must be.
+ghost use mathlib.Core.Path.{_≡_};
+ghost use Prim.Native.Nat.{_+_, _*_, _/_, _≤_};
+ghost use lib.ListN.{length, take};
+ghost use Rattle.paper.specs.Numbers.{bytesAt};
+ghost use Rattle.paper.specs.Tokens.{sameBytes};
+ghost use Rattle.paper.specs.Keys.{allZero};
+ghost use Rattle.paper.specs.Blocks.{countOk, countsFrom, checkOf};
+ghost use Rattle.blocks.specs.Layout.{laidSays, laidOut, blockRight};
+use crate::fields::Block;
+use crate::fields::two_bytes;
+use crate::sums::sums_of;
+use paper::Place;
+
+// How many instructions the blocks hold, by their own counts.
+pub enum Laid {
+    Total(usize),
+    Refused(u8, Place),
+}
+
+fn all_zero(s: &[u8]) -> bool
+    ensures { λ r. ⌜ r ≡ allZero (now (s .entry)) ⌝ }
+{
+    let mut i = 0;
+    while i < s.len() {
+        if s[i] != 0 {
+            return false;
+        }
+        i += 1;
+    }
+    true
+}
+
+// 25 except in the last block, where it is 1 to 25.
+fn count_right(later: usize, count: usize) -> bool
+    ensures { λ r. ⌜ r ≡ countOk later count ⌝ }
+{
+    if later == 0 {
+        return (1 <= count) & (count <= Block::INSTRUCTIONS);
+    }
+    count == Block::INSTRUCTIONS
+}
+
+fn wide(x: u8) -> u32
+    ensures { λ r. ⌜ r ≡ x ⌝ }
+{
+    x as u32
+}
+
+fn check_right(block: &[u8]) -> bool
+    requires { ⌜ length (now block) ≡ 512 ⌝ }
+    ensures { λ r. ⌜ r ≡ sameBytes (bytesAt (now (block .entry)) 508 4) (checkOf (take 508 (now (block .entry)))) ⌝ }
+{
+    let sums = sums_of(&block[..Block::CHECK]);
+    if wide(block[508]) != sums.second / 256 % 256 {
+        return false;
+    }
+    if wide(block[509]) != sums.second % 256 {
+        return false;
+    }
+    if wide(block[510]) != sums.first / 256 % 256 {
+        return false;
+    }
+    wide(block[511]) == sums.first % 256
+}
+
+// Block k, behind which so many stand, in blocks of a total count for a number of keys.
+fn block_right(block: &[u8], k: usize, later: usize, total: usize, keys: usize) -> bool
+    requires { ⌜ length (now block) ≡ 512 ⌝ }
+    ensures { λ r. ⌜ r ≡ blockRight keys total k later (now (block .entry)) ⌝ }
+{
+    let b = Block::read(block);
+    if b.number != k {
+        return false;
+    }
+    let count = b.count;
+    if !count_right(later, count) {
+        return false;
+    }
+    let from = Block::HEAD + Block::INSTRUCTION * count;
+    if !all_zero(&block[from..Block::TAIL]) {
+        return false;
+    }
+    if b.total != total {
+        return false;
+    }
+    if b.keys != keys {
+        return false;
+    }
+    check_right(block)
+}
+
+// The counts of n blocks, added up as they stand.
+fn total_of(blocks: &[u8], n: usize) -> usize
+    requires { ⌜ (n ≤ 82) × (n * 512 ≤ length (now blocks)) ⌝ }
+    ensures { λ r. ⌜ r ≡ countsFrom (now (blocks .entry)) 0 n ⌝ }
+{
+    let mut sum = 0;
+    let mut k = 0;
+    while k < n {
+        sum += two_bytes(blocks, k * Block::SIZE + 2);
+        k += 1;
+    }
+    sum
+}
+
+pub fn layout(blocks: &[u8], keys: usize) -> Laid
+    ensures { λ r. ⌜ laidSays r ≡ laidOut keys (now (blocks .entry)) ⌝ }
+{
+    let size = blocks.len();
+    if size == 0 {
+        return Laid::Refused(16, Place::Blocks(size));
+    }
+    if size % Block::SIZE != 0 {
+        return Laid::Refused(16, Place::Blocks(size));
+    }
+    if Block::MOST * Block::SIZE < size {
+        return Laid::Refused(16, Place::Blocks(size));
+    }
+    let n = size / Block::SIZE;
+    let total = total_of(blocks, n);
+    let mut k = 0;
+    while k < n {
+        let from = k * Block::SIZE;
+        if !block_right(
+            &blocks[from..from + Block::SIZE],
+            k,
+            n - (k + 1),
+            total,
+            keys,
+        ) {
+            return Laid::Refused(17, Place::Blocks(from));
+        }
+        k += 1;
+    }
+    Laid::Total(total)
+}

@@ -1,0 +1,17 @@
+// Numbers up to 2^128 - 1, held exactly, and whole numbers, which are such a number with a sign.
+//
+// A Magnitude is four 32-bit limbs by value. Its operations are told by the number that the limbs stand for
+// (`value`), and a Whole's by the whole number (`wholeOf`), so no caller needs to look at a limb. All of them
+// take every value: only those that read or write bytes ask that the bytes be there.
+mod bytes;
+mod compare;
+mod digits;
+mod magnitude;
+mod mask;
+mod whole;
+mod width;
+
+pub use bytes::word;
+pub use digits::Grown;
+pub use magnitude::Magnitude;
+pub use whole::Whole;

@@ -1,0 +1,98 @@
+// Numbers modulo 2^w, for every w. Of what could be longer than 128 bits, a negation and a row of ones, those bits are
+// given: there a w past 128 counts as 128.
+ghost use mathlib.Core.Path.{_≡_};
+ghost use Prim.Native.Nat.{_+_, _-_, _*_, _%_, _^_, min};
+ghost use lib.Dec.{eqb, ltb};
+ghost use lib.IntN.{pos, negℤ};
+ghost use Rattle.paper.specs.Numbers.{modulo};
+ghost use Rattle.number.specs.Values.{bit, value};
+use crate::magnitude::Magnitude;
+
+// The lowest w bits of a limb.
+fn low(limb: u32, w: u32) -> u32
+    ensures { λ r. ⌜ r ≡ limb % 2 ^ w ⌝ }
+{
+    if 32 <= w {
+        return limb;
+    }
+    limb % (1 << w)
+}
+
+// How far w reaches past n.
+fn past(w: u32, n: u32) -> u32
+    ensures { λ r. ⌜ r ≡ w - n ⌝ }
+{
+    if w < n { 0 } else { w - n }
+}
+
+struct Borrowed {
+    limb: u32,
+    owed: bool,
+}
+
+// A limb taken from zero, and one more where the limb below owes it.
+fn taken(limb: u32, owed: bool) -> Borrowed
+    ensures { λ r. ⌜ r .limb + limb + bit owed ≡ 2 ^ 32 * bit (r .owed) ⌝ }
+{
+    if owed {
+        return Borrowed {
+            limb: std::num::wrapping_sub_u32(u32::MAX, limb),
+            owed: true,
+        };
+    }
+    Borrowed {
+        limb: std::num::wrapping_sub_u32(0, limb),
+        owed: limb != 0,
+    }
+}
+
+impl Magnitude {
+    pub fn lowest(self, w: u32) -> Magnitude
+        ensures { λ r. ⌜ value r ≡ value self % 2 ^ w ⌝ }
+    {
+        Magnitude {
+            limbs: [
+                low(self.limbs[0], w),
+                low(self.limbs[1], past(w, 32)),
+                low(self.limbs[2], past(w, 64)),
+                low(self.limbs[3], past(w, 96)),
+            ],
+        }
+    }
+
+    pub fn minus(self, w: u32) -> Magnitude
+        ensures { λ r. ⌜ value r ≡ modulo (negℤ (pos (value self))) (2 ^ min w 128) ⌝ }
+    {
+        let a = taken(self.limbs[0], false);
+        let b = taken(self.limbs[1], a.owed);
+        let c = taken(self.limbs[2], b.owed);
+        let d = taken(self.limbs[3], c.owed);
+        let all = Magnitude {
+            limbs: [a.limb, b.limb, c.limb, d.limb],
+        };
+        all.lowest(w)
+    }
+
+    // A row of w ones.
+    pub fn ones(w: u32) -> Magnitude
+        ensures { λ r. ⌜ value r ≡ 2 ^ min w 128 - 1 ⌝ }
+    {
+        let all = Magnitude {
+            limbs: [u32::MAX, u32::MAX, u32::MAX, u32::MAX],
+        };
+        all.lowest(w)
+    }
+
+    pub fn fits(self, w: u32) -> bool
+        ensures { λ r. ⌜ r ≡ ltb (value self) (2 ^ w) ⌝ }
+    {
+        self.lowest(w).equal(self)
+    }
+
+    // Whether the lowest k bits are zero.
+    pub fn low_clear(self, k: u32) -> bool
+        ensures { λ r. ⌜ r ≡ eqb (value self % 2 ^ k) 0 ⌝ }
+    {
+        self.lowest(k).is_zero()
+    }
+}

@@ -1,0 +1,190 @@
+-- A tree has a value on an entry exactly where it has a type, and it is of that type.
+use Prim.Native.Nat.{ℕ}
+use native.Mathlib.Omega.{arith}
+use mathlib.Core.Path.{_≡_, refl, sym, ap, ap₂, _∙_}
+use mathlib.Core.Bool.{Bool, true, false, cond, and-eq-true-iff, false≢true}
+use mathlib.Core.Option.{Option, none, some, Option·map, Option·some-injective, Option·none-ne-some, Option·some-ne-none}
+use lib.Dec.{eqb}
+use borrow.Author.Tests.{eqb-true, eq-eqb}
+use Rattle.paper.specs.Answers.{Answer, ok, refused, _>>=_}
+use Rattle.paper.specs.Tokens.{bytes, sameBytes, Prefix, notSign, minusSign, Comparison}
+use Rattle.paper.specs.Keys.{Kind, exact, ternary, lpm, range, optional, kindNo, kindOf, find}
+use Rattle.paper.specs.Grammar as G
+use Rattle.paper.specs.Grammar.{Tree}
+use Rattle.paper.specs.Types.{Ty, bool, int, of, sameTy, when, andThen, Field, fieldNamed, fieldType, bareType, prefixType, joinType, takes, meet, compareType, comparisonType, operatorType, known, namedType, typeOf, rootType, typed}
+use Rattle.paper.specs.Meaning.{Value, truth, whole, matched, tyOf, bareValue, fieldValue, prefixValue, connective, oneValue, asNumber, inType, compareValue, comparisonValue, valueOf}
+use Rattle.paper.specs.Translating.{hasType}
+use Rattle.paper.specs.Meant.{ValuesHaveTypes, TypedMeant, Judged}
+use Rattle.paper.proofs.Basics.{map-when}
+use Rattle.paper.proofs.Stages.{never-ok, bind-ok}
+use Rattle.paper.proofs.Sound.{not-follows, negate-follows, join-follows, compare-follows, key-follows, field-value-follows}
+
+-- types that pass for the same are the same
+
+kind-back : (k : Kind) → kindOf (kindNo k) ≡ k
+kind-back exact = refl
+kind-back ternary = refl
+kind-back lpm = refl
+kind-back range = refl
+kind-back optional = refl
+
+pub same-types : (a b : Ty) → sameTy a b ≡ true → a ≡ b
+same-types bool bool h = refl
+same-types bool int h = absurd (false≢true h)
+same-types bool (of k w) h = absurd (false≢true h)
+same-types int bool h = absurd (false≢true h)
+same-types int int h = refl
+same-types int (of k w) h = absurd (false≢true h)
+same-types (of k w) bool h = absurd (false≢true h)
+same-types (of k w) int h = absurd (false≢true h)
+same-types (of k w) (of l x) h =
+    let both = and-eq-true-iff (eqb (kindNo k) (kindNo l)) (eqb w x) .0 h in
+    ap₂ of (sym (kind-back k) ∙ ap kindOf (eqb-true (kindNo k) (kindNo l) (both .0)) ∙ kind-back l) (eqb-true w x (both .1))
+
+pub same-self : (a : Ty) → sameTy a a ≡ true
+same-self bool = refl
+same-self int = refl
+same-self (of k w) = and-eq-true-iff (eqb (kindNo k) (kindNo k)) (eqb w w) .1 (eq-eqb (kindNo k) (kindNo k) refl, eq-eqb w w refl)
+
+-- the type in which two operands meet is one that both can take
+
+pub record Becomes (m : Ty) (a : Value) : Type 0 where
+  pub into : Value
+  pub there : inType m a ≡ some into
+  pub type : tyOf into ≡ m
+
+own : (a : Value) → inType (tyOf a) a ≡ some a
+own (truth b) = refl
+own (whole z) = refl
+own (matched k w m) = rw (same-self (of k w))
+
+becomes-own : (m : Ty) (a : Value) → tyOf a ≡ m → Becomes m a
+becomes-own m a h = record { into = a; there = rw (← h) (own a); type = h }
+
+taken : (m : Ty) (a : Value) → takes m (tyOf a) ≡ true → Becomes m a
+taken bool a h = absurd (false≢true h)
+taken int a h = absurd (false≢true h)
+taken (of k w) a h = go (sameTy (tyOf a) (of k w)) refl
+  where
+    go : (s : Bool) → sameTy (tyOf a) (of k w) ≡ s → Becomes (of k w) a
+    go true e = becomes-own (of k w) a (same-types (tyOf a) (of k w) e)
+    go false e = record { into = matched k w (oneValue k w (asNumber w a)); there = rw (e, h); type = refl }
+
+pub meets : (a b : Value) (m : Ty) → meet (tyOf a) (tyOf b) ≡ some m → Becomes m a × Becomes m b
+meets a b m h = go (sameTy (tyOf a) (tyOf b)) (takes (tyOf b) (tyOf a)) (takes (tyOf a) (tyOf b)) refl refl refl h
+  where
+    go : (s t u : Bool) → sameTy (tyOf a) (tyOf b) ≡ s → takes (tyOf b) (tyOf a) ≡ t → takes (tyOf a) (tyOf b) ≡ u
+        → cond s (some (tyOf a)) (cond t (some (tyOf b)) (when u (tyOf a))) ≡ some m → Becomes m a × Becomes m b
+    go true t u same _ _ e =
+        (becomes-own m a (Option·some-injective _ _ e), becomes-own m b (sym (same-types _ _ same) ∙ Option·some-injective _ _ e))
+    go false true u _ left _ e =
+        let at : tyOf b ≡ m = Option·some-injective _ _ e in
+        (taken m a (rw (← at) left), becomes-own m b at)
+    go false false true _ _ right e =
+        let at : tyOf a ≡ m = Option·some-injective _ _ e in
+        (becomes-own m a at, taken m b (rw (← at) right))
+    go false false false _ _ _ e = absurd (Option·none-ne-some m e)
+
+-- operators
+
+prefix-follows : (o : Prefix) (a : Value) → prefixType o (tyOf a) ≡ Option·map tyOf (prefixValue o a)
+prefix-follows notSign a = not-follows a
+prefix-follows minusSign a = negate-follows a
+
+comparison-follows : (c : Comparison) (a b : Value) → comparisonType c (tyOf a) (tyOf b) ≡ Option·map tyOf (comparisonValue c a b)
+comparison-follows c a b = go (meet (tyOf a) (tyOf b)) refl
+  where
+    go : (o : Option Ty) → meet (tyOf a) (tyOf b) ≡ o
+        → andThen o (λ m. compareType c m m)
+        ≡ Option·map tyOf (andThen o (λ m. andThen (inType m a) (λ x. andThen (inType m b) (λ y. compareValue c x y))))
+    go none e = refl
+    go (some m) e =
+        let both = meets a b m e in
+        let x = both .0 in
+        let y = both .1 in
+        rw (x .there, y .there) (sym (ap₂ (compareType c) (x .type) (y .type)) ∙ compare-follows c (x .into) (y .into))
+
+-- trees
+
+has-named : (at : ℕ) (o : Option Ty) → hasType (namedType at o) ≡ o
+has-named at none = refl
+has-named at (some a) = refl
+
+has-operator : (at : ℕ) (o : Option Ty) → hasType (operatorType at o) ≡ o
+has-operator at none = refl
+has-operator at (some a) = refl
+
+key-typed : (at to : ℕ) (o : Option ℕ) (f : ℕ → Option Ty) (g : ℕ → Option Value) → ((k : ℕ) → f k ≡ Option·map tyOf (g k))
+    → hasType (known at o >>= λ k. namedType to (f k)) ≡ Option·map tyOf (andThen o g)
+key-typed at to none f g same = refl
+key-typed at to (some k) f g same = has-named to (f k) ∙ same k
+
+-- what is made of an operand
+operand-typed : (x : Answer Ty) (o : Option Value) (f : Ty → Answer Ty) (g : Value → Option Value)
+    → ((a : Value) → hasType (f (tyOf a)) ≡ Option·map tyOf (g a)) → hasType x ≡ Option·map tyOf o
+    → hasType (x >>= f) ≡ Option·map tyOf (andThen o g)
+operand-typed (ok a) none f g same h = absurd (Option·some-ne-none a h)
+operand-typed (ok a) (some v) f g same h = rw (Option·some-injective a (tyOf v) h) (same v)
+operand-typed (refused n i at) none f g same h = refl
+operand-typed (refused n i at) (some v) f g same h = absurd (Option·none-ne-some (tyOf v) h)
+
+pub values-have-types : ValuesHaveTypes
+unfolding typeOf valueOf
+values-have-types ks e covers (G.truth at b) = refl
+values-have-types ks e covers (G.number at n) = refl
+values-have-types ks e covers (G.key at w) = key-typed at at (find ks w) (bareType ks) (bareValue ks e) (key-follows ks e covers)
+values-have-types ks e covers (G.field at w to f) =
+    key-typed at to (find ks w) (λ k. andThen (fieldNamed f) (λ g. fieldType ks g k)) (λ k. andThen (fieldNamed f) (λ g. fieldValue ks e g k))
+    (λ k. go k (fieldNamed f))
+  where
+    go : (k : ℕ) (o : Option Field) → andThen o (λ g. fieldType ks g k) ≡ Option·map tyOf (andThen o (λ g. fieldValue ks e g k))
+    go k none = refl
+    go k (some g) = field-value-follows ks e covers g k
+values-have-types ks e covers (G.attribute at to f) =
+    has-named to (when (sameBytes f (bytes "priority")) int) ∙ map-when tyOf (sameBytes f (bytes "priority")) (whole _)
+values-have-types ks e covers (G.prefixed at o t) =
+    operand-typed (typeOf ks t) (valueOf ks e t) _ (prefixValue o) (λ a. has-operator at (prefixType o (tyOf a)) ∙ prefix-follows o a)
+    (values-have-types ks e covers t)
+values-have-types ks e covers (G.joined at o l r) =
+    operand-typed (typeOf ks l) (valueOf ks e l) _ _
+    (λ a.
+    operand-typed (typeOf ks r) (valueOf ks e r) _ _
+    (λ b. has-operator at (joinType (tyOf a) (tyOf b)) ∙ join-follows (connective o) a b)
+    (values-have-types ks e covers r))
+    (values-have-types ks e covers l)
+values-have-types ks e covers (G.compared at c l r) =
+    operand-typed (typeOf ks l) (valueOf ks e l) _ _
+    (λ a.
+    operand-typed (typeOf ks r) (valueOf ks e r) _ _
+    (λ b. has-operator at (comparisonType c (tyOf a) (tyOf b)) ∙ comparison-follows c a b)
+    (values-have-types ks e covers r))
+    (values-have-types ks e covers l)
+
+-- a value of the type
+
+of-type : (o : Option Value) (a : Ty) → some a ≡ Option·map tyOf o → (v : Value) × (o ≡ some v) × (tyOf v ≡ a)
+of-type none a h = absurd (Option·some-ne-none a h)
+of-type (some v) a h = (v, refl, sym (Option·some-injective a (tyOf v) h))
+
+pub typed-meant : TypedMeant
+typed-meant ks e covers t a h =
+    let v = of-type (valueOf ks e t) a (sym (ap hasType h) ∙ values-have-types ks e covers t) in
+    record { worth = v .0; there = v .1; type = v .2 }
+
+pub bool-root : (t : Tree) (a : Ty) (u : Unit {0}) → rootType t a ≡ ok u → a ≡ bool
+bool-root t bool u h = refl
+bool-root t int u h = absurd (never-ok h)
+bool-root t (of k w) u h = absurd (never-ok h)
+
+a-truth : (v : Value) → tyOf v ≡ bool → (b : Bool) × (v ≡ truth b)
+a-truth (truth b) h = (b, refl)
+a-truth (whole z) h = absurd (let z : _≡_ {A = ℕ} 0 1 = cc in omega arith)
+a-truth (matched k w m) h = absurd (let z : _≡_ {A = ℕ} 0 1 = cc in omega arith)
+
+pub judged : Judged
+unfolding typed
+judged ks e covers t h =
+    let root = bind-ok (typeOf ks t) (rootType t) tt h in
+    let v = typed-meant ks e covers t (root .0) (root .1) in
+    let b = a-truth (v .worth) (v .type ∙ bool-root t (root .0) tt (root .2)) in
+    (b .0, v .there ∙ ap (λ x. some x) (b .1))

@@ -1,0 +1,30 @@
+-- Laws of answers in stages: what is known of a call that passes.
+use Prim.Native.Nat.{ℕ}
+use native.Mathlib.Omega.{arith}
+use mathlib.Core.Path.{_≡_, refl}
+use mathlib.Core.Bool.{Bool, true, false}
+use Rattle.paper.specs.Answers.{Answer, ok, refused, _>>=_, require, Input}
+
+-- a property of what is answered, if anything is
+abbrev pub Of : {A : Type 0} → (A → Type 0) → Answer A → Type 0
+Of P (ok a) = P a
+Of P (refused n i at) = Unit {0}
+
+pub never-ok : {A : Type 0} {n : ℕ} {i : Input} {at : ℕ} {a : A} → refused n i at ≡ ok a → ⊥
+never-ok e = let z : _≡_ {A = ℕ} 0 1 = cc in omega arith
+
+-- both stages passed
+pub bind-ok : {A B : Type 0} (x : Answer A) (f : A → Answer B) (b : B) → (x >>= f) ≡ ok b → (a : A) × (x ≡ ok a) × (f a ≡ ok b)
+bind-ok (ok a) f b e = (a, refl, e)
+bind-ok (refused n i at) f b e = absurd (never-ok e)
+
+-- the test passed
+pub require-ok : (t : Bool) (n : ℕ) (i : Input) (at : ℕ) (u : Unit {0}) → require t n i at ≡ ok u → t ≡ true
+require-ok true n i at u e = refl
+require-ok false n i at u e = absurd (never-ok e)
+
+-- a property along two stages
+pub of-bind : {A B : Type 0} (P : A → Type 0) (Q : B → Type 0) (x : Answer A) (f : A → Answer B) → Of P x → ((a : A) → P a → Of Q (f a))
+    → Of Q (x >>= f)
+of-bind P Q (ok a) f h k = k a h
+of-bind P Q (refused n i at) f h k = tt

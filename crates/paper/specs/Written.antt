@@ -1,0 +1,84 @@
+-- What it means that instructions and blocks read back as they were written.
+use Prim.Native.Nat.{ℕ, _*_, _^_, _≤_, _<_}
+use mathlib.Core.Path.{_≡_}
+use mathlib.Core.Option.{some}
+use mathlib.Core.List.{List, [], _∷_, _++_, map}
+use lib.ListN.{length, drop}
+use Rattle.paper.specs.Answers.{ok}
+use Rattle.paper.specs.Keys.{Key, mostKeys, keys}
+use Rattle.paper.specs.Grammar.{Tree, truth, number, key, field, attribute, prefixed, joined, compared}
+use Rattle.paper.specs.Code.{Instruction, pushBool, pushInt, pushKey, pushField, pushPriority, invert, negate, convert, compare, connects, partsOf, encode, partsAt, decode}
+use Rattle.paper.specs.Blocks.{blockSize, inBlock, mostBlocks, blocksNeeded, blocksOf, totalOf, layout}
+use Rattle.paper.specs.Loading.{program}
+use Rattle.paper.specs.Translating.{codeOf}
+use Rattle.paper.specs.Calls.{tree}
+
+-- "width W, 1 to 128"
+abbrev pub Width : ℕ → Type 0
+Width w = (1 ≤ w) × (w ≤ 128)
+
+-- "two-byte operand, 16-byte constant", and "operand W, 1 to 128"
+abbrev pub InRange : Instruction → Type 0
+InRange (pushBool b) = Unit {0}
+InRange (pushInt n) = n < 2 ^ 128
+InRange (pushKey k) = k < 2 ^ 16
+InRange (pushField f k) = k < 2 ^ 16
+InRange pushPriority = Unit {0}
+InRange invert = Unit {0}
+InRange negate = Unit {0}
+InRange (convert k w) = Width w
+InRange (compare c) = Unit {0}
+InRange (connects o) = Unit {0}
+
+-- of each element of a list
+abbrev pub All : {A : Type 0} → (A → Type 0) → List A → Type 0
+All P [] = Unit {0}
+All P (a ∷ s) = P a × All P s
+
+-- by its parts
+abbrev pub PartsBack : Type 0
+PartsBack = (i : Instruction) → InRange i → decode (partsOf i) ≡ some i
+
+-- by its bytes, wherever they stand
+abbrev pub BytesBack : Type 0
+BytesBack =
+    (i : Instruction) → InRange i → (s rest : List ℕ) (at : ℕ) → drop at s ≡ encode i ++ rest → decode (partsAt s at) ≡ some i
+
+-- the blocks of a sequence
+pub record Written (keys : ℕ) (code : List Instruction) (blocks : List ℕ) : Type 0 where
+  pub size : length blocks ≡ blockSize * blocksNeeded (length code)
+  pub passes : layout keys blocks ≡ ok tt
+  pub total : totalOf blocks ≡ length code
+  pub back : program blocks ≡ map some code
+
+abbrev pub BlocksBack : Type 0
+BlocksBack =
+    (keys : ℕ) (code : List Instruction) → keys ≤ mostKeys → 1 ≤ length code → length code ≤ mostBlocks * inBlock → All InRange code
+    → Written keys code (blocksOf keys code)
+
+-- a key list that passes
+pub record Listed (ks : List Key) : Type 0 where
+  pub few : length ks ≤ mostKeys
+  pub widths : All (λ k. Width (k .width)) ks
+
+abbrev pub KeysListed : Type 0
+KeysListed = (list : List ℕ) (ks : List Key) → keys list ≡ ok ks → Listed ks
+
+-- every number of a tree is below 2^128
+abbrev pub NumbersFit : Tree → Type 0
+NumbersFit (truth at b) = Unit {0}
+NumbersFit (number at n) = n < 2 ^ 128
+NumbersFit (key at w) = Unit {0}
+NumbersFit (field at w to f) = Unit {0}
+NumbersFit (attribute at to f) = Unit {0}
+NumbersFit (prefixed at o t) = NumbersFit t
+NumbersFit (joined at o l r) = NumbersFit l × NumbersFit r
+NumbersFit (compared at c l r) = NumbersFit l × NumbersFit r
+
+-- of a text, by 6 and by what addresses are
+abbrev pub NumbersRead : Type 0
+NumbersRead = (text : List ℕ) (t : Tree) → tree text ≡ ok t → NumbersFit t
+
+-- the code of a tree can be written
+abbrev pub CodeInRange : Type 0
+CodeInRange = (ks : List Key) → Listed ks → (t : Tree) → NumbersFit t → All InRange (codeOf ks t)

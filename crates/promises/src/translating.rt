@@ -1,0 +1,39 @@
+// Translating a text, and what its blocks say.
+ghost use Rattle.paper.specs.Translated.{CodeCounted, CodeFits, FewHeld};
+ghost use Rattle.paper.specs.Written.{BlocksBack};
+ghost use Rattle.paper.specs.Carried.{TranslationCarries, CheckedTranslates, RefusedUnchanged};
+
+// The instructions are the nodes of the tree plus the conversions.
+pub fn instructions_counted()
+    ensures { λ _. ⌜ CodeCounted ⌝ }
+{}
+
+// They fit 82 blocks.
+pub fn translation_fits()
+    ensures { λ _. ⌜ CodeFits ⌝ }
+{}
+
+// A translation holds at most 326 values.
+pub fn few_values_held()
+    ensures { λ _. ⌜ FewHeld ⌝ }
+{}
+
+// Blocks that are written read back as the instructions that were written.
+pub fn blocks_read_back()
+    ensures { λ _. ⌜ BlocksBack ⌝ }
+{}
+
+// The blocks written load with the list, and running them on any entry gives the judgement of the text, refusals included.
+pub fn translation_carries_the_judgement()
+    ensures { λ _. ⌜ TranslationCarries ⌝ }
+{}
+
+// A text that passes is translated into a buffer of 82 blocks.
+pub fn checked_texts_translate()
+    ensures { λ _. ⌜ CheckedTranslates ⌝ }
+{}
+
+// A refused translation leaves the buffer as it was.
+pub fn refusals_change_nothing()
+    ensures { λ _. ⌜ RefusedUnchanged ⌝ }
+{}

@@ -1,3 +1,5 @@
-mod Numbered
+pub mod Held
+mod Meeting
+pub mod Numbered
 mod Rules
 mod Words

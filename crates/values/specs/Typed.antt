@@ -1,7 +1,7 @@
 -- What the crate's types, and its answers about them, stand for.
 use mathlib.Core.Option.{Option, none, some}
 use Rattle.paper.specs.Keys.{kindOf}
-use Rattle.paper.specs.Code.{fieldOf}
+use Rattle.paper.specs.Code.{fieldNo}
 use Rattle.paper.specs.Types.{Ty, bool, int, of, Field}
 use Rattle.values.specs.declared.types.Type as T
 use Rattle.values.specs.declared.types.Type.the-variants.{Bool, Int, Of}
@@ -19,6 +19,6 @@ abbrev pub typingMeant : Typing → Option Ty
 typingMeant (Is a) = some (tyMeant a)
 typingMeant Wrong = none
 
-abbrev pub namedMeant : Named → Option Field
-namedMeant (N.Field n) = some (fieldOf n)
-namedMeant N.Nothing = none
+abbrev pub namedOf : Option Field → Named
+namedOf none = N.Nothing
+namedOf (some f) = N.Field (fieldNo f)

@@ -1,18 +1,17 @@
 // Fields of a key, and the names after "::".
 ghost use mathlib.Core.Path.{_≡_};
 ghost use mathlib.Core.Bool.{cond};
-ghost use mathlib.Core.Option.{some};
 ghost use Rattle.paper.specs.Tokens.{bytes, sameBytes};
 ghost use Rattle.paper.specs.Keys.{kindOf};
 ghost use Rattle.paper.specs.Code.{fieldOf};
 ghost use Rattle.paper.specs.Types as paper;
 ghost use Rattle.paper.specs.Types.{when, fieldTy, fieldNamed};
-ghost use Rattle.values.specs.Typed.{tyMeant, typingMeant, namedMeant};
+ghost use Rattle.values.specs.Typed.{tyMeant, typingMeant, namedOf};
 use crate::types;
 use crate::types::Type;
 use crate::types::Typing;
 
-// A field by its number, 0 value, 1 mask, 2 prefix_length, 3 low, 4 high. Any number over 4 is read as 4.
+// A field's number: 0 value, 1 mask, 2 prefix_length, 3 low, 4 high.
 pub enum Named {
     Field(u8),
     Nothing,
@@ -52,7 +51,7 @@ fn same_bytes(a: &[u8], b: &[u8]) -> bool
 }
 
 fn spelled(word: &[u8], name: &[u8], field: u8, other: Named) -> Named
-    ensures { λ r. ⌜ namedMeant r ≡ cond (sameBytes (now (word .entry)) (now (name .entry))) (some (fieldOf field)) (namedMeant other) ⌝ }
+    ensures { λ r. ⌜ r ≡ cond (sameBytes (now (word .entry)) (now (name .entry))) (Named.Field field) other ⌝ }
 {
     if same_bytes(word, name) {
         return Named::Field(field);
@@ -61,7 +60,7 @@ fn spelled(word: &[u8], name: &[u8], field: u8, other: Named) -> Named
 }
 
 pub fn field_named(word: &[u8]) -> Named
-    ensures { λ r. ⌜ namedMeant r ≡ fieldNamed (now (word .entry)) ⌝ }
+    ensures { λ r. ⌜ r ≡ namedOf (fieldNamed (now (word .entry))) ⌝ }
 {
     let high = spelled(word, b"high", 4, Named::Nothing);
     let low = spelled(word, b"low", 3, high);

@@ -19,7 +19,8 @@ pub enum Typing {
     Wrong,
 }
 
-fn kind_number(kind: u8) -> u8
+// The number of the kind that a number is read as.
+pub fn kind_number(kind: u8) -> u8
     ensures { λ r. ⌜ r ≡ kindNo (kindOf kind) ⌝ }
 {
     if kind < 4 { kind } else { 4 }
@@ -76,7 +77,7 @@ pub fn takes(a: Type, b: Type) -> bool
     }
 }
 
-pub fn when(right: bool, a: Type) -> Typing
+pub(crate) fn when(right: bool, a: Type) -> Typing
     ensures { λ r. ⌜ typingMeant r ≡ paper.when right (tyMeant a) ⌝ }
 {
     if right { Typing::Is(a) } else { Typing::Wrong }

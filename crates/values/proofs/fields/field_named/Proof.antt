@@ -1,4 +1,5 @@
-use mathlib.Core.Path.{_∙_}
+use mathlib.Core.Path.{sym, _∙_}
+use Rattle.values.proofs.Numbered.{named-if}
 use borrow.Author.Needs.{needs}
 use Rattle.values.proofs.fields.field_named.Statement.{statement}
 use Rattle.values.proofs.fields.field_named.Tie as tie
@@ -12,6 +13,7 @@ returns c =
       c .before .before .before .before .before .before .spelled2 .ensures,
       c .before .before .before .before .before .before .before .before .spelled .ensures,
     )
+    (sym (simp named-if))
 
 pub field-named-spec : {M : Type 1} → statement M
 field-named-spec =

@@ -5,12 +5,8 @@ use native.Mathlib.Numerals.{add-one}
 use native.Mathlib.Omega.{arith}
 use mathlib.Core.Path.{_≡_, refl, sym, _∙_, ap}
 use mathlib.Core.List.{List, [], _∷_}
-use lib.ListN.{length, getD, take, drop, length-drop, drop-of-length-le}
+use lib.ListN.{length, getD, drop, length-drop}
 use lib.Seq.{drop-cons}
-use lib.Dec.{eqb}
-use borrow.Author.Tests.{eq-eqb, ne-eqb}
-use mathlib.Core.Bool.{Bool, true, false}
-use Rattle.paper.specs.Keys.{allZero}
 use Rattle.paper.specs.Numbers.{numberAt}
 use Rattle.paper.specs.Blocks.{Sums, sumsFrom}
 
@@ -39,17 +35,3 @@ module _ (s : List ℕ) (i a b : ℕ) where
       short [] k = refl
       short (x ∷ []) k = refl
       short (x ∷ y ∷ l) k = absurd (omega arith)
-
--- zeros, an element at a time
-pub one-off : (s : List ℕ) (i : ℕ) → i < length s → drop i s ≡ getD s i 0 ∷ drop (i + 1) s
-one-off s i h = drop-cons s i 0 h ∙ ap (λ (n : ℕ). getD s i 0 ∷ drop n s) (sym (add-one i))
-
-module _ (s : List ℕ) (i : ℕ) where
-  pub zeros-on : i < length s → getD s i 0 ≡ 0 → allZero (drop i s) ≡ allZero (drop (i + 1) s)
-  zeros-on h e = rw (one-off s i h, eq-eqb _ _ e)
-
-  pub zeros-stop : i < length s → (getD s i 0 ≡ 0 → ⊥) → allZero (drop i s) ≡ false
-  zeros-stop h e = rw (one-off s i h, ne-eqb _ _ e)
-
-  pub zeros-end : length s ≤ i → allZero (drop i s) ≡ true
-  zeros-end h = rw (drop-of-length-le s h)

@@ -4,31 +4,18 @@ ghost use Prim.Native.Nat.{_+_, _*_, _/_, _≤_};
 ghost use lib.ListN.{length, take};
 ghost use Rattle.paper.specs.Numbers.{bytesAt};
 ghost use Rattle.paper.specs.Tokens.{sameBytes};
-ghost use Rattle.paper.specs.Keys.{allZero};
 ghost use Rattle.paper.specs.Blocks.{countOk, countsFrom, checkOf};
 ghost use Rattle.blocks.specs.Layout.{laidSays, laidOut, blockRight};
 use crate::fields::Block;
 use crate::fields::two_bytes;
 use crate::sums::sums_of;
+use keys::bytes;
 use paper::Place;
 
 // How many instructions the blocks hold, by their own counts.
 pub enum Laid {
     Total(usize),
     Refused(u8, Place),
-}
-
-fn all_zero(s: &[u8]) -> bool
-    ensures { λ r. ⌜ r ≡ allZero (now (s .entry)) ⌝ }
-{
-    let mut i = 0;
-    while i < s.len() {
-        if s[i] != 0 {
-            return false;
-        }
-        i += 1;
-    }
-    true
 }
 
 // 25 except in the last block, where it is 1 to 25.
@@ -78,7 +65,7 @@ fn block_right(block: &[u8], k: usize, later: usize, total: usize, keys: usize) 
         return false;
     }
     let from = Block::HEAD + Block::INSTRUCTION * count;
-    if !all_zero(&block[from..Block::TAIL]) {
+    if !bytes::all_zero(&block[from..Block::TAIL]) {
         return false;
     }
     if b.total != total {

@@ -11,9 +11,8 @@ use lib.Dec.{lit<}
 use lib.ListN.{length, set, length-set}
 use lib.Pow.{pow-add}
 use lib.Seq.{sets, getD-set-same, getD-set-other}
-use Rattle.paper.specs.Numbers.{byteAt, numberAt}
+use Rattle.paper.specs.Numbers.{byteAt, numberAt, bigEndian}
 use Rattle.number.specs.declared.magnitude.Magnitude.{Magnitude}
-use Rattle.number.specs.Bytes.{bigEndian}
 use Rattle.number.specs.Values.{limb, nested, value}
 use Rattle.number.proofs.Limbs.{Held, value-lt}
 
@@ -32,7 +31,6 @@ four-words s at =
     (numberAt s at 16) (number-more s at 4 4) (number-more s at 8 4) (number-more s at 12 4)
 
 pub length-bytes : (k n : ℕ) → length (bigEndian k n) ≡ k
-unfolding bigEndian
 length-bytes zero n = refl
 length-bytes (suc k) n = ap suc (length-bytes k n)
 
@@ -44,7 +42,6 @@ past-limb j a m h =
 
 -- the bytes of a number whose lowest limb is a
 bytes-digit : (j a m : ℕ) → a < 2 ^ 32 → bigEndian (j + 4) (a + 2 ^ 32 * m) ≡ bigEndian j m ++ bigEndian 4 a
-unfolding bigEndian
 bytes-digit zero a m h =
     let n = a + 2 ^ 32 * m in
     let b3 : n / 256 ^ 3 % 256 ≡ a / 256 ^ 3 % 256 = omega arith in
@@ -60,7 +57,6 @@ sets-append l i (x ∷ xs) ys = sets-append (set l i x) (suc i) xs ys ∙ rw (ad
 
 pub four-stores : (l : List ℕ) (at n : ℕ) → n < 2 ^ 32
     → set (set (set (set l at (n / 256 ^ 3)) (at + 1) (n / 256 ^ 2 % 256)) (at + 2) (n / 256 % 256)) (at + 3) (n % 256) ≡ sets l at (bigEndian 4 n)
-unfolding bigEndian
 four-stores l at n h =
     let e : n / 256 ^ 3 % 256 ≡ n / 256 ^ 3 = omega arith in
     let f : n / 256 ^ 0 % 256 ≡ n % 256 = omega arith in
@@ -98,7 +94,6 @@ first-kept l at x vs h = sets-before (set l at x) at (suc at) vs (omega arith) �
 
 -- what is written is read again
 pub number-written : (l : List ℕ) (at k n : ℕ) → at + k ≤ length l → numberAt (sets l at (bigEndian k n)) at k ≡ n % 256 ^ k
-unfolding bigEndian
 number-written l at zero n h = sym (mod-one n)
 number-written l at (suc k) n h =
     let x = n / 256 ^ k % 256 in

@@ -3,9 +3,8 @@ ghost use mathlib.Core.Path.{_≡_};
 ghost use Prim.Native.Nat.{_+_, _≤_, _<_};
 ghost use lib.ListN.{length};
 ghost use lib.Seq.{sets};
-ghost use Rattle.paper.specs.Numbers.{numberAt};
+ghost use Rattle.paper.specs.Numbers.{numberAt, bigEndian};
 ghost use Rattle.number.specs.Values.{value};
-ghost use Rattle.number.specs.Bytes.{bigEndian};
 use crate::magnitude::Magnitude;
 
 fn wide(byte: u8) -> u32

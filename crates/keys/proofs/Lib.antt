@@ -1,0 +1,7 @@
+mod Answering
+mod Steps
+mod Words
+pub mod Records
+mod Lookup
+mod Listing
+pub mod Checked

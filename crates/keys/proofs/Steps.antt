@@ -1,0 +1,60 @@
+-- Going through bytes one at a time: what a definition over a list is from an offset on, where the byte there passes and
+-- where it does not.
+use Prim.Native.Nat.{ℕ, suc, _+_, _-_, _≤_, _<_}
+use mathlib.Core.Path.{_≡_, refl, sym, ap, _∙_}
+use mathlib.Core.Bool.{Bool, true, false, not, cond}
+use mathlib.Core.List.{List, [], _∷_}
+use native.Mathlib.Omega.{arith}
+use lib.Dec.{eqb}
+use lib.ListN.{length, getD, take, drop, length-drop, drop-of-length-le}
+use lib.Seq.{take-all, drop-cons}
+use borrow.Author.Tests.{eq-eqb, ne-eqb, not-true, not-false}
+use Rattle.paper.specs.Tokens.{sameBytes}
+use Rattle.paper.specs.Keys.{allZero}
+
+-- after `if !test`, what the test is of
+pub refuted : {r t : Bool} → r ≡ t → not r ≡ true → t ≡ false
+refuted e h = sym e ∙ not-true _ h
+
+pub granted : {r t : Bool} → r ≡ t → not r ≡ false → t ≡ true
+granted e h = sym e ∙ not-false _ h
+
+pub cut : (s : List ℕ) (i : ℕ) → i < length s → drop i s ≡ getD s i 0 ∷ drop (i + 1) s
+cut s i h =
+    let e : i + 1 ≡ suc i = omega arith in
+    rw (e, drop-cons s i 0 h)
+
+-- a part up to the end
+pub to-end : (s : List ℕ) (i : ℕ) → take (length s - i) (drop i s) ≡ drop i s
+to-end s i = take-all (length s - i) (drop i s) (omega (arith, length-drop i s))
+
+module _ (s : List ℕ) (i : ℕ) where
+  pub zero-on : i < length s → getD s i 0 ≡ 0 → allZero (drop i s) ≡ allZero (drop (i + 1) s)
+  zero-on h e = rw (cut s i h, eq-eqb _ _ e)
+
+  pub zero-stop : i < length s → (getD s i 0 ≡ 0 → ⊥) → allZero (drop i s) ≡ false
+  zero-stop h e = rw (cut s i h, ne-eqb _ _ e)
+
+  pub zero-end : length s ≤ i → allZero (drop i s) ≡ true
+  zero-end h = rw (drop-of-length-le s h)
+
+fails : (b : Bool) → cond b false false ≡ false
+fails true = refl
+fails false = refl
+
+pub other-length : (a b : List ℕ) → (length a ≡ length b → ⊥) → sameBytes a b ≡ false
+other-length [] [] h = absurd (h refl)
+other-length [] (y ∷ b) h = refl
+other-length (x ∷ a) [] h = refl
+other-length (x ∷ a) (y ∷ b) h = rw (other-length a b (λ e. h (ap suc e))) (fails (eqb x y))
+
+module _ (a b : List ℕ) (i : ℕ) where
+  pub same-on : i < length a → i < length b → getD a i 0 ≡ getD b i 0 → sameBytes (drop i a) (drop i b) ≡ sameBytes
+      (drop (i + 1) a) (drop (i + 1) b)
+  same-on g h e = rw (cut a i g, cut b i h, eq-eqb _ _ e)
+
+  pub same-stop : i < length a → i < length b → (getD a i 0 ≡ getD b i 0 → ⊥) → sameBytes (drop i a) (drop i b) ≡ false
+  same-stop g h e = rw (cut a i g, cut b i h, ne-eqb _ _ e)
+
+  pub same-end : length a ≤ i → length b ≤ i → sameBytes (drop i a) (drop i b) ≡ true
+  same-end g h = rw (drop-of-length-le a g, drop-of-length-le b h)

@@ -1,0 +1,13 @@
+use Prim.Native.Nat.{ℕ, _+_}
+use mathlib.Core.Bool.{Bool, not, _&&_, _||_}
+use mathlib.Core.List.{List}
+use lib.ListN.{getD, drop}
+use Rattle.paper.specs.Tokens.{bytes, sameBytes, isIdByte, isIdStart, is, starts, isKey}
+
+-- the byte at i goes on a word: an id byte, or a dot that an id start follows
+abbrev pub goesOn : List ℕ → ℕ → Bool
+goesOn s i = isIdByte (getD s i 0) || is "." (getD s i 0) && starts isIdStart (drop (i + 1) s)
+
+-- "a key by 004's grammar and neither "true" nor "false""
+abbrev pub nameOk : List ℕ → Bool
+nameOk s = isKey s && not (sameBytes s (bytes "true")) && not (sameBytes s (bytes "false"))

@@ -1,0 +1,44 @@
+// Plain bytes.
+ghost use mathlib.Core.Path.{_≡_};
+ghost use Rattle.paper.specs.Tokens as paper;
+ghost use Rattle.paper.specs.Tokens.{sameBytes};
+ghost use Rattle.paper.specs.Keys.{allZero};
+
+pub fn within(low: u8, high: u8, byte: u8) -> bool
+    ensures { λ r. ⌜ r ≡ paper.within low high byte ⌝ }
+{
+    if byte < low {
+        return false;
+    }
+    byte <= high
+}
+
+// The lengths first: no byte is read that one of the two does not have.
+pub fn same_bytes(a: &[u8], b: &[u8]) -> bool
+    ensures { λ r. ⌜ r ≡ sameBytes (now (a .entry)) (now (b .entry)) ⌝ }
+{
+    if a.len() != b.len() {
+        return false;
+    }
+    let mut i = 0;
+    while i < a.len() {
+        if a[i] != b[i] {
+            return false;
+        }
+        i += 1;
+    }
+    true
+}
+
+pub fn all_zero(s: &[u8]) -> bool
+    ensures { λ r. ⌜ r ≡ allZero (now (s .entry)) ⌝ }
+{
+    let mut i = 0;
+    while i < s.len() {
+        if s[i] != 0 {
+            return false;
+        }
+        i += 1;
+    }
+    true
+}

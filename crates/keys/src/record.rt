@@ -1,0 +1,102 @@
+// A key's record in the key list.
+ghost use mathlib.Core.Path.{_≡_};
+ghost use Prim.Native.Nat.{_<_, _/_};
+ghost use lib.ListN.{length};
+ghost use Rattle.paper.specs.Numbers.{byteAt};
+ghost use Rattle.paper.specs.Keys.{recordAt, recordSize, recordOk, nameOf};
+ghost use Rattle.keys.specs.Words.{nameOk};
+use crate::bytes;
+use crate::word;
+
+pub struct KeyRecord {
+    pub kind: u8,
+    pub width: u8,
+}
+
+impl KeyRecord {
+    pub const SIZE: usize = 80;
+
+    pub const MOST: usize = 32;
+    // Where the name begins.
+    pub const NAME: usize = 16;
+
+    pub const LONGEST: u8 = 64;
+
+    pub const KINDS: u8 = 5;
+
+    pub const WIDEST: u8 = 128;
+
+    pub fn read(list: &[u8], k: usize) -> KeyRecord
+        requires { ⌜ k < length (now list) / recordSize ⌝ }
+        ensures { λ r. ⌜ r .kind ≡ byteAt (recordAt (now (list .entry)) k) 1 ⌝ }
+        ensures { λ r. ⌜ r .width ≡ byteAt (recordAt (now (list .entry)) k) 2 ⌝ }
+    {
+        let key = record_at(list, k);
+        KeyRecord {
+            kind: key[1],
+            width: key[2],
+        }
+    }
+}
+
+pub fn record_at(list: &[u8], k: usize) -> &[u8]
+    requires { ⌜ k < length (now list) / recordSize ⌝ }
+    ensures { λ r. ⌜ now r ≡ recordAt (now (list .entry)) k ⌝ }
+    ensures { λ r. ⌜ length (now r) ≡ recordSize ⌝ }
+{
+    let from = k * KeyRecord::SIZE;
+    let to = from + KeyRecord::SIZE;
+    &list[from..to]
+}
+
+// The name never leaves the record, whatever the record's first byte says.
+pub fn name_of(key: &[u8]) -> &[u8]
+    requires { ⌜ length (now key) ≡ recordSize ⌝ }
+    ensures { λ r. ⌜ now r ≡ nameOf (now (key .entry)) ⌝ }
+{
+    let size = key[0];
+    if KeyRecord::LONGEST < size {
+        return &key[KeyRecord::NAME..];
+    }
+    let end = KeyRecord::NAME + size as usize;
+    &key[KeyRecord::NAME..end]
+}
+
+fn name_ok(s: &[u8]) -> bool
+    ensures { λ r. ⌜ r ≡ nameOk (now (s .entry)) ⌝ }
+{
+    if !word::is_key(s) {
+        return false;
+    }
+    if bytes::same_bytes(s, b"true") {
+        return false;
+    }
+    !bytes::same_bytes(s, b"false")
+}
+
+pub fn record_ok(key: &[u8]) -> bool
+    requires { ⌜ length (now key) ≡ recordSize ⌝ }
+    ensures { λ r. ⌜ r ≡ recordOk (now (key .entry)) ⌝ }
+{
+    let size = key[0];
+    if size == 0 {
+        return false;
+    }
+    if KeyRecord::LONGEST < size {
+        return false;
+    }
+    if KeyRecord::KINDS <= key[1] {
+        return false;
+    }
+    if !bytes::within(1, KeyRecord::WIDEST, key[2]) {
+        return false;
+    }
+    if !bytes::all_zero(&key[3..KeyRecord::NAME]) {
+        return false;
+    }
+    if !name_ok(name_of(key)) {
+        return false;
+    }
+    let end = KeyRecord::NAME + size as usize;
+    bytes::all_zero(&key[end..])
+}

@@ -1,1 +1,3 @@
+pub mod Scanned
 pub mod Tape
+pub mod Tokenized

@@ -1,0 +1,33 @@
+use mathlib.Core.Path.{ap, sym, _∙_}
+use native.Mathlib.Omega.{arith}
+use borrow.Author.Needs.{needs}
+use lib.ListN.{drop}
+use Rattle.paper.specs.Tokens.{spelled}
+use Rattle.spelling.proofs.Numbers.{spelled-short, spelled-plain, spelled-by}
+use Rattle.spelling.proofs.numerals.announced.Statement.{statement}
+use Rattle.spelling.proofs.numerals.announced.Tie as tie
+
+returns : tie.Need-returns
+returns c = record { says = spelled-short (c .before .before .args .run .now) (c .if1 .taken); long = omega arith }
+
+returns-2 : tie.Need-returns-2
+returns-2 c = record { says = spelled-plain (c .before .before .before .before .args .run .now) (c .if2 .taken); long = omega arith }
+
+returns-3 : tie.Need-returns-3
+returns-3 c =
+    let s = c .before .before .before .before .before .before .args .run .now in
+    record {
+      says = spelled-by s (search needs) (c .before .before .if2 .left) ∙ ap (λ b. spelled b s (drop 2 s)) (sym (c .base-of .ensures));
+      long = omega arith;
+    }
+
+pub announced-spec : {M : Type 1} → statement M
+announced-spec =
+    tie.close
+    (tie.spec
+    returns
+    (λ c. search needs)
+    returns-2
+    (λ c. search needs)
+    (λ c κs. search needs)
+    returns-3)

@@ -1,0 +1,115 @@
+// Numerals: (0[dD])? [0-9]+, 0[bB] [0-1]+, 0[oO] [0-7]+, 0[xX] [0-9a-fA-F]+.
+ghost use mathlib.Core.Path.{_≡_};
+ghost use mathlib.Core.List.{map};
+ghost use Prim.Native.Nat.{_<_};
+ghost use Rattle.paper.specs.Numbers.{inBase};
+ghost use Rattle.paper.specs.Tokens.{baseOf, digitOf, spelling};
+ghost use Rattle.spelling.specs.Numerals.{baseSaid, Announces, Counts, Spells, inBaseOf};
+use crate::bytes;
+use crate::runs;
+use crate::runs::Run;
+use number::Grown;
+use number::Magnitude;
+
+pub enum Sort {
+    Fits,
+    TooLarge,
+    NoNumeral,
+}
+
+// What a run is; the number is that of a numeral that fits.
+pub struct Numeral {
+    pub sort: Sort,
+    pub number: Magnitude,
+}
+
+// The base that a letter announces behind a first 0, and 0 for none.
+fn base_of(letter: u8) -> u8
+    ensures { λ r. ⌜ baseSaid r ≡ baseOf letter ⌝ }
+{
+    match letter {
+        b'd' | b'D' => 10,
+        b'b' | b'B' => 2,
+        b'o' | b'O' => 8,
+        b'x' | b'X' => 16,
+        _ => 0,
+    }
+}
+
+fn announced(run: &[u8]) -> u8
+    ensures { λ r. ⌜ Announces (now (run .entry)) r ⌝ }
+{
+    if run.len() < 2 {
+        return 0;
+    }
+    if run[0] != b'0' {
+        return 0;
+    }
+    base_of(run[1])
+}
+
+// What digits count, as far as it fits.
+fn count(digits: &[u8], base: u8) -> Grown
+    requires { ⌜ 0 < base ⌝ }
+    ensures { λ r. ⌜ Counts (inBase base (map digitOf (now (digits .entry)))) r ⌝ }
+{
+    let mut number = Magnitude::zero();
+    let mut i = 0;
+    while i < digits.len() {
+        let grown = number.grow(base as u32, bytes::digit_of(digits[i]) as u32);
+        if !grown.ok {
+            return grown;
+        }
+        number = grown.number;
+        i += 1;
+    }
+    Grown {
+        ok: true,
+        number: number,
+    }
+}
+
+fn no_numeral() -> Numeral
+    ensures { λ r. ⌜ r .sort ≡ Sort.NoNumeral ⌝ }
+{
+    Numeral {
+        sort: Sort::NoNumeral,
+        number: Magnitude::zero(),
+    }
+}
+
+fn in_base(digits: &[u8], base: u8) -> Numeral
+    requires { ⌜ 0 < base ⌝ }
+    ensures { λ r. ⌜ Spells (inBaseOf base (now (digits .entry))) r ⌝ }
+{
+    let end = runs::run_end(digits, 0, Run::Digits(base));
+    if end == 0 {
+        return no_numeral();
+    }
+    if end < digits.len() {
+        return no_numeral();
+    }
+    let grown = count(digits, base);
+    let number = grown.number;
+    if grown.ok {
+        return Numeral {
+            sort: Sort::Fits,
+            number: number,
+        };
+    }
+    Numeral {
+        sort: Sort::TooLarge,
+        number: number,
+    }
+}
+
+// The whole of a run that starts with a digit.
+pub fn read_numeral(run: &[u8]) -> Numeral
+    ensures { λ r. ⌜ Spells (spelling (now (run .entry))) r ⌝ }
+{
+    let base = announced(run);
+    if base == 0 {
+        return in_base(run, 10);
+    }
+    in_base(&run[2..], base)
+}

@@ -1,0 +1,49 @@
+// Runs: bytes of one sort that stand together.
+ghost use mathlib.Core.Path.{_≡_};
+ghost use Prim.Native.Nat.{_≤_};
+ghost use lib.ListN.{length, drop};
+ghost use Rattle.paper.specs.Tokens.{span};
+ghost use Rattle.spelling.specs.Runs.{inRun, EndsAt};
+use crate::bytes;
+
+pub enum Run {
+    // Letters, digits and underscores.
+    Name,
+    // What is left of a line.
+    Line,
+    // What may stand between two quotes.
+    Quoted,
+    // Digits of a base.
+    Digits(u8),
+}
+
+fn goes_on(run: Run, byte: u8) -> bool
+    ensures { λ r. ⌜ r ≡ inRun run byte ⌝ }
+{
+    match run {
+        Run::Name => keys::word::is_id_byte(byte),
+        Run::Line => byte != b'\n',
+        Run::Quoted => {
+            if byte == b'\n' {
+                return false;
+            }
+            byte != b'\''
+        }
+        Run::Digits(base) => bytes::digit_of(byte) < base,
+    }
+}
+
+// Where the run that starts at an offset ends.
+pub fn run_end(text: &[u8], at: usize, run: Run) -> usize
+    requires { ⌜ at ≤ length (now text) ⌝ }
+    ensures { λ r. ⌜ EndsAt (now (text .entry)) at (span (inRun run) (drop at (now (text .entry)))) r ⌝ }
+{
+    let mut i = at;
+    while i < text.len() {
+        if !goes_on(run, text[i]) {
+            return i;
+        }
+        i += 1;
+    }
+    i
+}

@@ -1,0 +1,11 @@
+// What stands at a byte that no token before it covers.
+pub enum Found {
+    // A blank, up to an offset.
+    Blank(usize),
+    // A token of a kind, up to an offset.
+    Token(u8, usize),
+    // Bytes that form no token.
+    NoToken,
+    // A numeral above 2^128 - 1.
+    TooLarge,
+}

@@ -1,0 +1,81 @@
+// What stands at a byte that no token before it covers.
+ghost use mathlib.Core.Path.{_≡_};
+ghost use Prim.Native.Nat.{_+_, _<_};
+ghost use lib.ListN.{length, getD, drop};
+ghost use Rattle.paper.specs.Tokens as paper;
+ghost use Rattle.number.specs.Values.{value};
+ghost use Rattle.tokens.specs.Scanned.{Stands};
+use crate::found::Found;
+use crate::kinds;
+use crate::quotes;
+use crate::signs;
+use number::Magnitude;
+use spelling::bytes;
+use spelling::numerals;
+use spelling::numerals::Sort;
+use spelling::runs;
+use spelling::runs::Run;
+
+// The number is that of a numeral.
+pub struct Scanned {
+    pub found: Found,
+    pub number: Magnitude,
+}
+
+fn unnumbered(found: Found) -> Scanned
+    ensures { λ r. ⌜ (r .found ≡ found) × (value (r .number) ≡ 0) ⌝ }
+{
+    Scanned {
+        found: found,
+        number: Magnitude::zero(),
+    }
+}
+
+fn word(text: &[u8], at: usize) -> Found
+    requires { ⌜ at < length (now text) ⌝ }
+    ensures { λ r. ⌜ Stands (now (text .entry)) at 0 (paper.scanWord (getD (now (text .entry)) at 0) (drop (at + 1) (now (text .entry)))) r ⌝ }
+{
+    let next = at + 1;
+    Found::Token(kinds::WORD, next + keys::word::word_more(text, next))
+}
+
+fn numeral(text: &[u8], at: usize) -> Scanned
+    requires { ⌜ at < length (now text) ⌝ }
+    ensures { λ r. ⌜ Stands (now (text .entry)) at (value (r .number)) (paper.scanNumeral (getD (now (text .entry)) at 0) (drop (at + 1) (now (text .entry)))) (r .found) ⌝ }
+{
+    let end = runs::run_end(text, at + 1, Run::Name);
+    let read = numerals::read_numeral(&text[at..end]);
+    let sort = read.sort;
+    let number = read.number;
+    match sort {
+        Sort::Fits => Scanned {
+            found: Found::Token(kinds::NUMERAL, end),
+            number: number,
+        },
+        Sort::TooLarge => unnumbered(Found::TooLarge),
+        Sort::NoNumeral => unnumbered(Found::NoToken),
+    }
+}
+
+pub fn scan(text: &[u8], at: usize) -> Scanned
+    requires { ⌜ at < length (now text) ⌝ }
+    ensures { λ r. ⌜ Stands (now (text .entry)) at (value (r .number)) (paper.scan (getD (now (text .entry)) at 0) (drop (at + 1) (now (text .entry)))) (r .found) ⌝ }
+{
+    let byte = text[at];
+    if bytes::is_blank(byte) {
+        return unnumbered(Found::Blank(at + 1));
+    }
+    if byte == b'/' {
+        return unnumbered(quotes::comment(text, at));
+    }
+    if byte == b'\'' {
+        return unnumbered(quotes::string(text, at));
+    }
+    if keys::word::is_id_start(byte) {
+        return unnumbered(word(text, at));
+    }
+    if bytes::is_digit(byte) {
+        return numeral(text, at);
+    }
+    unnumbered(signs::sign(text, at))
+}

@@ -1,1 +1,0 @@
-// The tree of a text, in a lent slice of numbers.

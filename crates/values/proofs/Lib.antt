@@ -1,0 +1,5 @@
+pub mod Held
+mod Meeting
+pub mod Numbered
+mod Rules
+mod Words

@@ -1,0 +1,76 @@
+// Fields of a key, and the names after "::".
+ghost use mathlib.Core.Path.{_≡_};
+ghost use mathlib.Core.Bool.{cond};
+ghost use Rattle.paper.specs.Tokens.{bytes, sameBytes};
+ghost use Rattle.paper.specs.Keys.{kindOf};
+ghost use Rattle.paper.specs.Code.{fieldOf};
+ghost use Rattle.paper.specs.Types as paper;
+ghost use Rattle.paper.specs.Types.{when, fieldTy, fieldNamed};
+ghost use Rattle.values.specs.Typed.{tyMeant, typingMeant, namedOf};
+use crate::types;
+use crate::types::Type;
+use crate::types::Typing;
+
+// A field's number: 0 value, 1 mask, 2 prefix_length, 3 low, 4 high.
+pub enum Named {
+    Field(u8),
+    Nothing,
+}
+
+fn has(kind: u8, field: u8) -> bool
+    ensures { λ r. ⌜ r ≡ paper.has (kindOf kind) (fieldOf field) ⌝ }
+{
+    match field {
+        0 => kind != 3,
+        1 => (kind == 1) | (3 < kind),
+        2 => kind == 2,
+        _ => kind == 3,
+    }
+}
+
+fn type_in(width: u8, field: u8) -> Type
+    ensures { λ r. ⌜ tyMeant r ≡ fieldTy width (fieldOf field) ⌝ }
+{
+    if field == 2 {
+        Type::Int
+    } else {
+        Type::Of(0, width)
+    }
+}
+
+pub fn field_type(kind: u8, width: u8, field: u8) -> Typing
+    ensures { λ r. ⌜ typingMeant r ≡ when (paper.has (kindOf kind) (fieldOf field)) (fieldTy width (fieldOf field)) ⌝ }
+{
+    types::when(has(kind, field), type_in(width, field))
+}
+
+fn same_bytes(a: &[u8], b: &[u8]) -> bool
+    ensures { λ r. ⌜ r ≡ sameBytes (now (a .entry)) (now (b .entry)) ⌝ }
+{
+    check::same(a, b)
+}
+
+fn spelled(word: &[u8], name: &[u8], field: u8, other: Named) -> Named
+    ensures { λ r. ⌜ r ≡ cond (sameBytes (now (word .entry)) (now (name .entry))) (Named.Field field) other ⌝ }
+{
+    if same_bytes(word, name) {
+        return Named::Field(field);
+    }
+    other
+}
+
+pub fn field_named(word: &[u8]) -> Named
+    ensures { λ r. ⌜ r ≡ namedOf (fieldNamed (now (word .entry))) ⌝ }
+{
+    let high = spelled(word, b"high", 4, Named::Nothing);
+    let low = spelled(word, b"low", 3, high);
+    let length = spelled(word, b"prefix_length", 2, low);
+    let mask = spelled(word, b"mask", 1, length);
+    spelled(word, b"value", 0, mask)
+}
+
+pub fn is_priority(word: &[u8]) -> bool
+    ensures { λ r. ⌜ r ≡ sameBytes (now (word .entry)) (bytes "priority") ⌝ }
+{
+    same_bytes(word, b"priority")
+}

@@ -1,0 +1,232 @@
+//! What can be left out of a request, or made simpler in it.
+
+use std::ops::Range;
+
+use crate::reference::blocks::{all_parts, blocks_of, checked_layout, BLOCK};
+use crate::reference::code::{Instruction, Parts};
+use crate::reference::entries::Entry;
+use crate::reference::keys::Key;
+use crate::reference::tokens::tokens;
+use crate::requests::{Call, Request};
+
+/// A way to divide a request into pieces.
+#[derive(Clone, Copy, PartialEq, Eq, Debug)]
+pub enum Division {
+    /// Key records, each with its entry record and its number in the code.
+    Keys,
+    /// Tokens of the text, each with the blanks after it.
+    Tokens,
+    /// Instructions of blocks of good layout; totals and checks are made again.
+    Instructions,
+    /// Whole blocks as they stand.
+    Blocks,
+    /// Bytes of one of the three inputs.
+    Bytes(usize),
+    /// Bytes of one of the three inputs that are not zero.
+    NonZeros(usize),
+}
+
+/// What is done with a stretch of pieces.
+#[derive(Clone, Copy, PartialEq, Eq, Debug)]
+pub enum Deed {
+    /// Left out; bytes that are not zero become zero.
+    Drop,
+    /// Its first and its last piece are left out, as with parentheses.
+    Unwrap,
+    /// Replaced by true, false or the number 0.
+    True,
+    False,
+    Zero,
+}
+
+impl Deed {
+    /// The shortest stretch that this makes simpler.
+    pub fn shortest(self) -> usize {
+        match self {
+            Deed::Drop | Deed::Zero => 1,
+            Deed::True | Deed::False => 2,
+            Deed::Unwrap => 3,
+        }
+    }
+
+    fn token(self) -> Option<&'static [u8]> {
+        match self {
+            Deed::Drop | Deed::Unwrap => None,
+            Deed::True => Some(b"true"),
+            Deed::False => Some(b"false"),
+            Deed::Zero => Some(b"0"),
+        }
+    }
+
+    fn instruction(self) -> Option<Instruction> {
+        match self {
+            Deed::Drop | Deed::Unwrap => None,
+            Deed::True => Some(Instruction::PushBool(true)),
+            Deed::False => Some(Instruction::PushBool(false)),
+            Deed::Zero => Some(Instruction::PushInt(0)),
+        }
+    }
+}
+
+/// All steps that are tried, coarse ones first.
+pub const STEPS: [(Division, Deed); 18] = [
+    (Division::Keys, Deed::Drop),
+    (Division::Tokens, Deed::Drop),
+    (Division::Tokens, Deed::Unwrap),
+    (Division::Tokens, Deed::True),
+    (Division::Tokens, Deed::False),
+    (Division::Tokens, Deed::Zero),
+    (Division::Instructions, Deed::Drop),
+    (Division::Instructions, Deed::Unwrap),
+    (Division::Instructions, Deed::True),
+    (Division::Instructions, Deed::False),
+    (Division::Instructions, Deed::Zero),
+    (Division::Blocks, Deed::Drop),
+    (Division::Bytes(0), Deed::Drop),
+    (Division::Bytes(1), Deed::Drop),
+    (Division::Bytes(2), Deed::Drop),
+    (Division::NonZeros(0), Deed::Drop),
+    (Division::NonZeros(1), Deed::Drop),
+    (Division::NonZeros(2), Deed::Drop),
+];
+
+impl Division {
+    /// How many pieces the request has.
+    pub fn count(self, request: &Request) -> usize {
+        let length = |input: Option<usize>| input.map_or(0, |i| request.inputs[i].len());
+        match self {
+            Division::Keys => length(list_input(request)) / Key::SIZE,
+            Division::Tokens => token_pieces(request).len(),
+            Division::Instructions => code(request).map_or(0, |(_, code, _)| code.len()),
+            Division::Blocks => length(blocks_input(request)) / BLOCK,
+            Division::Bytes(input) => request.inputs[input].len(),
+            Division::NonZeros(input) => non_zeros(&request.inputs[input]).count(),
+        }
+    }
+
+    /// The request with this done to these pieces.
+    pub fn simpler(self, request: &Request, deed: Deed, stretch: Range<usize>) -> Request {
+        let mut simpler = request.clone();
+        match self {
+            Division::Keys => drop_keys(&mut simpler, stretch),
+            Division::Tokens => {
+                let filling = deed.token().map(|token| [token, b" "].concat());
+                let pieces = changed(token_pieces(request), deed, stretch, filling);
+                simpler.inputs[0] = pieces.concat();
+            }
+            Division::Instructions => {
+                if let Some((input, code, keys)) = code(request) {
+                    let filling = deed.instruction().map(Instruction::parts);
+                    let code = changed(code, deed, stretch, filling);
+                    simpler.inputs[input] = blocks_of(&code, keys);
+                }
+            }
+            Division::Blocks => {
+                if let Some(input) = blocks_input(request) {
+                    let bytes = stretch.start * BLOCK..stretch.end * BLOCK;
+                    simpler.inputs[input].drain(bytes);
+                }
+            }
+            Division::Bytes(input) => {
+                simpler.inputs[input].drain(stretch);
+            }
+            Division::NonZeros(input) => {
+                let places: Vec<usize> = non_zeros(&request.inputs[input]).collect();
+                for &place in &places[stretch] {
+                    simpler.inputs[input][place] = 0;
+                }
+            }
+        }
+        simpler
+    }
+}
+
+/// The pieces after the deed; a filling takes the stretch's place.
+fn changed<T>(mut pieces: Vec<T>, deed: Deed, stretch: Range<usize>, filling: Option<T>) -> Vec<T> {
+    if deed == Deed::Unwrap {
+        pieces.remove(stretch.end - 1);
+        pieces.remove(stretch.start);
+    } else {
+        pieces.splice(stretch, filling);
+    }
+    pieces
+}
+
+fn non_zeros(bytes: &[u8]) -> impl Iterator<Item = usize> + '_ {
+    (0..bytes.len()).filter(|&place| bytes[place] != 0)
+}
+
+/// The input that holds the key list.
+fn list_input(request: &Request) -> Option<usize> {
+    match Call::from_byte(request.call)? {
+        Call::Read => None,
+        Call::Check | Call::Judge | Call::Translate => Some(1),
+        Call::Load | Call::Run => Some(0),
+    }
+}
+
+/// The input that holds the blocks.
+fn blocks_input(request: &Request) -> Option<usize> {
+    match Call::from_byte(request.call)? {
+        Call::Load | Call::Run => Some(1),
+        _ => None,
+    }
+}
+
+/// The text cut before each of its tokens; nothing if there are no good ones.
+fn token_pieces(request: &Request) -> Vec<Vec<u8>> {
+    let has_text = matches!(
+        Call::from_byte(request.call),
+        Some(Call::Read | Call::Check | Call::Judge | Call::Translate)
+    );
+    let text = &request.inputs[0];
+    if !has_text {
+        return Vec::new();
+    }
+    let mut cuts: Vec<usize> = match tokens(text) {
+        Ok(found) => found.iter().map(|token| token.place).collect(),
+        Err(_) => return Vec::new(),
+    };
+    cuts.push(text.len());
+    cuts.windows(2)
+        .map(|cut| text[cut[0]..cut[1]].to_vec())
+        .collect()
+}
+
+/// The input that holds blocks of good layout, their code and number of keys.
+fn code(request: &Request) -> Option<(usize, Vec<Parts>, usize)> {
+    let input = blocks_input(request)?;
+    let blocks = &request.inputs[input];
+    let keys = request.inputs[list_input(request)?].len() / Key::SIZE;
+    let total = checked_layout(blocks, keys).ok()?;
+    Some((input, all_parts(blocks, total).collect(), keys))
+}
+
+/// Drops key records with all that belongs to them.
+fn drop_keys(request: &mut Request, keys: Range<usize>) {
+    let Some(list) = list_input(request) else {
+        return;
+    };
+    let blocks = code(request);
+    request.inputs[list].drain(keys.start * Key::SIZE..keys.end * Key::SIZE);
+    let records = Entry::size(keys.start)..Entry::size(keys.end);
+    let call = Call::from_byte(request.call);
+    let has_entry = matches!(call, Some(Call::Judge | Call::Run));
+    if has_entry && request.inputs[2].len() >= records.end {
+        request.inputs[2].drain(records);
+    }
+    if let Some((input, mut code, count)) = blocks {
+        for parts in &mut code {
+            renumber(parts, &keys);
+        }
+        request.inputs[input] = blocks_of(&code, count - keys.len());
+    }
+}
+
+/// Lets an instruction that pushes a key after the dropped ones push it still.
+fn renumber(parts: &mut Parts, dropped: &Range<usize>) {
+    let pushes_key = matches!(parts.operation, 3 | 4);
+    if pushes_key && usize::from(parts.operand) >= dropped.end {
+        parts.operand -= dropped.len() as u16;
+    }
+}

@@ -1,0 +1,56 @@
+//! Seeded requests: all six calls, inputs good, damaged and at the limits.
+
+pub mod blocks;
+pub mod cases;
+pub mod damage;
+pub mod entries;
+pub mod limits;
+pub mod lists;
+pub mod programs;
+pub mod rng;
+pub mod scenes;
+pub mod snippets;
+pub mod spelling;
+pub mod texts;
+
+use crate::requests::{Call, Request, LONGEST_INPUT};
+use rng::Rng;
+use scenes::Scene;
+
+/// How often each call is made, in so many parts.
+const SHARES: [(Call, usize); 6] = [
+    (Call::Read, 2),
+    (Call::Check, 3),
+    (Call::Judge, 5),
+    (Call::Translate, 3),
+    (Call::Load, 3),
+    (Call::Run, 4),
+];
+
+/// Request `index` of the run with this seed.
+pub fn request(seed: u64, index: u64) -> Request {
+    let mut rng = Rng::for_item(seed, index);
+    if rng.one_in(400) {
+        return odd_request(&mut rng);
+    }
+    let scene = Scene::new(&mut rng, 8, 7);
+    let calls: Vec<Call> = SHARES
+        .iter()
+        .flat_map(|&(call, share)| vec![call; share])
+        .collect();
+    let call = rng.pick(&calls);
+    scene.request(&mut rng, call)
+}
+
+/// An unknown call, or an input at the limit of the framing.
+fn odd_request(rng: &mut Rng) -> Request {
+    let mut inputs = [b"true".to_vec(), Vec::new(), vec![0; 4]];
+    if rng.one_in(2) {
+        let call = rng.pick(&[0, 7, 8, 255]);
+        return Request { call, inputs };
+    }
+    let length = LONGEST_INPUT + rng.below(2);
+    inputs[rng.below(3)] = vec![b' '; length];
+    let call = rng.between(1, 6) as u8;
+    Request { call, inputs }
+}

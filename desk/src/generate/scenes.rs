@@ -1,0 +1,227 @@
+//! Requests about one key list and one entry.
+
+use super::rng::Rng;
+use super::{blocks, damage, entries, limits, lists, programs, snippets, spelling, texts};
+use crate::lists::{list_bytes, NamedKey};
+use crate::reference;
+use crate::reference::blocks::{blocks_of, bytes_needed};
+use crate::reference::code::Parts;
+use crate::reference::entries::Entry;
+use crate::reference::Answer;
+use crate::requests::{Call, Request, LONGEST_INPUT};
+
+/// A good key list with a conforming entry.
+pub struct Scene {
+    pub keys: Vec<NamedKey>,
+    pub entry: Entry,
+    /// Are these the keys of the snippets?
+    pub marked: bool,
+}
+
+impl Scene {
+    /// Once in `marked_in` times document 01's keys; else about so many others.
+    pub fn new(rng: &mut Rng, marked_in: usize, about: usize) -> Scene {
+        let marked = rng.one_in(marked_in);
+        let keys = if marked {
+            snippets::marked_keys()
+        } else {
+            lists::good(rng, about)
+        };
+        let entry = if marked && rng.one_in(2) {
+            snippets::marked_entry()
+        } else {
+            entries::good(rng, &keys)
+        };
+        Scene {
+            keys,
+            entry,
+            marked,
+        }
+    }
+
+    pub fn request(&self, rng: &mut Rng, call: Call) -> Request {
+        let none = Vec::new;
+        match call {
+            Call::Read => Request::new(call, self.text(rng), none(), none()),
+            Call::Check => Request::new(call, self.text(rng), self.list(rng), none()),
+            Call::Judge => self.judge(rng),
+            Call::Translate => self.translate(rng),
+            Call::Load => Request::new(call, self.list(rng), self.blocks(rng), none()),
+            Call::Run => self.run(rng),
+        }
+    }
+
+    fn judge(&self, rng: &mut Rng) -> Request {
+        let (text, list, entry) = if rng.one_in(7) {
+            // The entry alone is wrong, so that its fault shows.
+            let (text, list) = (self.good_text(rng), list_bytes(&self.keys));
+            (text, list, self.damaged_entry(rng))
+        } else {
+            (self.text(rng), self.list(rng), self.entry(rng))
+        };
+        Request::new(Call::Judge, text, list, entry)
+    }
+
+    fn translate(&self, rng: &mut Rng) -> Request {
+        let (text, list) = (self.text(rng), self.list(rng));
+        let buffer = buffer(rng, &text, &list);
+        Request::new(Call::Translate, text, list, buffer)
+    }
+
+    fn run(&self, rng: &mut Rng) -> Request {
+        let (list, blocks, entry) = if rng.one_in(7) {
+            let (list, blocks) = (list_bytes(&self.keys), self.translated(rng));
+            (list, blocks, self.damaged_entry(rng))
+        } else {
+            (self.list(rng), self.blocks(rng), self.entry(rng))
+        };
+        Request::new(Call::Run, list, blocks, entry)
+    }
+
+    pub fn list(&self, rng: &mut Rng) -> Vec<u8> {
+        if rng.one_in(16) {
+            lists::damaged(rng, &self.keys)
+        } else {
+            list_bytes(&self.keys)
+        }
+    }
+
+    pub fn entry(&self, rng: &mut Rng) -> Vec<u8> {
+        if rng.one_in(10) {
+            self.damaged_entry(rng)
+        } else {
+            self.entry.to_bytes()
+        }
+    }
+
+    fn damaged_entry(&self, rng: &mut Rng) -> Vec<u8> {
+        entries::damaged(rng, &self.keys, &self.entry)
+    }
+
+    /// A text whose types are good.
+    fn good_text(&self, rng: &mut Rng) -> Vec<u8> {
+        let joins = rng.below(10);
+        let tokens = texts::tokens(rng, &self.keys, &self.entry, joins, 0);
+        spelling::text(rng, &tokens)
+    }
+
+    fn text(&self, rng: &mut Rng) -> Vec<u8> {
+        if self.marked && rng.one_in(2) {
+            return snippet(rng);
+        }
+        if rng.one_in(10) {
+            return self.text_at_limit(rng);
+        }
+        let joins = match rng.below(20) {
+            0 => rng.below(60),
+            1..=5 => 0,
+            _ => rng.below(6),
+        };
+        self.plain_text(rng, joins)
+    }
+
+    /// A text well inside the limits, good or with a fault.
+    fn plain_text(&self, rng: &mut Rng, joins: usize) -> Vec<u8> {
+        let fault_in = if rng.one_in(5) { 6 } else { 0 };
+        let mut tokens = match rng.below(40) {
+            0 => texts::soup(rng, &self.keys, joins + 3),
+            1 | 2 => texts::number_alone(rng, &self.keys, &self.entry),
+            _ => texts::tokens(rng, &self.keys, &self.entry, joins, fault_in),
+        };
+        if rng.one_in(12) {
+            texts::disturb(rng, &self.keys, &mut tokens);
+        }
+        let mut text = spelling::text(rng, &tokens);
+        if rng.one_in(10) {
+            damage::any(rng, &mut text);
+        }
+        text
+    }
+
+    fn text_at_limit(&self, rng: &mut Rng) -> Vec<u8> {
+        match rng.below(8) {
+            0 | 1 => limits::bytes(rng, &self.keys, &self.entry),
+            2..=4 => limits::many_tokens(rng, &self.keys, &self.entry),
+            5 | 6 => limits::many_levels(rng, &self.keys, &self.entry),
+            _ => limits::large_numbers(rng),
+        }
+    }
+
+    fn blocks(&self, rng: &mut Rng) -> Vec<u8> {
+        let mut blocks = match rng.below(5) {
+            0 | 1 => self.translated(rng),
+            _ => blocks_of(&self.program(rng), self.keys.len()),
+        };
+        if rng.one_in(4) {
+            blocks::damage(rng, &mut blocks);
+        }
+        blocks
+    }
+
+    /// The blocks of a text that translates.
+    fn translated(&self, rng: &mut Rng) -> Vec<u8> {
+        let text = self.good_text(rng);
+        let mut buffer = vec![0; bytes_needed(2 * text.len() + 1)];
+        match reference::translate(&text, &list_bytes(&self.keys), &mut buffer) {
+            Answer::Translated(count) => buffer.truncate(bytes_needed(count)),
+            _ => return blocks_of(&programs::bool_chain(rng, 3), self.keys.len()),
+        }
+        buffer
+    }
+
+    fn program(&self, rng: &mut Rng) -> Vec<Parts> {
+        let mut code = match rng.below(100) {
+            0 => programs::many_blocks(rng),
+            1 | 2 => programs::many_held(rng),
+            3..=12 => {
+                let count = rng.between(1, 80);
+                programs::bool_chain(rng, count)
+            }
+            _ => {
+                let joins = if rng.one_in(6) {
+                    rng.below(40)
+                } else {
+                    rng.below(8)
+                };
+                programs::good(rng, &self.keys, &self.entry, joins)
+            }
+        };
+        if rng.one_in(3) {
+            programs::spoil(rng, &mut code);
+        }
+        code
+    }
+}
+
+/// A short text for document 01's keys, now and then damaged.
+fn snippet(rng: &mut Rng) -> Vec<u8> {
+    let mut text = rng.pick(snippets::TEXTS).as_bytes().to_vec();
+    if rng.one_in(3) {
+        damage::any(rng, &mut text);
+    }
+    text
+}
+
+/// A buffer for the translation of this text: of the size that it needs, one
+/// byte less, or another; what it holds before the call is anything.
+fn buffer(rng: &mut Rng, text: &[u8], list: &[u8]) -> Vec<u8> {
+    let mut large = vec![0; bytes_needed(2 * text.len() + 1).min(LONGEST_INPUT)];
+    let needed = match reference::translate(text, list, &mut large) {
+        Answer::Translated(count) => bytes_needed(count),
+        _ => 512,
+    };
+    let length = match rng.below(10) {
+        0..=3 => needed,
+        4 => needed - 1,
+        5 => needed + rng.between(1, 600),
+        6 => rng.below(needed),
+        7 => needed + 512,
+        8 => 0,
+        _ => rng.below(2048),
+    };
+    let filling = rng.byte();
+    let step = rng.pick(&[0, 1, 7]);
+    (0..length)
+        .map(|index| filling.wrapping_add((index as u8).wrapping_mul(step)))
+        .collect()
+}

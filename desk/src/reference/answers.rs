@@ -1,0 +1,103 @@
+//! Document 01, "Refusal numbers": "A refusal's place says which input it lies
+//! in (text, key list, entry, blocks, buffer) and a byte offset."
+
+use std::fmt;
+
+/// The input that a refusal's place lies in.
+#[derive(Clone, Copy, PartialEq, Eq, Debug)]
+pub enum Input {
+    Text,
+    List,
+    Entry,
+    Blocks,
+    Buffer,
+}
+
+/// A refusal on its way up through the stages.
+#[derive(Clone, Copy, PartialEq, Eq, Debug)]
+pub struct Refusal {
+    pub number: u8,
+    pub input: Input,
+    pub offset: usize,
+}
+
+/// What a call answers.
+#[derive(Clone, Copy, PartialEq, Eq, Debug)]
+pub enum Answer {
+    /// The text was read; its tree has this many nodes.
+    Read(usize),
+    /// The text has good types.
+    Passed,
+    Accepted,
+    Violated,
+    /// The text was translated into this many instructions.
+    Translated(usize),
+    /// The blocks load; they hold this many instructions.
+    Loaded(usize),
+    Refused {
+        number: u8,
+        input: Input,
+        offset: usize,
+    },
+}
+
+impl Refusal {
+    pub fn new(number: u8, input: Input, offset: usize) -> Self {
+        Refusal {
+            number,
+            input,
+            offset,
+        }
+    }
+
+    pub fn text(number: u8, offset: usize) -> Self {
+        Refusal::new(number, Input::Text, offset)
+    }
+}
+
+impl From<Refusal> for Answer {
+    fn from(refusal: Refusal) -> Self {
+        Answer::Refused {
+            number: refusal.number,
+            input: refusal.input,
+            offset: refusal.offset,
+        }
+    }
+}
+
+impl From<Result<Answer, Refusal>> for Answer {
+    fn from(result: Result<Answer, Refusal>) -> Self {
+        result.unwrap_or_else(Answer::from)
+    }
+}
+
+impl fmt::Display for Input {
+    fn fmt(&self, out: &mut fmt::Formatter) -> fmt::Result {
+        out.write_str(match self {
+            Input::Text => "text",
+            Input::List => "list",
+            Input::Entry => "entry",
+            Input::Blocks => "blocks",
+            Input::Buffer => "buffer",
+        })
+    }
+}
+
+/// The line of the program `answers`, without the sum that a translation adds.
+impl fmt::Display for Answer {
+    fn fmt(&self, out: &mut fmt::Formatter) -> fmt::Result {
+        match self {
+            Answer::Read(nodes) => write!(out, "read {nodes}"),
+            Answer::Passed => out.write_str("passed"),
+            Answer::Accepted => out.write_str("accepted"),
+            Answer::Violated => out.write_str("violated"),
+            Answer::Translated(count) => write!(out, "translated {count}"),
+            Answer::Loaded(count) => write!(out, "loaded {count}"),
+            Answer::Refused {
+                number,
+                input,
+                offset,
+            } => write!(out, "refused {number} {input} {offset}"),
+        }
+    }
+}

@@ -1,0 +1,113 @@
+//! Document 01, "Refusal numbers": "Stages run in the order below, those that a
+//! call has." "Stages: 1; 2; 3 and 4; 5 to 7; 8 to 10; 11 to 13; 14; 15; 16; 17;
+//! 18; 19; 20. A refusal changes nothing lent."
+
+use super::answers::{Answer, Input, Refusal};
+use super::blocks::{blocks_of, bytes_needed, checked_layout};
+use super::code::Instruction;
+use super::entries::Entry;
+use super::grammar::tree;
+use super::keys::{key_list, Key};
+use super::loading::checked_code;
+use super::meaning::holds;
+use super::running::accepts;
+use super::tokens::tokens;
+use super::translating::instructions;
+use super::tree::Node;
+use super::types::{typed_text, Typed};
+
+pub const LONGEST_TEXT: usize = 4096;
+
+/// Reads a text; the answer is the number of nodes of its tree.
+pub fn read(text: &[u8]) -> Answer {
+    let reading = || {
+        text_length(text)?;
+        Ok(Answer::Read(text_tree(text)?.count()))
+    };
+    reading().into()
+}
+
+/// Checks the types of a text against a key list.
+pub fn check(text: &[u8], list: &[u8]) -> Answer {
+    checked_text(text, list).map(|_| Answer::Passed).into()
+}
+
+/// Judges one entry directly from the text.
+pub fn judge(text: &[u8], list: &[u8], entry: &[u8]) -> Answer {
+    let judging = || {
+        let (tree, keys) = checked_text(text, list)?;
+        let entry = Entry::from_bytes(entry, &keys)?;
+        Ok(verdict(holds(&tree, &keys, &entry)))
+    };
+    judging().into()
+}
+
+/// Translates a text into blocks at the front of the buffer. Every later byte
+/// stays, and on a refusal every byte.
+pub fn translate(text: &[u8], list: &[u8], buffer: &mut [u8]) -> Answer {
+    let mut translating = || {
+        let (tree, keys) = checked_text(text, list)?;
+        let code: Vec<_> = instructions(&tree).iter().map(|i| i.parts()).collect();
+        let needed = bytes_needed(code.len());
+        if buffer.len() < needed {
+            return Err(Refusal::new(15, Input::Buffer, buffer.len()));
+        }
+        buffer[..needed].copy_from_slice(&blocks_of(&code, keys.len()));
+        Ok(Answer::Translated(code.len()))
+    };
+    translating().into()
+}
+
+/// Loads blocks; the answer is the number of their instructions.
+pub fn load(list: &[u8], blocks: &[u8]) -> Answer {
+    loaded(list, blocks)
+        .map(|(code, _)| Answer::Loaded(code.len()))
+        .into()
+}
+
+/// Loads blocks and runs them on an entry.
+pub fn run(list: &[u8], blocks: &[u8], entry: &[u8]) -> Answer {
+    let running = || {
+        let (code, keys) = loaded(list, blocks)?;
+        let entry = Entry::from_bytes(entry, &keys)?;
+        Ok(verdict(accepts(&code, &keys, &entry)))
+    };
+    running().into()
+}
+
+/// Stage 1.
+fn text_length(text: &[u8]) -> Result<(), Refusal> {
+    if text.len() > LONGEST_TEXT {
+        return Err(Refusal::text(1, LONGEST_TEXT));
+    }
+    Ok(())
+}
+
+/// Stages 5 to 7 and 8 to 10.
+fn text_tree(text: &[u8]) -> Result<Node<'_>, Refusal> {
+    tree(&tokens(text)?, text.len())
+}
+
+/// Stages 1 to 14.
+fn checked_text<'l>(text: &[u8], list: &'l [u8]) -> Result<(Typed, Vec<Key<'l>>), Refusal> {
+    text_length(text)?;
+    let keys = key_list(list)?;
+    let tree = typed_text(&text_tree(text)?, &keys)?;
+    Ok((tree, keys))
+}
+
+/// Stages 2 to 4 and 16 to 18.
+fn loaded<'l>(list: &'l [u8], blocks: &[u8]) -> Result<(Vec<Instruction>, Vec<Key<'l>>), Refusal> {
+    let keys = key_list(list)?;
+    let total = checked_layout(blocks, keys.len())?;
+    let code = checked_code(blocks, total, &keys)?;
+    Ok((code, keys))
+}
+
+fn verdict(accepted: bool) -> Answer {
+    if accepted {
+        Answer::Accepted
+    } else {
+        Answer::Violated
+    }
+}

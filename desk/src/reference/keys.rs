@@ -1,0 +1,129 @@
+//! Document 01, "Key list and entry": "A key list is 0 to 32 records of 80
+//! bytes. Byte 0: name length, 1 to 64. Byte 1: kind [...]. Byte 2: width W, 1
+//! to 128. Bytes 3 to 15 zero. Bytes 16 to 79: the name, a key by 004's grammar
+//! and neither "true" nor "false", then zeros." Refusals 2, 3 and 4.
+
+use super::answers::{Input, Refusal};
+use super::types::Type;
+use super::words::word_length;
+
+#[derive(Clone, Copy, PartialEq, Eq, Debug)]
+pub enum Kind {
+    Exact,
+    Ternary,
+    Lpm,
+    Range,
+    Optional,
+}
+
+impl Kind {
+    /// All kinds; each stands at the index that its byte names.
+    pub const ALL: [Kind; 5] = [
+        Kind::Exact,
+        Kind::Ternary,
+        Kind::Lpm,
+        Kind::Range,
+        Kind::Optional,
+    ];
+
+    pub fn from_byte(byte: u8) -> Option<Kind> {
+        Kind::ALL.get(usize::from(byte)).copied()
+    }
+
+    pub fn byte(self) -> u8 {
+        self as u8
+    }
+
+    pub fn name(self) -> &'static str {
+        match self {
+            Kind::Exact => "exact",
+            Kind::Ternary => "ternary",
+            Kind::Lpm => "lpm",
+            Kind::Range => "range",
+            Kind::Optional => "optional",
+        }
+    }
+}
+
+/// One good record of a key list.
+#[derive(Clone, Copy, PartialEq, Eq, Debug)]
+pub struct Key<'l> {
+    pub name: &'l [u8],
+    pub kind: Kind,
+    pub width: u8,
+}
+
+impl<'l> Key<'l> {
+    pub const SIZE: usize = 80;
+    pub const NAME_START: usize = 16;
+    pub const LONGEST_NAME: usize = 64;
+    pub const WIDEST: u8 = 128;
+    pub const MOST: usize = 32;
+
+    /// The key that a record of 80 bytes describes, if it keeps its layout.
+    pub fn from_record(record: &'l [u8]) -> Option<Key<'l>> {
+        let length = usize::from(record[0]);
+        let kind = Kind::from_byte(record[1])?;
+        let width = record[2];
+        if !(1..=Key::LONGEST_NAME).contains(&length) || !(1..=Key::WIDEST).contains(&width) {
+            return None;
+        }
+        let (name, rest) = record[Key::NAME_START..].split_at(length);
+        let reserved = &record[3..Key::NAME_START];
+        if !is_key_name(name) || !all_zero(reserved) || !all_zero(rest) {
+            return None;
+        }
+        Some(Key { name, kind, width })
+    }
+
+    /// The record of 80 bytes that describes this key.
+    pub fn to_record(&self) -> [u8; Key::SIZE] {
+        let mut record = [0; Key::SIZE];
+        record[0] = u8::try_from(self.name.len()).expect("names are short");
+        record[1] = self.kind.byte();
+        record[2] = self.width;
+        record[Key::NAME_START..Key::NAME_START + self.name.len()].copy_from_slice(self.name);
+        record
+    }
+
+    /// The type of the bare key.
+    pub fn bare_type(&self) -> Type {
+        match self.kind {
+            Kind::Exact => Type::Bits(self.width),
+            kind => Type::Match(kind, self.width),
+        }
+    }
+}
+
+/// May a key be called this? (The length is not looked at.)
+pub fn is_key_name(name: &[u8]) -> bool {
+    !name.is_empty() && word_length(name) == name.len() && name != b"true" && name != b"false"
+}
+
+pub fn all_zero(bytes: &[u8]) -> bool {
+    bytes.iter().all(|&byte| byte == 0)
+}
+
+/// The index of the key of this name.
+pub fn find(keys: &[Key], name: &[u8]) -> Option<usize> {
+    keys.iter().position(|key| key.name == name)
+}
+
+/// The keys of a list: stage 2, then stage 3 and 4.
+pub fn key_list(list: &[u8]) -> Result<Vec<Key<'_>>, Refusal> {
+    if !list.len().is_multiple_of(Key::SIZE) || list.len() > Key::MOST * Key::SIZE {
+        return Err(Refusal::new(2, Input::List, list.len()));
+    }
+    let mut keys = Vec::new();
+    for (index, record) in list.chunks(Key::SIZE).enumerate() {
+        let place = index * Key::SIZE;
+        let Some(key) = Key::from_record(record) else {
+            return Err(Refusal::new(3, Input::List, place));
+        };
+        if find(&keys, key.name).is_some() {
+            return Err(Refusal::new(4, Input::List, place));
+        }
+        keys.push(key);
+    }
+    Ok(keys)
+}

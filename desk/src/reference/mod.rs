@@ -1,0 +1,31 @@
+//! An implementation of document 01, written from its words alone.
+//!
+//! "Wanted: reading a restriction, checking its types against a key list,
+//! judging one entry directly from the text, translating a text into blocks,
+//! loading blocks, running loaded blocks on an entry."
+//!
+//! The files follow the document's sections. Plainness comes before speed:
+//! what stands here is meant to be held against the paper, line by line.
+
+pub mod addresses;
+pub mod answers;
+pub mod blocks;
+pub mod calls;
+pub mod code;
+pub mod entries;
+pub mod fields;
+pub mod grammar;
+pub mod keys;
+pub mod loading;
+pub mod meaning;
+pub mod numbers;
+pub mod running;
+pub mod tokens;
+pub mod translating;
+pub mod tree;
+pub mod types;
+pub mod values;
+pub mod words;
+
+pub use answers::{Answer, Input};
+pub use calls::{check, judge, load, read, run, translate};

@@ -1,0 +1,182 @@
+//! Requests and answer lines of the program `answers`.
+//!
+//! A request is one byte for the call (1 read, 2 check, 3 judge, 4 translate,
+//! 5 load, 6 run) and three inputs, each a 4-byte big-endian length and its
+//! bytes. Each request gets one line.
+
+use std::io::{self, Read, Write};
+
+use crate::reference;
+
+pub const LONGEST_INPUT: usize = 65_536;
+
+/// The calls, each at the index of its byte less one.
+#[derive(Clone, Copy, PartialEq, Eq, Debug)]
+pub enum Call {
+    Read,
+    Check,
+    Judge,
+    Translate,
+    Load,
+    Run,
+}
+
+impl Call {
+    pub const ALL: [Call; 6] = [
+        Call::Read,
+        Call::Check,
+        Call::Judge,
+        Call::Translate,
+        Call::Load,
+        Call::Run,
+    ];
+
+    pub fn from_byte(byte: u8) -> Option<Call> {
+        Call::ALL.get(usize::from(byte).checked_sub(1)?).copied()
+    }
+
+    pub fn byte(self) -> u8 {
+        self as u8 + 1
+    }
+
+    pub fn name(self) -> &'static str {
+        match self {
+            Call::Read => "read",
+            Call::Check => "check",
+            Call::Judge => "judge",
+            Call::Translate => "translate",
+            Call::Load => "load",
+            Call::Run => "run",
+        }
+    }
+}
+
+#[derive(Clone, PartialEq, Eq, Debug)]
+pub struct Request {
+    pub call: u8,
+    pub inputs: [Vec<u8>; 3],
+}
+
+/// What stands next on an input of requests.
+pub enum Next {
+    Request(Request),
+    /// A whole request with an input over the limit.
+    TooLong,
+    /// The input ends inside a request.
+    Cut,
+    End,
+}
+
+impl Request {
+    pub fn new(call: Call, first: Vec<u8>, second: Vec<u8>, third: Vec<u8>) -> Request {
+        Request {
+            call: call.byte(),
+            inputs: [first, second, third],
+        }
+    }
+
+    pub fn write(&self, out: &mut impl Write) -> io::Result<()> {
+        out.write_all(&[self.call])?;
+        for input in &self.inputs {
+            let length = u32::try_from(input.len()).expect("inputs are short");
+            out.write_all(&length.to_be_bytes())?;
+            out.write_all(input)?;
+        }
+        Ok(())
+    }
+
+    /// The reference's line for this request, without its end of line.
+    pub fn answer_line(&self) -> String {
+        if self.inputs.iter().any(|input| input.len() > LONGEST_INPUT) {
+            return "too long".to_string();
+        }
+        let [first, second, third] = &self.inputs;
+        let Some(call) = Call::from_byte(self.call) else {
+            return "unknown".to_string();
+        };
+        let answer = match call {
+            Call::Read => reference::read(first),
+            Call::Check => reference::check(first, second),
+            Call::Judge => reference::judge(first, second, third),
+            Call::Translate => {
+                let mut buffer = third.clone();
+                let answer = reference::translate(first, second, &mut buffer);
+                return format!("{answer} {}", adler32(&buffer));
+            }
+            Call::Load => reference::load(first, second),
+            Call::Run => reference::run(first, second, third),
+        };
+        answer.to_string()
+    }
+}
+
+/// Reads the next request.
+pub fn next_request(from: &mut impl Read) -> io::Result<Next> {
+    let mut call = [0];
+    if !fill(from, &mut call)? {
+        return Ok(Next::End);
+    }
+    let mut inputs = [Vec::new(), Vec::new(), Vec::new()];
+    let mut too_long = false;
+    for input in &mut inputs {
+        let mut length = [0; 4];
+        if !fill(from, &mut length)? {
+            return Ok(Next::Cut);
+        }
+        let length = u32::from_be_bytes(length) as usize;
+        if length > LONGEST_INPUT {
+            too_long = true;
+            if !pass_over(from, length)? {
+                return Ok(Next::Cut);
+            }
+            continue;
+        }
+        input.resize(length, 0);
+        if !fill(from, input)? {
+            return Ok(Next::Cut);
+        }
+    }
+    if too_long {
+        return Ok(Next::TooLong);
+    }
+    Ok(Next::Request(Request {
+        call: call[0],
+        inputs,
+    }))
+}
+
+/// Fills the whole slice, or tells that the input ended before.
+fn fill(from: &mut impl Read, slice: &mut [u8]) -> io::Result<bool> {
+    match from.read_exact(slice) {
+        Ok(()) => Ok(true),
+        Err(error) if error.kind() == io::ErrorKind::UnexpectedEof => Ok(false),
+        Err(error) => Err(error),
+    }
+}
+
+fn pass_over(from: &mut impl Read, length: usize) -> io::Result<bool> {
+    let passed = io::copy(&mut from.take(length as u64), &mut io::sink())?;
+    Ok(passed == length as u64)
+}
+
+/// Answers every request of an input, a line each.
+pub fn answer_all(from: &mut impl Read, out: &mut impl Write) -> io::Result<()> {
+    loop {
+        match next_request(from)? {
+            Next::Request(request) => writeln!(out, "{}", request.answer_line())?,
+            Next::TooLong => writeln!(out, "too long")?,
+            Next::Cut => return writeln!(out, "cut"),
+            Next::End => return Ok(()),
+        }
+    }
+}
+
+/// The Adler-32 sum.
+pub fn adler32(bytes: &[u8]) -> u32 {
+    let (mut low, mut high) = (1u32, 0u32);
+    for &byte in bytes {
+        low = (low + u32::from(byte)) % 65_521;
+        high = (high + low) % 65_521;
+    }
+    high << 16 | low
+}

@@ -1,0 +1,125 @@
+//! Requests in readable form.
+
+use crate::pack;
+use crate::reference::blocks::{check_bytes, BLOCK, INSTRUCTIONS_IN_BLOCK};
+use crate::reference::code::{Instruction, Parts};
+use crate::reference::entries::{Entry, Record};
+use crate::reference::keys::{key_list, Key};
+use crate::requests::{Call, Request};
+
+/// The request in lines.
+pub fn request(request: &Request) -> String {
+    let [first, second, third] = &request.inputs;
+    let Some(call) = Call::from_byte(request.call) else {
+        return format!("unknown call {}\n", request.call);
+    };
+    let mut lines = format!("{}\n", call.name());
+    lines.push_str(&match call {
+        Call::Read => text(first),
+        Call::Check => text(first) + &list(second),
+        Call::Judge => text(first) + &list(second) + &entry(third, second),
+        Call::Translate => text(first) + &list(second) + &buffer(third),
+        Call::Load => list(first) + &blocks(second),
+        Call::Run => list(first) + &blocks(second) + &entry(third, first),
+    });
+    lines
+}
+
+fn text(text: &[u8]) -> String {
+    let escaped = text.escape_ascii().to_string().replace("\\'", "'");
+    format!("  text, {} bytes: \"{escaped}\"\n", text.len())
+}
+
+fn list(list: &[u8]) -> String {
+    let mut lines = format!("  key list, {} bytes:\n", list.len());
+    for record in list.chunks(Key::SIZE) {
+        let key = if record.len() == Key::SIZE {
+            Key::from_record(record)
+        } else {
+            None
+        };
+        lines.push_str("    ");
+        match key {
+            Some(key) => lines.push_str(&pack::keys_to_text(&[key])),
+            None => lines.push_str(&format!("{}\n", hex(record))),
+        }
+    }
+    lines
+}
+
+fn entry(entry: &[u8], list: &[u8]) -> String {
+    let head = format!("  entry, {} bytes: ", entry.len());
+    let readable = key_list(list).and_then(|keys| {
+        let entry = Entry::from_bytes(entry, &keys)?;
+        Ok(pack::entry_to_text(&entry, &keys))
+    });
+    match readable {
+        Ok(line) => format!("{head}{line}\n"),
+        Err(_) => format!("{head}\n{}", entry_in_hex(entry)),
+    }
+}
+
+fn entry_in_hex(entry: &[u8]) -> String {
+    let (priority, records) = entry.split_at(entry.len().min(Entry::PRIORITY_SIZE));
+    let mut lines = format!("    {}\n", hex(priority));
+    for record in records.chunks(Record::SIZE) {
+        lines.push_str(&format!("    {}\n", hex(record)));
+    }
+    lines
+}
+
+fn blocks(blocks: &[u8]) -> String {
+    let mut lines = format!("  blocks, {} bytes:\n", blocks.len());
+    for block in blocks.chunks(BLOCK) {
+        if block.len() < BLOCK {
+            lines.push_str(&format!("    cut block: {}\n", hex(block)));
+        } else {
+            lines.push_str(&whole_block(block));
+        }
+    }
+    lines
+}
+
+fn whole_block(block: &[u8]) -> String {
+    let word = |place: usize| usize::from(u16::from_be_bytes([block[place], block[place + 1]]));
+    let check = if block[508..] == check_bytes(block) {
+        "good"
+    } else {
+        "bad"
+    };
+    let mut lines = format!(
+        "    number {}, count {}, total {}, keys {}, check {} ({check})\n",
+        word(0),
+        word(2),
+        word(504),
+        word(506),
+        hex(&block[508..])
+    );
+    let code = &block[4..504];
+    for (index, bytes) in code.chunks(Parts::SIZE).enumerate() {
+        let counted = index < word(2).min(INSTRUCTIONS_IN_BLOCK);
+        if counted || bytes.iter().any(|&byte| byte != 0) {
+            lines.push_str(&instruction(bytes, counted));
+        }
+    }
+    lines
+}
+
+fn instruction(bytes: &[u8], counted: bool) -> String {
+    let words = match Instruction::from_parts(Parts::from_bytes(bytes)) {
+        Some(instruction) => format!("{instruction:?}"),
+        None => "no instruction".to_string(),
+    };
+    let beyond = if counted { "" } else { ", beyond the count" };
+    let (head, constant) = bytes.split_at(4);
+    format!("      {} {} {words}{beyond}\n", hex(head), hex(constant))
+}
+
+fn buffer(buffer: &[u8]) -> String {
+    let start = &buffer[..buffer.len().min(8)];
+    format!("  buffer, {} bytes: {}...\n", buffer.len(), hex(start))
+}
+
+pub fn hex(bytes: &[u8]) -> String {
+    bytes.iter().map(|byte| format!("{byte:02x}")).collect()
+}

@@ -1,0 +1,99 @@
+//! What the tests share: document 01's keys and entry, and short notations.
+
+#![allow(dead_code)]
+
+use desk::lists::list_bytes;
+use desk::pack::entries::Rules;
+use desk::pack::{entries_from_text, keys_from_text};
+use desk::reference::{check, judge, load, read, run, translate, Answer, Input};
+
+pub const KEYS: &str = "v exact 1\nd ternary 8\np lpm 8\nr range 16\no optional 4\n";
+pub const ENTRY: &str = "priority 10; v 1; d 0x20 &&& 0xf0; p 0xc0/2; r 80..443; o *";
+
+/// The bytes of a readable key list.
+pub fn list_of(keys: &str) -> Vec<u8> {
+    list_bytes(&keys_from_text(keys.as_bytes()).expect("good keys"))
+}
+
+/// The bytes of a readable entry, whether it conforms or not.
+pub fn entry_of(keys: &str, entry: &str) -> Vec<u8> {
+    let keys = keys_from_text(keys.as_bytes()).expect("good keys");
+    entries_from_text(entry.as_bytes(), &keys, Rules::Ignored).expect("readable entry")
+}
+
+/// Document 01's key list.
+pub fn list() -> Vec<u8> {
+    list_of(KEYS)
+}
+
+/// Document 01's entry.
+pub fn entry() -> Vec<u8> {
+    entry_of(KEYS, ENTRY)
+}
+
+/// "A", "V", "passed", "8@5" for a refusal in the text, "19 entry 5" for
+/// another, and counts as they are.
+pub fn short(answer: Answer) -> String {
+    match answer {
+        Answer::Accepted => "A".to_string(),
+        Answer::Violated => "V".to_string(),
+        Answer::Refused {
+            number,
+            input: Input::Text,
+            offset,
+        } => format!("{number}@{offset}"),
+        Answer::Refused {
+            number,
+            input,
+            offset,
+        } => format!("{number} {input} {offset}"),
+        counted => counted.to_string(),
+    }
+}
+
+pub fn reading(text: impl AsRef<[u8]>) -> String {
+    short(read(text.as_ref()))
+}
+
+pub fn checking(text: impl AsRef<[u8]>) -> String {
+    short(check(text.as_ref(), &list()))
+}
+
+pub fn checking_on(text: &str, keys: &str) -> String {
+    short(check(text.as_bytes(), &list_of(keys)))
+}
+
+pub fn judging(text: impl AsRef<[u8]>) -> String {
+    short(judge(text.as_ref(), &list(), &entry()))
+}
+
+pub fn judging_on(text: &str, keys: &str, entry: &str) -> String {
+    let entry = entry_of(keys, entry);
+    short(judge(text.as_bytes(), &list_of(keys), &entry))
+}
+
+pub fn loading(list: &[u8], blocks: &[u8]) -> String {
+    short(load(list, blocks))
+}
+
+pub fn running(list: &[u8], blocks: &[u8], entry: &[u8]) -> String {
+    short(run(list, blocks, entry))
+}
+
+/// The blocks of a text.
+pub fn translated(text: &str, list: &[u8]) -> Vec<u8> {
+    let mut buffer = vec![0; 82 * 512];
+    match translate(text.as_bytes(), list, &mut buffer) {
+        Answer::Translated(count) => buffer.truncate(count.div_ceil(25) * 512),
+        refused => panic!("{text}: {refused}"),
+    }
+    buffer
+}
+
+/// Holds each text against its wanted answer.
+pub fn all<T: AsRef<[u8]>>(ask: fn(T) -> String, cases: Vec<(T, &str)>) {
+    for (text, wanted) in cases {
+        let shown = text.as_ref().escape_ascii().to_string();
+        assert_eq!(ask(text), wanted, "{shown}");
+    }
+}

@@ -1,0 +1,133 @@
+//! What the generated requests and cases promise.
+
+mod common;
+
+use std::collections::BTreeMap;
+
+use desk::generate::{cases, entries, lists, programs, request, rng::Rng, snippets};
+use desk::lists::{list_bytes, NamedKey};
+use desk::reference::blocks::{blocks_of, bytes_needed};
+use desk::reference::keys::Key;
+use desk::reference::{judge, load, run, translate, Answer};
+use desk::requests::{Call, Request};
+
+/// "refused 13", "accepted" and so on, with how often it occurs.
+fn counts(requests: impl Iterator<Item = Request>) -> BTreeMap<String, usize> {
+    let mut counts = BTreeMap::new();
+    for request in requests {
+        let line = request.answer_line();
+        let words: Vec<&str> = line.split(' ').collect();
+        let kind = match words[..] {
+            ["refused", number, ..] => format!("refused {number}"),
+            _ => words[0].to_string(),
+        };
+        *counts.entry(kind).or_default() += 1;
+    }
+    counts
+}
+
+#[test]
+fn one_seed_gives_one_run() {
+    for index in [0, 1, 999] {
+        assert_eq!(request(5, index), request(5, index));
+        assert_ne!(request(5, index), request(6, index));
+        assert_eq!(cases::case(5, index), cases::case(5, index));
+    }
+}
+
+#[test]
+fn every_refusal_occurs_often() {
+    let counts = counts((0..20_000).map(|index| request(1, index)));
+    for number in 1..=20 {
+        let count = counts[&format!("refused {number}")];
+        assert!(count >= 60, "refusal {number} occurs {count} times");
+    }
+    for answer in [
+        "read",
+        "passed",
+        "accepted",
+        "violated",
+        "translated",
+        "loaded",
+    ] {
+        assert!(counts[answer] >= 1_000, "{answer}: {}", counts[answer]);
+    }
+    assert!(counts.contains_key("unknown") && counts.contains_key("too"));
+}
+
+#[test]
+fn cases_are_mixed_and_mostly_short() {
+    let all: Vec<Request> = (0..5_000).map(|index| cases::case(1, index)).collect();
+    let short = all.iter().filter(|case| case.inputs[0].len() < 120);
+    assert!(short.count() > 4_700);
+    let counts = counts(all.into_iter());
+    for number in (1..=14).chain([19, 20]) {
+        assert!(
+            counts.contains_key(&format!("refused {number}")),
+            "{number}"
+        );
+    }
+    let settled = counts["accepted"] + counts["violated"];
+    assert!((1_400..2_400).contains(&settled), "{settled}");
+}
+
+#[test]
+fn lines_of_cases() {
+    let case = Request::new(Call::Judge, b"true".to_vec(), Vec::new(), vec![0, 0, 0, 9]);
+    assert_eq!(cases::line(&case), "74727565 - 00000009 accepted");
+    let case = Request::new(Call::Judge, Vec::new(), Vec::new(), Vec::new());
+    assert_eq!(cases::line(&case), "- - - refused 8 text 0");
+}
+
+#[test]
+fn good_lists_and_entries_conform() {
+    for index in 0..3_000 {
+        let mut rng = Rng::for_item(2, index);
+        let keys = lists::good(&mut rng, 6);
+        let entry = entries::good(&mut rng, &keys);
+        let answer = judge(b"true", &list_bytes(&keys), &entry.to_bytes());
+        assert_eq!(answer, Answer::Accepted);
+    }
+}
+
+#[test]
+fn good_programs_load() {
+    for index in 0..3_000 {
+        let mut rng = Rng::for_item(3, index);
+        let keys = lists::good(&mut rng, 6);
+        let entry = entries::good(&mut rng, &keys);
+        let joins = rng.below(10);
+        let code = programs::good(&mut rng, &keys, &entry, joins);
+        let answer = load(&list_bytes(&keys), &blocks_of(&code, keys.len()));
+        assert_eq!(answer, Answer::Loaded(code.len()));
+    }
+}
+
+/// Whatever is judged from the text is judged alike from its blocks.
+#[test]
+fn translations_mean_what_their_texts_mean() {
+    let mut settled = 0;
+    for index in 0..6_000 {
+        let case = cases::case(4, index);
+        let [text, list, entry] = &case.inputs;
+        let from_text = judge(text, list, entry);
+        let mut buffer = vec![0; bytes_needed(1_300)];
+        let Answer::Translated(count) = translate(text, list, &mut buffer) else {
+            continue;
+        };
+        let blocks = &buffer[..bytes_needed(count)];
+        assert_eq!(load(list, blocks), Answer::Loaded(count));
+        assert_eq!(run(list, blocks, entry), from_text);
+        settled += 1;
+    }
+    assert!(settled > 1_500, "{settled}");
+}
+
+#[test]
+fn the_marked_scene_is_document_01s() {
+    let keys = snippets::marked_keys();
+    assert_eq!(list_bytes(&keys), common::list());
+    assert_eq!(snippets::marked_entry().to_bytes(), common::entry());
+    let lent: Vec<Key> = keys.iter().map(NamedKey::key).collect();
+    assert_eq!(lent.len(), 5);
+}

@@ -1,0 +1,281 @@
+//! The program `desk` as people call it.
+
+mod common;
+
+use std::fs;
+use std::io::Write;
+use std::path::PathBuf;
+use std::process::{Command, Output, Stdio};
+
+use common::*;
+use desk::requests::{adler32, Call, Request};
+
+const DESK: &str = env!("CARGO_BIN_EXE_desk");
+
+fn desk(arguments: &[&str], input: &[u8]) -> Output {
+    let mut child = Command::new(DESK)
+        .args(arguments)
+        .stdin(Stdio::piped())
+        .stdout(Stdio::piped())
+        .stderr(Stdio::piped())
+        .spawn()
+        .expect("desk starts");
+    let mut to_child = child.stdin.take().expect("piped");
+    let input = input.to_vec();
+    let feeding = std::thread::spawn(move || {
+        let _ = to_child.write_all(&input);
+    });
+    let output = child.wait_with_output().expect("desk ends");
+    feeding.join().expect("fed");
+    output
+}
+
+fn text_of(bytes: &[u8]) -> String {
+    String::from_utf8(bytes.to_vec()).expect("readable output")
+}
+
+/// A file of this test run.
+fn file(name: &str, contents: &[u8]) -> String {
+    let path = PathBuf::from(env!("CARGO_TARGET_TMPDIR")).join(name);
+    fs::write(&path, contents).expect("a file can be written");
+    path.to_str().expect("a plain path").to_string()
+}
+
+fn bytes(requests: &[Request]) -> Vec<u8> {
+    let mut bytes = Vec::new();
+    for request in requests {
+        request.write(&mut bytes).expect("a vector takes all");
+    }
+    bytes
+}
+
+#[test]
+fn answer_lines() {
+    let text = |text: &str| text.as_bytes().to_vec();
+    let none = Vec::new;
+    let block = translated("v == 1", &list());
+    let requests = [
+        Request::new(Call::Read, text("true && true"), none(), none()),
+        Request::new(Call::Check, text("v == 1"), list(), none()),
+        Request::new(Call::Judge, text("v == 1"), list(), entry()),
+        Request::new(Call::Judge, text("d == 1"), list(), entry()),
+        Request::new(Call::Translate, text("v == 1"), list(), vec![0; 512]),
+        Request::new(Call::Translate, text("v == 1"), list(), vec![1; 3]),
+        Request::new(Call::Load, list(), block.clone(), none()),
+        Request::new(Call::Run, list(), block.clone(), entry()),
+        Request::new(Call::Read, text("@"), none(), none()),
+        Request::new(Call::Load, vec![0; 3], none(), none()),
+        Request::new(Call::Run, list(), block.clone(), none()),
+        Request::new(Call::Load, list(), none(), none()),
+    ];
+    let output = desk(&["answer"], &bytes(&requests));
+    let sum = adler32(&block);
+    let wanted = format!(
+        "read 3\npassed\naccepted\nviolated\ntranslated 4 {sum}\nrefused 15 buffer 3 589828\n\
+         loaded 4\naccepted\nrefused 5 text 0\nrefused 2 list 3\nrefused 19 entry 0\n\
+         refused 16 blocks 0\n"
+    );
+    assert_eq!(text_of(&output.stdout), wanted);
+}
+
+/// Adler-32 of known bytes.
+#[test]
+fn sums() {
+    assert_eq!(adler32(b""), 1);
+    assert_eq!(adler32(b"Wikipedia"), 0x11e6_0398);
+    assert_eq!(adler32(&[1; 3]), 589_828);
+}
+
+#[test]
+fn odd_requests() {
+    let long = vec![b' '; 65_537];
+    let limit = vec![b' '; 65_536];
+    let mut input = bytes(&[
+        Request::new(Call::Read, long, Vec::new(), Vec::new()),
+        Request::new(Call::Read, limit, Vec::new(), Vec::new()),
+        Request {
+            call: 7,
+            inputs: Default::default(),
+        },
+        Request {
+            call: 0,
+            inputs: Default::default(),
+        },
+    ]);
+    let wanted = "too long\nrefused 1 text 4096\nunknown\nunknown\n";
+    assert_eq!(text_of(&desk(&["answer"], &input).stdout), wanted);
+    // A last request cut in its call, a length or an input.
+    let whole = bytes(&[Request::new(
+        Call::Read,
+        b"true".to_vec(),
+        Vec::new(),
+        Vec::new(),
+    )]);
+    for length in 1..whole.len() {
+        let lines = text_of(&desk(&["answer"], &whole[..length]).stdout);
+        assert_eq!(lines, "cut\n", "{length} bytes");
+    }
+    input.extend_from_slice(&whole[..9]);
+    let lines = text_of(&desk(&["answer"], &input).stdout);
+    assert_eq!(lines, format!("{wanted}cut\n"));
+    assert_eq!(text_of(&desk(&["answer"], &[]).stdout), "");
+}
+
+#[test]
+fn generate_histogram_and_show() {
+    let output = desk(&["generate", "--seed", "3", "--count", "300"], &[]);
+    let again = desk(&["generate", "--count", "300", "--seed", "3"], &[]);
+    assert_eq!(output.stdout, again.stdout);
+    let lines = text_of(&desk(&["answer"], &output.stdout).stdout);
+    assert_eq!(lines.lines().count(), 300);
+    let table = text_of(&desk(&["histogram"], &output.stdout).stdout);
+    let last: Vec<&str> = table.lines().last().unwrap().split_whitespace().collect();
+    assert_eq!(last[..2], ["all", "300"]);
+    assert!(desk(&["show"], &output.stdout).status.success());
+}
+
+#[test]
+fn show_a_request() {
+    let request = Request::new(Call::Judge, b"ipv4('x') == v".to_vec(), list(), entry());
+    let shown = text_of(&desk(&["show"], &bytes(&[request])).stdout);
+    let wanted = format!(
+        "judge\n  text, 14 bytes: \"ipv4('x') == v\"\n  key list, 400 bytes:\n    v exact 1\n    \
+         d ternary 8\n    p lpm 8\n    r range 16\n    o optional 4\n  entry, 184 bytes: {ENTRY}\n  \
+         answer: refused 10 text 5\n\n"
+    );
+    assert_eq!(shown, wanted);
+}
+
+#[test]
+fn compare_with_itself() {
+    let output = desk(
+        &[
+            "compare", "--seed", "1", "--count", "5000", "--", DESK, "answer",
+        ],
+        &[],
+    );
+    assert_eq!(text_of(&output.stdout), "5000 requests, no difference\n");
+    assert_eq!(output.status.code(), Some(0));
+}
+
+/// Compares with a program whose lines a sed script has changed.
+fn compare_with_sed(script: &str) -> String {
+    let command = format!("'{DESK}' answer | sed '{script}'");
+    let arguments = [
+        "compare", "--seed", "2", "--count", "20000", "--", "sh", "-c", &command,
+    ];
+    let output = desk(&arguments, &[]);
+    assert_eq!(output.status.code(), Some(1));
+    text_of(&output.stdout)
+}
+
+#[test]
+fn differences_are_found_and_made_small() {
+    let found = compare_with_sed("s/refused 13/refused 11/");
+    assert!(found.contains("difference at request"));
+    let smallest = found
+        .split("the smallest found:")
+        .nth(1)
+        .expect("a smallest");
+    let text = smallest
+        .lines()
+        .find(|line| line.starts_with("  text, "))
+        .expect("a text");
+    let length = text
+        .trim_start_matches("  text, ")
+        .split(' ')
+        .next()
+        .unwrap();
+    assert!(length.parse::<usize>().unwrap() <= 6, "{smallest}");
+    assert!(smallest.contains("reference: refused 13"));
+    assert!(smallest.contains("program:   refused 11"));
+}
+
+#[test]
+fn a_program_that_stops_is_found() {
+    let found = compare_with_sed("/refused 9/,$d");
+    let smallest = found
+        .split("the smallest found:")
+        .nth(1)
+        .expect("a smallest");
+    assert!(smallest.contains("reference: refused 9"), "{smallest}");
+    assert!(smallest.contains("program:   (no line)"), "{smallest}");
+}
+
+#[test]
+fn a_wrong_line_for_a_cut_request_is_found() {
+    assert!(compare_with_sed("s/^cut/kut/").contains("not [\"cut\"]"));
+}
+
+#[test]
+fn pack_and_unpack() {
+    let keys = file("keys", KEYS.as_bytes());
+    let entries = file("entries", format!("{ENTRY}\n").as_bytes());
+    let packed = desk(&["pack", "keys", &keys], &[]).stdout;
+    assert_eq!(packed, list());
+    let list = file("list", &packed);
+    assert_eq!(text_of(&desk(&["unpack", "keys", &list], &[]).stdout), KEYS);
+    let packed = desk(&["pack", "entries", &keys, &entries], &[]).stdout;
+    assert_eq!(packed, entry());
+    let packed = file("packed", &packed);
+    let text = desk(&["unpack", "entries", &keys, &packed], &[]).stdout;
+    assert_eq!(text_of(&text), format!("{ENTRY}\n"));
+}
+
+#[test]
+fn trouble_is_told_with_its_line() {
+    let keys = file("keys-good", KEYS.as_bytes());
+    let wrong = file("keys-wrong", b"v exact 1\nd ternary 200\n");
+    let output = desk(&["pack", "keys", &wrong], &[]);
+    assert_eq!(output.status.code(), Some(2));
+    let told = text_of(&output.stderr);
+    assert!(
+        told.ends_with("keys-wrong:2: 200 is no width from 1 to 128\n"),
+        "{told}"
+    );
+    let single = file("single-port", b"v 1\nv 1; r 443..443\n");
+    let output = desk(&["pack", "entries", &keys, &single], &[]);
+    assert_eq!(output.status.code(), Some(2));
+    assert!(output.stdout.is_empty());
+    assert!(text_of(&output.stderr).contains("single-port:2: r: low 443"));
+    let any = desk(&["pack", "entries", "--any", &keys, &single], &[]);
+    assert_eq!(any.stdout.len(), 2 * 184);
+    let cut = file("cut-list", &list()[..100]);
+    let output = desk(&["unpack", "keys", &cut], &[]);
+    assert_eq!(output.status.code(), Some(2));
+    assert!(text_of(&output.stderr).contains("refusal 2"));
+    let output = desk(&["pack", "keys", "/no/such/file"], &[]);
+    assert_eq!(output.status.code(), Some(2));
+}
+
+#[test]
+fn wrong_command_lines() {
+    for arguments in [
+        &[][..],
+        &["nothing"],
+        &["answer", "x"],
+        &["generate", "--seed", "1"],
+        &["generate", "--seed", "x", "--count", "1"],
+        &["generate", "--seed"],
+        &["compare", "--seed", "1", "--count", "1"],
+        &["compare", "--seed", "1", "--count", "1", "--"],
+        &[
+            "compare",
+            "--seed",
+            "1",
+            "--count",
+            "1",
+            "--",
+            "/no/such/program",
+        ],
+        &["pack"],
+        &["unpack", "entries", "x"],
+    ] {
+        let output = desk(arguments, &[]);
+        assert_eq!(output.status.code(), Some(2), "{arguments:?}");
+        assert!(
+            text_of(&output.stderr).starts_with("desk: "),
+            "{arguments:?}"
+        );
+    }
+}

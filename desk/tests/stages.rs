@@ -1,0 +1,82 @@
+//! Which stages each call has, and their order.
+
+mod common;
+
+use common::*;
+use desk::reference::{check, judge, load, read, run, translate};
+
+const LONG: [u8; 4097] = [b' '; 4097];
+
+#[test]
+fn text_length_comes_first() {
+    assert_eq!(short(read(&LONG)), "1@4096");
+    assert_eq!(short(check(&LONG, &[0; 3])), "1@4096");
+    assert_eq!(short(judge(&LONG, &[0; 3], &[])), "1@4096");
+    assert_eq!(short(translate(&LONG, &[0; 3], &mut [])), "1@4096");
+}
+
+#[test]
+fn list_comes_before_tokens() {
+    assert_eq!(short(check(b"\xff", &[0; 3])), "2 list 3");
+    assert_eq!(short(judge(b"\xff", &[0; 80], &[])), "3 list 0");
+    assert_eq!(
+        short(translate(b"\xff", &[0; 2640], &mut [])),
+        "2 list 2640"
+    );
+    assert_eq!(short(read(b"\xff")), "5@0");
+}
+
+#[test]
+fn tokens_before_grammar_before_types_before_entry() {
+    assert_eq!(short(judge(b"true true @", &list(), &[])), "5@10");
+    assert_eq!(short(judge(b"zz true", &list(), &[])), "8@3");
+    assert_eq!(short(judge(b"zz", &list(), &[])), "11@0");
+    assert_eq!(short(judge(b"1", &list(), &[])), "14@0");
+    assert_eq!(short(judge(b"true", &list(), &[])), "19 entry 0");
+    assert_eq!(short(judge(b"true", &list(), &[0xff; 184])), "20 entry 0");
+}
+
+/// A short buffer hides no fault of the text.
+#[test]
+fn buffer_comes_after_types() {
+    assert_eq!(short(translate(b"d > 3", &list(), &mut [])), "13@2");
+    assert_eq!(short(translate(b"1", &list(), &mut [])), "14@0");
+    assert_eq!(short(translate(b"true", &list(), &mut [])), "15 buffer 0");
+}
+
+#[test]
+fn load_and_run() {
+    assert_eq!(short(load(&[0; 3], &[])), "2 list 3");
+    assert_eq!(short(load(&list(), &[])), "16 blocks 0");
+    assert_eq!(short(run(&list(), &[0; 512], &[])), "17 blocks 0");
+    let blocks = translated("true", &list());
+    assert_eq!(short(run(&list(), &blocks, &[])), "19 entry 0");
+    assert_eq!(short(run(&list(), &blocks, &[0xff; 184])), "20 entry 0");
+    assert_eq!(short(run(&list(), &blocks, &entry())), "A");
+}
+
+/// Load and run take the list that they are given; nothing is remembered.
+#[test]
+fn blocks_against_another_list() {
+    let blocks = translated("d == 1", &list());
+    let other = "v exact 1\nd ternary 9\np lpm 8\nr range 16\no optional 4\n";
+    assert_eq!(loading(&list_of(other), &blocks), "18 blocks 64");
+    assert_eq!(loading(&list_of("v exact 1"), &blocks), "17 blocks 0");
+}
+
+/// A refusal changes nothing lent.
+#[test]
+fn refused_translation_leaves_the_buffer() {
+    for (text, length, wanted) in [
+        ("d > 3", 600, "13@2"),
+        ("v == 1", 511, "15 buffer 511"),
+        ("true;;", 512, "8@5"),
+    ] {
+        let mut buffer = vec![0x5a; length];
+        assert_eq!(
+            short(translate(text.as_bytes(), &list(), &mut buffer)),
+            wanted
+        );
+        assert!(buffer.iter().all(|&byte| byte == 0x5a), "{text}");
+    }
+}

@@ -5,3 +5,6 @@ pub mod Records
 mod Lookup
 mod Listing
 pub mod Checked
+mod Matches
+mod Entering
+pub mod Conforming

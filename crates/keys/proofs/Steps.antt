@@ -1,5 +1,4 @@
--- Going through bytes one at a time: what a definition over a list is from an offset on, where the byte there passes and
--- where it does not.
+-- What the proofs of loops and tests share: a list a byte at a time, and a count of what is left.
 use Prim.Native.Nat.{ℕ, suc, _+_, _-_, _≤_, _<_}
 use mathlib.Core.Path.{_≡_, refl, sym, ap, _∙_}
 use mathlib.Core.Bool.{Bool, true, false, not, cond}
@@ -12,12 +11,19 @@ use borrow.Author.Tests.{eq-eqb, ne-eqb, not-true, not-false}
 use Rattle.paper.specs.Tokens.{sameBytes}
 use Rattle.paper.specs.Keys.{allZero}
 
--- after `if !test`, what the test is of
+-- after `if !test`
 pub refuted : {r t : Bool} → r ≡ t → not r ≡ true → t ≡ false
 refuted e h = sym e ∙ not-true _ h
 
 pub granted : {r t : Bool} → r ≡ t → not r ≡ false → t ≡ true
 granted e h = sym e ∙ not-false _ h
+
+-- k are passed, of n
+pub one-less : (n k : ℕ) → k < n → n - k ≡ suc (n - (k + 1))
+one-less n k h = omega arith
+
+pub none-left : (n k : ℕ) → n ≤ k → n - k ≡ 0
+none-left n k h = omega arith
 
 pub cut : (s : List ℕ) (i : ℕ) → i < length s → drop i s ≡ getD s i 0 ∷ drop (i + 1) s
 cut s i h =
@@ -49,11 +55,12 @@ other-length (x ∷ a) [] h = refl
 other-length (x ∷ a) (y ∷ b) h = rw (other-length a b (λ e. h (ap suc e))) (fails (eqb x y))
 
 module _ (a b : List ℕ) (i : ℕ) where
-  pub same-on : i < length a → i < length b → getD a i 0 ≡ getD b i 0 → sameBytes (drop i a) (drop i b) ≡ sameBytes
-      (drop (i + 1) a) (drop (i + 1) b)
+  pub same-on : i < length a → i < length b → getD a i 0 ≡ getD b i 0
+      → sameBytes (drop i a) (drop i b) ≡ sameBytes (drop (i + 1) a) (drop (i + 1) b)
   same-on g h e = rw (cut a i g, cut b i h, eq-eqb _ _ e)
 
-  pub same-stop : i < length a → i < length b → (getD a i 0 ≡ getD b i 0 → ⊥) → sameBytes (drop i a) (drop i b) ≡ false
+  pub same-stop : i < length a → i < length b → (getD a i 0 ≡ getD b i 0 → ⊥)
+      → sameBytes (drop i a) (drop i b) ≡ false
   same-stop g h e = rw (cut a i g, cut b i h, ne-eqb _ _ e)
 
   pub same-end : length a ≤ i → length b ≤ i → sameBytes (drop i a) (drop i b) ≡ true

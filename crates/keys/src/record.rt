@@ -17,14 +17,23 @@ impl KeyRecord {
     pub const SIZE: usize = 80;
 
     pub const MOST: usize = 32;
+
     // Where the name begins.
     pub const NAME: usize = 16;
 
     pub const LONGEST: u8 = 64;
 
-    pub const KINDS: u8 = 5;
-
     pub const WIDEST: u8 = 128;
+
+    pub const EXACT: u8 = 0;
+
+    pub const TERNARY: u8 = 1;
+
+    pub const LPM: u8 = 2;
+
+    pub const RANGE: u8 = 3;
+
+    pub const OPTIONAL: u8 = 4;
 
     pub fn read(list: &[u8], k: usize) -> KeyRecord
         requires { ⌜ k < length (now list) / recordSize ⌝ }
@@ -85,7 +94,7 @@ pub fn record_ok(key: &[u8]) -> bool
     if KeyRecord::LONGEST < size {
         return false;
     }
-    if KeyRecord::KINDS <= key[1] {
+    if KeyRecord::OPTIONAL < key[1] {
         return false;
     }
     if !bytes::within(1, KeyRecord::WIDEST, key[2]) {

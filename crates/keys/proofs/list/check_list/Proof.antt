@@ -19,33 +19,34 @@ abbrev μ-loop : tie.MeasureT-loop
 
 returns-3 : tie.Need-returns-3 Inv-loop μ-loop
 returns-3 c =
-    let s = now (c .before .before .before .before .before .before .before .before .args .list) in
-    let l = c .before .before .before .before .loop in
+    let r = c .before in
+    let l = r .before .before .before .loop in
+    let s = now (r .before .before .before .before .before .before .before .args .list) in
     sym (by-records s (search needs) (search needs)
-    (sym (l .inv .1) ∙ broken s (length s / 80) (l .k) (search needs) (c .before .before .record-at .ensures .0)
-    (refuted (c .before .record-ok .ensures) (c .if3 .taken))))
+    (sym (l .inv .1) ∙ broken s (length s / 80) (l .k) (search needs) (r .before .record-at .ensures .0)
+    (refuted (r .record-ok .ensures) (c .if3 .taken))))
 
 returns-4 : tie.Need-returns-4 Inv-loop μ-loop
 returns-4 c =
-    let s = now (c .before .before .before .before .before .before .before .before .before .before .before .before .args .list) in
-    let l = c .before .before .before .before .before .before .before .before .loop in
+    let f = c .before .before in
+    let r = f .before .before .before in
+    let l = r .before .before .before .loop in
+    let s = now (r .before .before .before .before .before .before .before .args .list) in
     sym (by-records s (search needs) (search needs)
-    (sym (l .inv .1) ∙ repeated s (length s / 80) (l .k) (search needs)
-    (c .before .before .before .before .before .before .record-at .ensures .0)
-    (granted (c .before .before .before .before .before .record-ok .ensures)
-    (c .before .before .before .before .if3 .left)) (c .before .before .before .name-of .ensures)
-    (sym (c .before .before .find-among .ensures) ∙ ap found (c .enum-told2 .given .1))))
+    (sym (l .inv .1) ∙ repeated s (length s / 80) (l .k) (search needs) (r .before .record-at .ensures .0)
+    (granted (r .record-ok .ensures) (f .before .before .if3 .left)) (f .before .name-of .ensures)
+    (sym (f .find-among .ensures) ∙ ap found (c .enum-told2 .given .1))))
 
 loop-again : tie.Need-loop-again Inv-loop μ-loop
 loop-again c =
-    let s = now (c .before .before .before .before .before .before .before .before .before .before .before .before .args .list) in
-    let l = c .before .before .before .before .before .before .before .before .loop in (
+    let f = c .before .before in
+    let r = f .before .before .before in
+    let l = r .before .before .before .loop in
+    let s = now (r .before .before .before .before .before .before .before .args .list) in (
       search needs,
-      sym (passed s (length s / 80) (l .k) (search needs)
-          (c .before .before .before .before .before .before .record-at .ensures .0)
-          (granted (c .before .before .before .before .before .record-ok .ensures)
-          (c .before .before .before .before .if3 .left)) (c .before .before .before .name-of .ensures)
-          (sym (c .before .before .find-among .ensures) ∙ ap found (c .enum-told .given .1))) ∙ l .inv .1,
+      sym (passed s (length s / 80) (l .k) (search needs) (r .before .record-at .ensures .0)
+          (granted (r .record-ok .ensures) (f .before .before .if3 .left)) (f .before .name-of .ensures)
+          (sym (f .find-among .ensures) ∙ ap found (c .enum-told .given .1))) ∙ l .inv .1,
     )
 
 returns-5 : tie.Need-returns-5 Inv-loop μ-loop

@@ -3,21 +3,15 @@ use Rattle.keys.proofs.Steps.{refuted, granted}
 use Rattle.keys.proofs.record.name_ok.Statement.{statement}
 use Rattle.keys.proofs.record.name_ok.Tie as tie
 
-returns-2 : tie.Need-returns-2
-returns-2 c = rw (
-  granted (c .before .before .before .before .is-key .ensures) (c .before .before .before .if1 .left),
-  ← c .before .same-bytes .ensures,
-  c .if2 .taken,
-)
-
 returns-3 : tie.Need-returns-3
-returns-3 c = rw (
-  granted (c .before .before .before .before .before .before .is-key .ensures)
-      (c .before .before .before .before .before .if1 .left),
-  ← c .before .before .before .same-bytes .ensures,
-  c .before .before .if2 .left,
-  c .same-bytes2 .ensures,
-)
+returns-3 c =
+    rw (
+      granted (c .before .before .before .before .before .before .is-key .ensures)
+          (c .before .before .before .before .before .if1 .left),
+      ← c .before .before .before .same-bytes .ensures,
+      c .before .before .if2 .left,
+      c .same-bytes2 .ensures,
+    )
 
 pub name-ok-spec : {M : Type 1} → statement M
 name-ok-spec =
@@ -27,7 +21,11 @@ name-ok-spec =
     (λ c. rw (refuted (c .before .is-key .ensures) (c .if1 .taken)))
     (λ c. search needs)
     (λ c κs. search needs)
-    returns-2
+    (λ c. rw (
+      granted (c .before .before .before .before .is-key .ensures) (c .before .before .before .if1 .left),
+      ← c .before .same-bytes .ensures,
+      c .if2 .taken,
+    ))
     (λ c. search needs)
     (λ c κs. search needs)
     returns-3)

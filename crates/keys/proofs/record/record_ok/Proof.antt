@@ -20,7 +20,11 @@ returns-2 c =
 returns-3 : tie.Need-returns-3
 returns-3 c =
     let s = now (c .before .before .before .before .before .before .args .key) in
-    rw (le-leb 1 (getD s 0 0) (omega arith), le-leb (getD s 0 0) 64 (omega arith), lt-leb (getD s 1 0) 4 (omega arith))
+    rw (
+      le-leb 1 (getD s 0 0) (omega arith),
+      le-leb (getD s 0 0) 64 (omega arith),
+      lt-leb (getD s 1 0) 4 (omega arith),
+    )
 
 returns-4 : tie.Need-returns-4
 returns-4 c =
@@ -34,42 +38,45 @@ returns-4 c =
 
 returns-5 : tie.Need-returns-5
 returns-5 c =
-    let s = now (c .before .before .before .before .before .before .before .before .before .before .before .before .args .key) in
+    let w = c .before .before .before in
+    let s = now (w .before .before .before .before .before .before .before .before .before .args .key) in
     rw (
       le-leb 1 (getD s 0 0) (omega arith),
       le-leb (getD s 0 0) 64 (omega arith),
       le-leb (getD s 1 0) 4 (omega arith),
-      granted (c .before .before .before .before .within .ensures) (c .before .before .before .if4 .left),
+      granted (w .before .within .ensures) (w .if4 .left),
       refuted (c .before .all-zero .ensures) (c .if5 .taken),
     )
 
 returns-6 : tie.Need-returns-6
 returns-6 c =
-    let s = now (c .before .before .before .before .before .before .before .before .before .before .before .before .before .before .before .args .key) in
+    let z = c .before .before .before in
+    let w = z .before .before .before in
+    let s = now (w .before .before .before .before .before .before .before .before .before .args .key) in
     rw (
       le-leb 1 (getD s 0 0) (omega arith),
       le-leb (getD s 0 0) 64 (omega arith),
       le-leb (getD s 1 0) 4 (omega arith),
-      granted (c .before .before .before .before .before .before .before .within .ensures)
-          (c .before .before .before .before .before .before .if4 .left),
-      granted (c .before .before .before .before .all-zero .ensures) (c .before .before .before .if5 .left),
+      granted (w .before .within .ensures) (w .if4 .left),
+      granted (z .before .all-zero .ensures) (z .if5 .left),
       ← c .before .before .name-of .ensures,
       refuted (c .before .name-ok .ensures) (c .if6 .taken),
     )
 
 returns-7 : tie.Need-returns-7
 returns-7 c =
-    let s = now (c .before .before .before .before .before .before .before .before .before .before .before .before .before .before .before .before .before .args .key) in
+    let n = c .before .before in
+    let z = n .before .before .before in
+    let w = z .before .before .before in
+    let s = now (w .before .before .before .before .before .before .before .before .before .args .key) in
     rw (
       le-leb 1 (getD s 0 0) (omega arith),
       le-leb (getD s 0 0) 64 (omega arith),
       le-leb (getD s 1 0) 4 (omega arith),
-      granted (c .before .before .before .before .before .before .before .before .before .within .ensures)
-          (c .before .before .before .before .before .before .before .before .if4 .left),
-      granted (c .before .before .before .before .before .before .all-zero .ensures)
-          (c .before .before .before .before .before .if5 .left),
-      ← c .before .before .before .before .name-of .ensures,
-      granted (c .before .before .before .name-ok .ensures) (c .before .before .if6 .left),
+      granted (w .before .within .ensures) (w .if4 .left),
+      granted (z .before .all-zero .ensures) (z .if5 .left),
+      ← n .before .before .name-of .ensures,
+      granted (n .before .name-ok .ensures) (n .if6 .left),
       c .all-zero2 .ensures,
       to-end,
     )

@@ -15,8 +15,7 @@ returns-3 c =
     rw (
       ← c .before .before .before .before .is-id-byte .ensures,
       c .before .before .before .if1 .left,
-      eq-eqb _ _
-          (c .before .if2 .left),
+      eq-eqb _ _ (c .before .if2 .left),
       drop-of-length-le (now (a .s)) h,
     )
 
@@ -27,10 +26,8 @@ returns-4 c =
       ← c .before .before .before .before .before .before .is-id-byte .ensures,
       c .before .before .before .before .before .if1 .left,
       eq-eqb _ _ (c .before .before .before .if2 .left),
-      cut
-          (now (a .s)) (a .i + 1) (search needs),
-    )
-    (c .is-id-start .ensures)
+      cut (now (a .s)) (a .i + 1) (search needs),
+    ) (c .is-id-start .ensures)
 
 pub goes-on-spec : {M : Type 1} → statement M
 goes-on-spec =
@@ -43,8 +40,7 @@ goes-on-spec =
     (λ c. rw (
       ← c .before .before .before .is-id-byte .ensures,
       c .before .before .if1 .left,
-      ne-eqb _ _
-          (c .if2 .taken),
+      ne-eqb _ _ (c .if2 .taken),
     ))
     (λ c. search needs)
     returns-3

@@ -4,8 +4,12 @@ use Rattle.keys.proofs.word.is_id_start.Tie as tie
 
 pub is-id-start-spec : {M : Type 1} → statement M
 is-id-start-spec =
-    tie.close (tie.spec (λ c κs. search needs) (λ c. rw (← c .before .within .ensures, c .if1 .taken))
-    (λ c κs. search needs) (λ c. rw (
+    tie.close
+    (tie.spec
+    (λ c κs. search needs)
+    (λ c. rw (← c .before .within .ensures, c .if1 .taken))
+    (λ c κs. search needs)
+    (λ c. rw (
       ← c .before .before .before .within .ensures,
       c .before .before .if1 .left,
       ← c .before .within2 .ensures,

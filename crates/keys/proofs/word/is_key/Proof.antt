@@ -6,13 +6,6 @@ use Rattle.keys.proofs.Words.{key-none, key-some}
 use Rattle.keys.proofs.word.is_key.Statement.{statement}
 use Rattle.keys.proofs.word.is_key.Tie as tie
 
-returns-2 : tie.Need-returns-2
-returns-2 c =
-    rw (
-      key-some (now (c .before .before .before .before .before .args .s)) (search needs),
-      refuted (c .before .is-id-start .ensures) (c .if2 .taken),
-    )
-
 returns-3 : tie.Need-returns-3
 returns-3 c =
     rw (
@@ -28,7 +21,10 @@ is-key-spec =
     (λ c. sym (key-none (now (c .before .before .args .s)) (c .if1 .taken)))
     (λ c. search needs)
     (λ c κs. search needs)
-    returns-2
+    (λ c. rw (
+      key-some (now (c .before .before .before .before .before .args .s)) (search needs),
+      refuted (c .before .is-id-start .ensures) (c .if2 .taken),
+    ))
     (λ c κs. search needs)
     (λ c. search needs)
     returns-3)

@@ -8,5 +8,4 @@ returns c =
     (rw e, rw e)
 
 pub read-spec : {M : Type 1} → statement M
-read-spec =
-    tie.close (tie.spec (λ c κs. search needs) (λ c. search needs) (λ c. search needs) returns)
+read-spec = tie.close (tie.spec (λ c κs. search needs) (λ c. search needs) (λ c. search needs) returns)

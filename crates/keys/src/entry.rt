@@ -1,0 +1,58 @@
+// The check of a whole entry.
+ghost use mathlib.Core.Path.{_≡_};
+ghost use Prim.Native.Nat.{_≤_};
+ghost use lib.ListN.{length};
+ghost use Rattle.paper.specs.Entry.{headSize, priorityOf};
+ghost use Rattle.keys.specs.Says.{keysIn, enteredSays, conforms};
+use crate::matched;
+use crate::matched::Matched;
+use crate::record::KeyRecord;
+use crate::rules;
+use paper::Place;
+
+// What an entry says besides its keys' records.
+pub struct Entry {
+    pub priority: u32,
+}
+
+impl Entry {
+    // Where the keys' records begin.
+    pub const HEAD: usize = 4;
+
+    pub const HIGHEST: u32 = 0x7fff_ffff;
+
+    pub fn read(entry: &[u8]) -> Entry
+        requires { ⌜ headSize ≤ length (now entry) ⌝ }
+        ensures { λ r. ⌜ r .priority ≡ priorityOf (now (entry .entry)) ⌝ }
+    {
+        Entry {
+            priority: number::word(entry, 0),
+        }
+    }
+}
+
+pub enum Entered {
+    Conforms,
+    Refused(u8, Place),
+}
+
+pub fn check_entry(list: &[u8], entry: &[u8]) -> Entered
+    ensures { λ r. ⌜ enteredSays r ≡ conforms (keysIn (now (list .entry))) (now (entry .entry)) ⌝ }
+{
+    let n = list.len() / KeyRecord::SIZE;
+    let size = entry.len();
+    if size != Entry::HEAD + Matched::SIZE * n {
+        return Entered::Refused(19, Place::Entry(size));
+    }
+    if Entry::HIGHEST < Entry::read(entry).priority {
+        return Entered::Refused(20, Place::Entry(0));
+    }
+    let mut k = 0;
+    while k < n {
+        if !rules::match_ok(KeyRecord::read(list, k), matched::match_at(entry, k)) {
+            return Entered::Refused(20, Place::Entry(Entry::HEAD + k * Matched::SIZE));
+        }
+        k += 1;
+    }
+    Entered::Conforms
+}

@@ -1,0 +1,3 @@
+pub mod Conforming
+pub mod Indexed
+pub mod Named

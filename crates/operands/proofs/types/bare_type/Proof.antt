@@ -1,0 +1,20 @@
+use borrow.Author.Needs.{needs}
+use Prim.Native.Nat.{_/_}
+use lib.ListN.{length}
+use Rattle.keys.proofs.Records.{key-at}
+use Rattle.operands.proofs.Indexed.{no-key}
+use Rattle.operands.proofs.types.bare_type.Statement.{statement}
+use Rattle.operands.proofs.types.bare_type.Tie as tie
+
+returns : tie.Need-returns
+returns c =
+    let a = c .before .before .args in
+    rw (no-key (a .list .now) (a .k) (c .if1 .taken))
+
+returns-2 : tie.Need-returns-2
+returns-2 c =
+    let a = c .before .before .before .args in
+    rw (key-at (a .list .now) (length (a .list .now) / 80) (a .k) (search needs), c .read .ensures .0, c .read .ensures .1)
+
+pub bare-type-spec : {M : Type 1} → statement M
+bare-type-spec = tie.close (tie.spec returns (λ c κs. search needs) returns-2)

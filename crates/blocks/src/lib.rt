@@ -7,6 +7,7 @@ mod laying;
 mod sums;
 
 pub use fields::Block;
+pub use fields::two_bytes;
 pub use laying::Laid;
 pub use laying::layout;
 pub use sums::Sums;

@@ -21,5 +21,7 @@ module _ (list entry : List ℕ) (c : Conforming list entry) where
   pub entry-size : length entry ≡ headSize + matchSize * (length list / recordSize)
   entry-size = omega (arith, entry-length (keysIn list) entry (c .entered), keys-length list 0 (length list / recordSize))
 
-  pub width-fits : (k : ℕ) → k < length list / recordSize → byteAt (recordAt list k) 2 ≤ 128
-  width-fits k h = width-most (recordAt list k) (good-record list (c .listed) k h)
+  -- the record of an index can be read, from the list and from the entry
+  pub readable : (k : ℕ) → k < length list / recordSize
+      → (k < length list / recordSize) × ((byteAt (recordAt list k) 2 ≤ 128) × (headSize + (k + 1) * matchSize ≤ length entry))
+  readable k h = (h, (width-most (recordAt list k) (good-record list (c .listed) k h), omega (arith, entry-size)))

@@ -1,5 +1,4 @@
 use Prim.Native.Nat.{_/_, _<_}
-use native.Mathlib.Omega.{arith}
 use borrow.Author.Needs.{needs}
 use lib.ListN.{length}
 use Rattle.paper.specs.Keys.{kindOf}
@@ -7,7 +6,7 @@ use Rattle.paper.specs.Types.{has}
 use Rattle.paper.specs.Code.{fieldOf}
 use Rattle.keys.proofs.Records.{key-at}
 use Rattle.keys.proofs.Conforming.{match-at}
-use Rattle.operands.proofs.Conforming.{entry-size, width-fits}
+use Rattle.operands.proofs.Conforming.{readable}
 use Rattle.operands.proofs.Indexed.{no-key, is-when}
 use Rattle.operands.proofs.cells.field_cell.Statement.{statement}
 use Rattle.operands.proofs.cells.field_cell.Tie as tie
@@ -20,21 +19,20 @@ returns c =
 read-requires-2 : tie.Need-read-requires-2
 read-requires-2 c κs =
     let s = c .before .before .before .before in
-    let a = s .args in
-    (search needs, (width-fits (a .list .now) (a .entry .now) (s .pre) (a .k) (search needs), omega (arith, entry-size (a .list .now) (a .entry .now) (s .pre))))
+    readable (s .args .list .now) (s .args .entry .now) (s .pre) (s .args .k) (search needs)
 
 field-requires : tie.Need-field-requires
 field-requires c κs =
     let s = c .before .before .before .before .before in
-    let a = s .args in
-    rw (c .before .read .ensures .1) (width-fits (a .list .now) (a .entry .now) (s .pre) (a .k) (search needs))
+    rw (c .before .read .ensures .1) (readable (s .args .list .now) (s .args .entry .now) (s .pre) (s .args .k) (search needs) .1 .0)
 
 returns-2 : tie.Need-returns-2
 returns-2 c =
     let a = c .before .before .before .before .before .before .args in
+    let key = c .before .before .read in
     let n = length (a .list .now) / 80 in
     let h : a .k < n = search needs in
-    rw (key-at (a .list .now) n (a .k) h, match-at (a .list .now) (a .entry .now) n (a .k) h, ← c .before .read2 .ensures, ← c .before .before .read .ensures .0, ← c .before .before .read .ensures .1) (is-when (has (kindOf (c .before .before .read .result .kind)) (fieldOf (a .field))) (c .field .ensures))
+    rw (key-at (a .list .now) n (a .k) h, match-at (a .list .now) (a .entry .now) n (a .k) h, ← c .before .read2 .ensures, ← key .ensures .0, ← key .ensures .1) (is-when (has (kindOf (key .result .kind)) (fieldOf (a .field))) (c .field .ensures))
 
 pub field-cell-spec : {M : Type 1} → statement M
 field-cell-spec =

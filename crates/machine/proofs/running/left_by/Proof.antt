@@ -1,0 +1,48 @@
+use native.Mathlib.Omega.{arith}
+use borrow.Author.Needs.{needs}
+use Rattle.operands.proofs.Conforming.{entry-size}
+use Rattle.machine.proofs.running.left_by.Statement.{statement}
+use Rattle.machine.proofs.running.left_by.Tie as tie
+
+priority-cell-requires : tie.Need-priority-cell-requires
+priority-cell-requires c κs =
+    let s = c .before .before .before .before in
+    omega (arith, entry-size (s .args .list .now) (s .args .entry .now) (s .pre))
+
+pub left-by-spec : {M : Type 1} → statement M
+left-by-spec =
+    tie.close
+    (tie.spec
+    (λ c. search needs)
+    (λ c κs. search needs)
+    (λ c. search needs)
+    (λ c κs. search needs)
+    (λ c. search needs)
+    (λ c κs. search needs)
+    (λ c. search needs)
+    (λ c κs. search needs)
+    (λ c. search needs)
+    priority-cell-requires
+    (λ c. search needs)
+    (λ c κs. search needs)
+    (λ c. search needs)
+    (λ c κs. search needs)
+    (λ c. search needs)
+    (λ c κs. search needs)
+    (λ c κs. search needs)
+    (λ c. search needs)
+    (λ c κs. search needs)
+    (λ c. search needs)
+    (λ c κs. search needs)
+    (λ c. search needs)
+    (λ c. rw (c .before .before .op .given .1) (c .truth .ensures))
+    (λ c. rw (c .before .enum-told .given .1) (c .whole .ensures))
+    (λ c. rw (c .before .before .op2 .given .1) (c .bare-cell .ensures))
+    (λ c. rw (c .before .before .op3 .given .1) (c .field-cell .ensures))
+    (λ c. rw (c .before .enum-told2 .given .1) (c .priority-cell .ensures))
+    (λ c. rw (c .before .enum-told3 .given .1) (c .inverted .ensures))
+    (λ c. rw (c .before .enum-told4 .given .1) (c .negated .ensures))
+    (λ c. rw (c .before .before .before .op4 .given .1, ← c .before .narrow .ensures .0) (c .converted .ensures))
+    (λ c. rw (c .before .before .op5 .given .1) (c .compared .ensures))
+    (λ c. rw (c .before .before .op6 .given .1) (c .connected .ensures))
+    (λ c. rw (c .enum-told5 .given .1) tt))

@@ -1,0 +1,101 @@
+// Instructions as they stand in blocks, 20 bytes each: operation, detail byte, two-byte operand, 16-byte constant.
+ghost use mathlib.Core.Path.{_≡_};
+ghost use mathlib.Core.Option.{some};
+ghost use Prim.Native.Nat.{ℕ, _+_, _^_, _≤_, _<_};
+ghost use lib.ListN.{length};
+ghost use Rattle.paper.specs.Types.{when};
+ghost use Rattle.paper.specs.Code as paper;
+ghost use Rattle.paper.specs.Code.{instructionSize, partsAt, decode};
+ghost use Rattle.paper.specs.Loading.{instructionAt};
+ghost use Rattle.number.specs.Values.{value};
+ghost use Rattle.machine.specs.Decoded.{opMeant, partsMeant, instructionMeant};
+use crate::instruction::Instruction;
+use crate::instruction::Op;
+use blocks::Block;
+use blocks::two_bytes;
+use number::Magnitude;
+
+struct Parts {
+    operation: u8,
+    detail: u8,
+    operand: usize,
+    constant: Magnitude,
+}
+
+fn parts_at(blocks: &[u8], at: usize) -> Parts
+    requires { ⌜ at + instructionSize ≤ length (now blocks) ⌝ }
+    ensures { λ r. ⌜ partsMeant r ≡ partsAt (now (blocks .entry)) at ⌝ }
+{
+    let constant = Magnitude::from_bytes(blocks, at + 4);
+    Parts {
+        operation: blocks[at],
+        detail: blocks[at + 1],
+        operand: two_bytes(blocks, at + 2),
+        constant: constant,
+    }
+}
+
+// An operation, where the other parts are right.
+fn only(right: bool, op: Op) -> Op
+    ensures { λ r. ⌜ ((n : ℕ) (i : paper.Instruction) → opMeant op n ≡ some i → opMeant r n ≡ when right i) ⌝ }
+{
+    if right { op } else { Op::Wrong }
+}
+
+fn op_of(p: Parts) -> Op
+    ensures { λ r. ⌜ opMeant r (value (p .constant)) ≡ decode (partsMeant p) ⌝ }
+{
+    let operation = p.operation;
+    let detail = p.detail;
+    let operand = p.operand;
+    let no_detail = detail == 0;
+    let no_operand = operand == 0;
+    let no_constant = p.constant.is_zero();
+    let bare = no_detail & no_operand & no_constant;
+    match operation {
+        1 => only(
+            no_detail & no_constant & (operand <= 1),
+            Op::PushBool(operand == 1),
+        ),
+        2 => only(no_detail & no_operand, Op::PushInt),
+        3 => only(no_detail & no_constant, Op::PushKey(operand)),
+        4 => only(no_constant & (detail <= 4), Op::PushField(detail, operand)),
+        5 => only(bare, Op::PushPriority),
+        6 => only(bare, Op::Not),
+        7 => only(bare, Op::Negate),
+        8 => only(
+            no_constant & (detail <= 4) & (1 <= operand) & (operand <= 128),
+            Op::Convert(detail, (operand % 256) as u8),
+        ),
+        9 => only(
+            no_operand & no_constant & (detail <= 5),
+            Op::Compare(detail),
+        ),
+        10 => only(bare, Op::Connect(0)),
+        11 => only(bare, Op::Connect(1)),
+        12 => only(bare, Op::Connect(2)),
+        _ => Op::Wrong,
+    }
+}
+
+// Where an instruction begins.
+pub fn place_of(i: usize) -> usize
+    requires { ⌜ instructionAt i < 2 ^ 64 ⌝ }
+    ensures { λ r. ⌜ r ≡ instructionAt i ⌝ }
+{
+    Block::SIZE * (i / Block::INSTRUCTIONS)
+        + Block::HEAD
+        + Block::INSTRUCTION * (i % Block::INSTRUCTIONS)
+}
+
+pub fn instruction_at(blocks: &[u8], i: usize) -> Instruction
+    requires { ⌜ instructionAt i + instructionSize ≤ length (now blocks) ⌝ }
+    ensures { λ r. ⌜ instructionMeant r ≡ decode (partsAt (now (blocks .entry)) (instructionAt i)) ⌝ }
+{
+    let parts = parts_at(blocks, place_of(i));
+    let constant = parts.constant;
+    Instruction {
+        op: op_of(parts),
+        constant: constant,
+    }
+}

@@ -11,9 +11,9 @@ use Rattle.keys.specs.declared.find.Found.{Found}
 use Rattle.keys.specs.declared.find.Found.the-variants as F
 use Rattle.keys.specs.declared.list.Listed.{Listed}
 use Rattle.keys.specs.declared.list.Listed.the-variants as L
-use Rattle.keys.specs.declared.entry.Entered.{Entered}
-use Rattle.keys.specs.declared.entry.Entered.the-variants as E
-use Rattle.keys.specs.declared.matched.Matched.{Matched}
+use Rattle.keys.specs.declared.conform.Entered.{Entered}
+use Rattle.keys.specs.declared.conform.Entered.the-variants as E
+use Rattle.keys.specs.declared.entry.Matched.{Matched}
 use Rattle.keys.specs.declared.record.KeyRecord.{KeyRecord}
 
 -- the records of a list as keys, whether or not they are good

@@ -1,16 +1,15 @@
-// The check of a whole entry.
+// The bytes of an entry: its head, and a record for each key.
 ghost use mathlib.Core.Path.{_≡_};
-ghost use Prim.Native.Nat.{_≤_};
+ghost use Prim.Native.Nat.{_+_, _*_, _/_, _≤_, _<_};
 ghost use lib.ListN.{length};
-ghost use Rattle.paper.specs.Entry.{headSize, priorityOf};
-ghost use Rattle.keys.specs.Says.{keysIn, enteredSays, conforms};
-use crate::matched;
-use crate::matched::Matched;
+ghost use Rattle.paper.specs.Numbers.{byteAt};
+ghost use Rattle.paper.specs.Keys.{recordSize, recordAt, kindOf, keyOf};
+ghost use Rattle.paper.specs.Entry.{headSize, priorityOf, matchSize, matchAt, spelledOut, absent, matchOf};
+ghost use Rattle.keys.specs.Says.{meant};
 use crate::record::KeyRecord;
-use crate::rules;
-use paper::Place;
+use number::Magnitude;
 
-// What an entry says besides its keys' records.
+// What the head holds.
 pub struct Entry {
     pub priority: u32,
 }
@@ -31,28 +30,66 @@ impl Entry {
     }
 }
 
-pub enum Entered {
-    Conforms,
-    Refused(u8, Place),
+// What a key's record reads as: value or low, mask or high, prefix length.
+pub struct Matched {
+    pub first: Magnitude,
+    pub second: Magnitude,
+    pub length: u8,
 }
 
-pub fn check_entry(list: &[u8], entry: &[u8]) -> Entered
-    ensures { λ r. ⌜ enteredSays r ≡ conforms (keysIn (now (list .entry))) (now (entry .entry)) ⌝ }
-{
-    let n = list.len() / KeyRecord::SIZE;
-    let size = entry.len();
-    if size != Entry::HEAD + Matched::SIZE * n {
-        return Entered::Refused(19, Place::Entry(size));
-    }
-    if Entry::HIGHEST < Entry::read(entry).priority {
-        return Entered::Refused(20, Place::Entry(0));
-    }
-    let mut k = 0;
-    while k < n {
-        if !rules::match_ok(KeyRecord::read(list, k), matched::match_at(entry, k)) {
-            return Entered::Refused(20, Place::Entry(Entry::HEAD + k * Matched::SIZE));
+impl Matched {
+    pub const SIZE: usize = 36;
+
+    // A key of an entry, present or absent.
+    pub fn read(list: &[u8], entry: &[u8], k: usize) -> Matched
+        requires { ⌜ k < length (now list) / recordSize ⌝ }
+        requires { ⌜ byteAt (recordAt (now list) k) 2 ≤ 128 ⌝ }
+        requires { ⌜ headSize + (k + 1) * matchSize ≤ length (now entry) ⌝ }
+        ensures { λ r. ⌜ meant r ≡ matchOf (keyOf (recordAt (now (list .entry)) k)) (matchAt (now (entry .entry)) k) ⌝ }
+    {
+        let bytes = match_at(entry, k);
+        if bytes[0] == 0 {
+            return Matched::absent(KeyRecord::read(list, k));
         }
-        k += 1;
+        Matched::spelled_out(bytes)
     }
-    Entered::Conforms
+
+    pub fn spelled_out(bytes: &[u8]) -> Matched
+        requires { ⌜ length (now bytes) ≡ matchSize ⌝ }
+        ensures { λ r. ⌜ meant r ≡ spelledOut (now (bytes .entry)) ⌝ }
+    {
+        Matched {
+            first: Magnitude::from_bytes(bytes, 4),
+            second: Magnitude::from_bytes(bytes, 20),
+            length: bytes[1],
+        }
+    }
+
+    fn absent(key: KeyRecord) -> Matched
+        requires { ⌜ key .width ≤ 128 ⌝ }
+        ensures { λ r. ⌜ meant r ≡ absent (kindOf (key .kind)) (key .width) ⌝ }
+    {
+        if key.kind == KeyRecord::RANGE {
+            return Matched {
+                first: Magnitude::zero(),
+                second: Magnitude::ones(key.width as u32),
+                length: 0,
+            };
+        }
+        Matched {
+            first: Magnitude::zero(),
+            second: Magnitude::zero(),
+            length: 0,
+        }
+    }
+}
+
+pub fn match_at(entry: &[u8], k: usize) -> &[u8]
+    requires { ⌜ headSize + (k + 1) * matchSize ≤ length (now entry) ⌝ }
+    ensures { λ r. ⌜ now r ≡ matchAt (now (entry .entry)) k ⌝ }
+    ensures { λ r. ⌜ length (now r) ≡ matchSize ⌝ }
+{
+    let from = Entry::HEAD + k * Matched::SIZE;
+    let to = from + Matched::SIZE;
+    &entry[from..to]
 }

@@ -4,12 +4,11 @@ ghost use Prim.Native.Nat.{_-_, _^_};
 ghost use lib.Dec.{eqb};
 ghost use lib.ListN.{length};
 ghost use Rattle.number.specs.Values.{value};
-ghost use Rattle.paper.specs.Keys.{exact, ternary, lpm, range, optional};
-ghost use Rattle.paper.specs.Keys.{kindOf};
+ghost use Rattle.paper.specs.Keys.{exact, ternary, lpm, range, optional, kindOf};
 ghost use Rattle.paper.specs.Entry.{matchSize, kindRule, absentRule, presentRule, matchOk};
 ghost use Rattle.keys.specs.Says.{meant, unnamed};
 use crate::bytes;
-use crate::matched::Matched;
+use crate::entry::Matched;
 use crate::record::KeyRecord;
 use number::Magnitude;
 

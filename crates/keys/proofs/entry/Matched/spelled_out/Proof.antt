@@ -1,6 +1,6 @@
 use borrow.Author.Needs.{needs}
-use Rattle.keys.proofs.matched.Matched.spelled_out.Statement.{statement}
-use Rattle.keys.proofs.matched.Matched.spelled_out.Tie as tie
+use Rattle.keys.proofs.entry.Matched.spelled_out.Statement.{statement}
+use Rattle.keys.proofs.entry.Matched.spelled_out.Tie as tie
 
 pub spelled-out-spec : {M : Type 1} → statement M
 spelled-out-spec =

@@ -9,8 +9,8 @@ use Rattle.paper.specs.Keys.{keysFrom}
 use Rattle.paper.specs.Entry.{rulesFrom, priorityOf}
 use Rattle.keys.proofs.Steps.{refuted, granted}
 use Rattle.keys.proofs.Entering.{wrong-length, too-high, by-rules, rule-broken, rule-kept, all-kept}
-use Rattle.keys.proofs.entry.check_entry.Statement.{statement}
-use Rattle.keys.proofs.entry.check_entry.Tie as tie
+use Rattle.keys.proofs.conform.check_entry.Statement.{statement}
+use Rattle.keys.proofs.conform.check_entry.Tie as tie
 
 abbrev Inv-loop : tie.InvT-loop
 Inv-loop list entry n size k₀ k =

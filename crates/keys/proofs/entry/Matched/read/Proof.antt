@@ -1,7 +1,7 @@
 use borrow.Author.Tests.{eq-eqb, ne-eqb}
 use borrow.Author.Needs.{needs}
-use Rattle.keys.proofs.matched.Matched.read.Statement.{statement}
-use Rattle.keys.proofs.matched.Matched.read.Tie as tie
+use Rattle.keys.proofs.entry.Matched.read.Statement.{statement}
+use Rattle.keys.proofs.entry.Matched.read.Tie as tie
 
 returns : tie.Need-returns
 returns c =

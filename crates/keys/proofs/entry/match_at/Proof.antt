@@ -4,8 +4,8 @@ use mathlib.Core.Path.{_≡_}
 use Prim.Native.Nat.{_+_, _-_, _*_}
 use Rattle.keys.proofs.Matches.{match-length}
 use borrow.Author.Needs.{needs}
-use Rattle.keys.proofs.matched.match_at.Statement.{statement}
-use Rattle.keys.proofs.matched.match_at.Tie as tie
+use Rattle.keys.proofs.entry.match_at.Statement.{statement}
+use Rattle.keys.proofs.entry.match_at.Tie as tie
 
 returns : tie.Need-returns
 returns c =

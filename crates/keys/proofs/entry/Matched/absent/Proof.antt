@@ -1,8 +1,8 @@
 use Rattle.number.proofs.Powers.{power-within}
 use Rattle.keys.proofs.Matches.{not-range}
 use borrow.Author.Needs.{needs}
-use Rattle.keys.proofs.matched.Matched.absent.Statement.{statement}
-use Rattle.keys.proofs.matched.Matched.absent.Tie as tie
+use Rattle.keys.proofs.entry.Matched.absent.Statement.{statement}
+use Rattle.keys.proofs.entry.Matched.absent.Tie as tie
 
 returns-2 : tie.Need-returns-2
 returns-2 c =

@@ -1,0 +1,4 @@
+pub mod Digits
+pub mod Strings
+pub mod Turns
+pub mod Wholes

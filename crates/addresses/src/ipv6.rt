@@ -1,0 +1,116 @@
+// RFC 4291, section 2.2, forms 1 and 2: eight groups, or "::" in the place of those that are missing.
+ghost use mathlib.Core.Path.{_≡_};
+ghost use mathlib.Core.Option.{none};
+ghost use Prim.Native.Nat.{_+_, _%_, _^_, _≤_, _<_};
+ghost use lib.ListN.{length, drop, replicate};
+ghost use Rattle.paper.specs.Numbers.{digitsAfter};
+ghost use Rattle.paper.specs.Addresses as paper;
+ghost use Rattle.number.specs.Values.{value};
+ghost use Rattle.addresses.specs.Reads.{address, gapAt, Grouped};
+use crate::Address;
+use crate::Scheme;
+use crate::groups::Counted;
+use crate::groups::groups;
+use crate::groups::whole;
+use number::Magnitude;
+
+// Whether a "::" stands at an offset.
+fn gap_at(string: &[u8], at: usize) -> bool
+    requires { ⌜ at < length (now string) ⌝ }
+    ensures { λ r. ⌜ r ≡ gapAt (drop at (now (string .entry))) ⌝ }
+{
+    if string[at] != b':' {
+        return false;
+    }
+    if string.len() <= at + 1 {
+        return false;
+    }
+    string[at + 1] == b':'
+}
+
+// How many bytes stand before the first "::", or all of them.
+fn before_gap(string: &[u8]) -> usize
+    ensures { λ r. ⌜ r ≡ paper.beforeGap (now (string .entry)) ⌝ }
+{
+    let mut i = 0;
+    while i < string.len() {
+        if gap_at(string, i) {
+            return i;
+        }
+        i += 1;
+    }
+    i
+}
+
+// The groups on one side of a "::", of which there may be none, behind a number.
+fn side(string: &[u8], before: Magnitude) -> Counted
+    ensures { λ r. ⌜ Grouped paper.ipv6 (paper.groups (now (string .entry))) (value before) r ⌝ }
+    ensures { λ r. ⌜ r .count ≤ length (now (string .entry)) ⌝ }
+{
+    if string.len() == 0 {
+        return Counted {
+            ok: true,
+            count: 0,
+            number: before,
+        };
+    }
+    groups(Scheme::Ipv6, string, before)
+}
+
+// A number with so many groups of zeros behind it.
+fn with_zeros(before: Magnitude, count: usize) -> Magnitude
+    ensures { λ r. ⌜ value r ≡ digitsAfter 65536 (value before) (replicate count 0) % 2 ^ 128 ⌝ }
+{
+    let mut number = before;
+    let mut left = count;
+    while 0 < left {
+        let grown = number.grow(65536, 0);
+        number = grown.number;
+        left -= 1;
+    }
+    number
+}
+
+fn bad() -> Address
+    ensures { λ r. ⌜ address r ≡ none ⌝ }
+{
+    Address {
+        ok: false,
+        number: Magnitude::zero(),
+    }
+}
+
+// What stands before a "::" and behind it.
+fn gapped(left: &[u8], right: &[u8]) -> Address
+    ensures { λ r. ⌜ address r ≡ paper.gapped (paper.groups (now (left .entry))) (paper.groups (now (right .entry))) ⌝ }
+{
+    let first = side(left, Magnitude::zero());
+    let second = side(right, Magnitude::zero());
+    if !first.ok {
+        return bad();
+    }
+    if !second.ok {
+        return bad();
+    }
+    let count = first.count + second.count;
+    if 7 < count {
+        return bad();
+    }
+    let number = first.number;
+    let all = side(right, with_zeros(number, 8 - count));
+    let whole = all.number;
+    Address {
+        ok: true,
+        number: whole,
+    }
+}
+
+pub fn read_ipv6(string: &[u8]) -> Address
+    ensures { λ r. ⌜ address r ≡ paper.ipv6Of (now (string .entry)) ⌝ }
+{
+    let gap = before_gap(string);
+    if gap == string.len() {
+        return whole(Scheme::Ipv6, string, 8);
+    }
+    gapped(&string[..gap], &string[gap + 2..])
+}

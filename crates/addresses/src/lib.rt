@@ -1,0 +1,56 @@
+// Addresses: the numbers that ipv4, ipv6 and mac strings stand for, by document 01.
+//
+// `scheme_of` tells which word begins an address, and `read` what its string is: bad, or a number below 2^128. Both
+// take bytes of any length and content, and answer what the definitions give (`schemeOf`, `address`).
+mod groups;
+mod ipv6;
+mod parts;
+
+ghost use mathlib.Core.Path.{_≡_};
+ghost use Rattle.paper.specs.Addresses as paper;
+ghost use Rattle.addresses.specs.Reads.{named, scheme, address};
+use keys::bytes::same_bytes;
+use number::Magnitude;
+
+pub enum Scheme {
+    Ipv4,
+    Ipv6,
+    Mac,
+}
+
+// A word that begins an address, or another.
+pub enum Named {
+    Is(Scheme),
+    Other,
+}
+
+// Whether a string is good; if so, its number.
+pub struct Address {
+    pub ok: bool,
+    pub number: Magnitude,
+}
+
+pub fn scheme_of(word: &[u8]) -> Named
+    ensures { λ r. ⌜ named r ≡ paper.schemeOf (now (word .entry)) ⌝ }
+{
+    if same_bytes(word, b"ipv4") {
+        return Named::Is(Scheme::Ipv4);
+    }
+    if same_bytes(word, b"ipv6") {
+        return Named::Is(Scheme::Ipv6);
+    }
+    if same_bytes(word, b"mac") {
+        return Named::Is(Scheme::Mac);
+    }
+    Named::Other
+}
+
+pub fn read(kind: Scheme, string: &[u8]) -> Address
+    ensures { λ r. ⌜ address r ≡ paper.address (scheme kind) (now (string .entry)) ⌝ }
+{
+    match kind {
+        Scheme::Ipv4 => groups::whole(kind, string, 4),
+        Scheme::Ipv6 => ipv6::read_ipv6(string),
+        Scheme::Mac => groups::whole(kind, string, 6),
+    }
+}

@@ -1,0 +1,194 @@
+-- Leaves: what the definition makes of the tokens of a leaf, kind by kind.
+use Prim.Native.Nat.{ℕ, _+_, _*_, _-_, _≤_, _<_}
+use mathlib.Core.Path.{_≡_, refl}
+use mathlib.Core.Bool.{Bool, true, false, _&&_, and-false}
+use mathlib.Core.Logic.{_⊎_, ⊎-elim}
+use mathlib.Core.Option.{none, some}
+use mathlib.Core.List.{List, _∷_}
+use native.Mathlib.Omega.{arith}
+use native.Mathlib.Decide.{decLt}
+use borrow.Author.Tests.{eqb-true, ltb-true, eq-eqb, ne-eqb, lt-ltb, le-ltb}
+use lib.ListN.{getD}
+use lib.Seq.{sets, slice}
+use lib.Dec.{eqb, ltb}
+use Rattle.paper.specs.Tokens.{Sign, join, comparison, prefix, opening, closing, colons, word, string, sign, Token, undotted}
+use Rattle.paper.specs.Addresses.{Scheme, schemeOf, address}
+use Rattle.paper.specs.Grammar as G
+use Rattle.paper.specs.Grammar.{Tree, Out, got, stuck, deep, Reader, named, nameAt, keyed, keyAt, markOf, addressed, addressAt, addressWith, worded, operandAt, signed, prefixes}
+use Rattle.tokens.specs.Tape.{Tape, tokensOn, tokenOn, limbsAt}
+use Rattle.grammar.specs.declared.tape.Next.the-variants.{Other}
+use Rattle.grammar.specs.Ladder as L
+use Rattle.grammar.specs.Plan.{Plan, treeOf, size, words, placeOn, wordOn}
+use Rattle.grammar.specs.Reading.{Found, Finds, Took, isName, past}
+use Rattle.spelling.proofs.Tests.{and-both}
+use Rattle.grammar.proofs.Operators.{join-no, comparison-no}
+use Rattle.grammar.proofs.Operands.{prefix-no}
+use Rattle.grammar.proofs.Tapes.{tokens-here, tokens-none, Stands, by-kind, sign-at}
+
+-- one node, for the tokens from `at` up to i
+module _ {T : Tape} {n at b : ℕ} {o : Out} {before after : List ℕ} (p : Plan) (i j : ℕ) where
+  pub took-leaf : i ≡ j → o ≡ G.ends (got (treeOf T p)) (tokensOn T j (n - j)) → size p ≡ 1 → after ≡ sets before (b * 7) (words b p)
+      → at < i → i ≤ n → Took T n at b o before after (b + 1) i
+  took-leaf same out one put l inside =
+      record {
+        plan = p;
+        out = rw same out;
+        built = record { next = omega arith; stored = put; grown = omega arith; moved = omega arith; inside = inside };
+      }
+
+pub past-two : (T : Tape) (n at : ℕ) → past T n (at + 1) ≡ tokensOn T (at + 2) (n - (at + 2))
+past-two T n at = let e : at + 1 + 1 ≡ at + 2 = omega arith in rw e
+
+module _ (text kinds starts ends : List ℕ) (n at : ℕ) where
+  pub name-none : Finds kinds n at 0 0 Other → isName text kinds starts ends n at ≡ false
+  name-none h =
+      elim (decLt at n) [
+        | yes l ↦
+            let e : getD kinds at 0 ≡ 0 → ⊥ = λ e. ⊎-elim (λ l. omega arith) (λ l. omega arith) (h l) in
+            rw (ne-eqb (getD kinds at 0) 0 e, and-false)
+        | no l ↦ rw (le-ltb at n (omega arith))
+      ]
+
+  pub name-word : {k : ℕ} → Found kinds n at 0 0 k
+      → isName text kinds starts ends n at ≡ undotted (slice (getD starts at 0) (getD ends at 0) text)
+  name-word f = rw (lt-ltb at n (f .here), eq-eqb (getD kinds at 0) 0 (omega arith))
+
+module _ (T : Tape) (n i : ℕ) where
+  abbrev kind : ℕ
+  kind = getD (T .kinds) i 0
+
+  abbrev here : List Token
+  here = tokensOn T i (n - i)
+
+  abbrev bytes : List ℕ
+  bytes = slice (getD (T .starts) i 0) (getD (T .ends) i 0) (T .text)
+
+  pub word-is : kind ≡ 0 → wordOn T i ≡ bytes
+  word-is e = rw e
+
+  -- a name
+
+  abbrev name : Bool
+  name = isName (T .text) (T .kinds) (T .starts) (T .ends) n i
+
+  pub named-yes : name ≡ true → (make : ℕ → List ℕ → Tree) → named make here ≡ G.ends (got (make (placeOn T i) (wordOn T i))) (past T n i)
+  named-yes e make =
+      let f = and-both (ltb i n && eqb kind 0) (undotted bytes) e in
+      let g = and-both (ltb i n) (eqb kind 0) (f .0) in
+      rw (tokens-here T n i (ltb-true i n (g .0)), eqb-true kind 0 (g .1), f .1)
+
+  pub name-here : name ≡ true → i < n
+  name-here e =
+      let f = and-both (ltb i n && eqb kind 0) (undotted bytes) e in
+      ltb-true i n (and-both (ltb i n) (eqb kind 0) (f .0) .0)
+
+  pub named-no : name ≡ false → (make : ℕ → List ℕ → Tree) → named make here ≡ G.ends stuck here
+  named-no e make =
+      elim (decLt i n) [
+        | yes l ↦
+            let d : kind ≡ 0 → undotted bytes ≡ false = λ k. rw (lt-ltb i n l, eq-eqb kind 0 k) at e in
+            rw (tokens-here T n i l)
+            (by-kind T i (λ t. nameAt t make (tokenOn T i) (past T n i) ≡ G.ends stuck (tokenOn T i ∷ past T n i))
+            (λ k. rw (d k)) (λ _. refl) (λ _. refl) (λ _ _. refl))
+        | no l ↦ rw (tokens-none T n i (omega arith))
+      ]
+
+  -- behind a key
+
+  module _ (read : Reader) (place : ℕ) (w : List ℕ) where
+    pub keyed-colons : {k : ℕ} → Found (T .kinds) n i 17 17 k → keyed read place w here ≡ named (G.field place w) (past T n i)
+    keyed-colons h = rw (tokens-here T n i (h .here), sign-at T i colons (omega arith))
+
+    pub keyed-plain : {k : ℕ} → Found (T .kinds) n i 15 15 k → schemeOf w ≡ none → keyed read place w here ≡ G.ends (got (G.key place w)) here
+    keyed-plain h e = rw (tokens-here T n i (h .here), sign-at T i opening (omega arith), e)
+
+    pub keyed-address : {k : ℕ} → Found (T .kinds) n i 15 15 k → (s : Scheme) → schemeOf w ≡ some s → keyed read place w here ≡ addressed read s place (past T n i)
+    keyed-address h s e = rw (tokens-here T n i (h .here), sign-at T i opening (omega arith), e)
+
+    pub keyed-not : Finds (T .kinds) n i 17 17 Other → Finds (T .kinds) n i 15 15 Other → (i < n → kind ≤ 17)
+        → keyed read place w here ≡ G.ends (got (G.key place w)) here
+    keyed-not h g known =
+        elim (decLt i n) [
+          | yes l ↦
+              rw (tokens-here T n i l)
+              (by-kind T i (λ t. keyAt read place w (markOf t) (tokenOn T i) (past T n i) ≡ G.ends (got (G.key place w)) (tokenOn T i ∷ past T n i))
+              (λ _. refl) (λ _. refl) (λ _. refl) (go (h l) (g l) (known l)))
+          | no l ↦ rw (tokens-none T n i (omega arith))
+        ]
+      where
+        go : (kind < 17) ⊎ (17 < kind) → (kind < 15) ⊎ (15 < kind) → kind ≤ 17 → (g : Sign) → Stands kind g
+            → keyAt read place w (markOf (sign g)) (tokenOn T i) (past T n i) ≡ G.ends (got (G.key place w)) (tokenOn T i ∷ past T n i)
+        go c o k (join j) e = refl
+        go c o k (comparison d) e = refl
+        go c o k (prefix p) e = refl
+        go c o k opening e = ⊎-elim (λ l. absurd (omega arith)) (λ l. absurd (omega arith)) o
+        go c o k closing e = refl
+        go c o k colons e = ⊎-elim (λ l. absurd (omega arith)) (λ l. absurd (omega arith)) c
+
+  -- behind the word and "(" of an address
+
+  module _ (read : Reader) (s : Scheme) (place : ℕ) where
+    pub addressed-here : {k : ℕ} → Found (T .kinds) n i 2 2 k
+        → addressed read s place here
+        ≡ addressWith (read s (slice (getD (T .starts) i 0 + 1) (getD (T .ends) i 0 - 1) (T .text))) place (tokenOn T i) (past T n i)
+    addressed-here h = let e : kind ≡ 2 = omega arith in rw (tokens-here T n i (h .here), e)
+
+    pub addressed-not : Finds (T .kinds) n i 2 2 Other → addressed read s place here ≡ G.ends stuck here
+    addressed-not h =
+        elim (decLt i n) [
+          | yes l ↦
+              rw (tokens-here T n i l)
+              (by-kind T i (λ t. addressAt read s place t (tokenOn T i) (past T n i) ≡ G.ends stuck (tokenOn T i ∷ past T n i))
+              (λ _. refl) (λ _. refl) (λ e. ⊎-elim (λ l. absurd (omega arith)) (λ l. absurd (omega arith)) (h l)) (λ _ _. refl))
+          | no l ↦ rw (tokens-none T n i (omega arith))
+        ]
+
+  -- a leaf
+
+  module _ (l : i < n) where
+    pub leaf-word : kind ≡ 0 → L.prefix 0 here ≡ worded address (placeOn T i) (wordOn T i) (past T n i)
+    unfolding prefixes
+    leaf-word e = rw (tokens-here T n i l, e)
+
+    pub leaf-numeral : kind ≡ 1 → L.prefix 0 here ≡ G.ends (got (G.number (placeOn T i) (limbsAt (T .limbs) (i * 4)))) (past T n i)
+    unfolding prefixes
+    leaf-numeral e = rw (tokens-here T n i l, e)
+
+    pub leaf-deep : 13 ≤ kind → kind < 16 → L.prefix 0 here ≡ deep (placeOn T i)
+    unfolding prefixes
+    leaf-deep low high =
+        rw (tokens-here T n i l)
+        (by-kind T i (λ t. operandAt address (λ at us. deep at) (λ at us. deep at) t (tokenOn T i) (past T n i) ≡ deep (placeOn T i))
+        (λ e. absurd (omega arith)) (λ e. absurd (omega arith)) (λ e. absurd (omega arith)) go)
+      where
+        go : (g : Sign) → Stands kind g → signed (λ at us. deep at) (λ at us. deep at) g (tokenOn T i) (past T n i) ≡ deep (placeOn T i)
+        go (join j) e = let h = join-no j in absurd (omega arith)
+        go (comparison d) e = let h = comparison-no d in absurd (omega arith)
+        go (prefix p) e = refl
+        go opening e = refl
+        go closing e = absurd (omega arith)
+        go colons e = absurd (omega arith)
+
+    pub leaf-colons : kind ≡ 17 → L.prefix 0 here ≡ named (G.attribute (placeOn T i)) (past T n i)
+    unfolding prefixes
+    leaf-colons e = rw (tokens-here T n i l, e)
+
+    -- no leaf: a string, a join, a comparison, or ")"
+    pub leaf-none : (kind ≡ 0 → ⊥) → (kind ≡ 1 → ⊥) → (kind ≡ 17 → ⊥) → (kind < 13) ⊎ (15 < kind) → kind ≤ 17 → L.prefix 0 here ≡ G.ends stuck here
+    unfolding prefixes
+    leaf-none w m c r known =
+        rw (tokens-here T n i l)
+        (by-kind T i (λ t. operandAt address (λ at us. deep at) (λ at us. deep at) t (tokenOn T i) (past T n i) ≡ G.ends stuck (tokenOn T i ∷ past T n i))
+        (λ e. absurd (w e)) (λ e. absurd (m e)) (λ _. refl) go)
+      where
+        go : (g : Sign) → Stands kind g → signed (λ at us. deep at) (λ at us. deep at) g (tokenOn T i) (past T n i) ≡ G.ends stuck (tokenOn T i ∷ past T n i)
+        go (join j) e = refl
+        go (comparison d) e = refl
+        go (prefix p) e = let h = prefix-no p in ⊎-elim (λ l. absurd (omega arith)) (λ l. absurd (omega arith)) r
+        go opening e = ⊎-elim (λ l. absurd (omega arith)) (λ l. absurd (omega arith)) r
+        go closing e = refl
+        go colons e = absurd (c (omega arith))
+
+  pub leaf-end : n ≤ i → L.prefix 0 here ≡ G.ends stuck here
+  unfolding prefixes
+  leaf-end l = rw (tokens-none T n i l)

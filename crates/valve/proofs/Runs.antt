@@ -1,0 +1,62 @@
+-- The stages of a run: its answer from theirs.
+use Prim.Native.Nat.{ℕ}
+use mathlib.Core.Path.{_≡_, sym, ap, subst, _∙_}
+use mathlib.Core.Bool.{Bool}
+use mathlib.Core.List.{List}
+use Rattle.paper.specs.Answers.{Answer, ok, refused, _>>=_, Input}
+use Rattle.paper.specs.Keys.{Key, keys}
+use Rattle.paper.specs.Entry.{Entry, entryOf}
+use Rattle.paper.specs.Loading.{program, loaded, valuesAlong, leftTrue}
+use Rattle.paper.specs.Calls.{loadAnswer, runAnswer}
+use Rattle.paper.proofs.Stages.{bind-ok}
+use Rattle.keys.specs.Says.{keysIn, conforms}
+use Rattle.keys.proofs.Checked.{are-keys}
+use Rattle.keys.proofs.Conforming.{entered, not-entered}
+use Rattle.operands.specs.Conforming.{entryIn, Conforming}
+
+module _ (list blocks entry : List ℕ) where
+  -- behind the load, for the list's keys
+  abbrev judged : List Key → Answer Bool
+  judged ks = entryOf ks entry >>= λ e. ok (leftTrue (valuesAlong ks e (program blocks)))
+
+  load-first : (a : Answer (List Key)) {k : ℕ} {i : Input} {at : ℕ} → (a >>= λ ks. loaded ks blocks) ≡ refused k i at
+      → (a >>= λ ks. loaded ks blocks >>= λ _. judged ks) ≡ refused k i at
+  load-first (ok ks) e = ap (λ (x : Answer ℕ). x >>= λ _. judged ks) e
+  load-first (refused k i at) e = cc
+
+  pub load-refused : {k : ℕ} {i : Input} {at : ℕ} → loadAnswer list blocks ≡ refused k i at → refused k i at ≡ runAnswer list blocks entry
+  unfolding loadAnswer runAnswer
+  load-refused e = sym (load-first (keys list) e)
+
+  module _ {n : ℕ} (e : loadAnswer list blocks ≡ ok n) where
+    both : (keys list ≡ ok (keysIn list)) × (loaded (keysIn list) blocks ≡ ok n)
+    unfolding loadAnswer
+    both =
+        let p = bind-ok (keys list) (λ ks. loaded ks blocks) n e in
+        let q = are-keys list (p .1) in
+        (p .1 ∙ ap ok q, subst (λ ks. loaded ks blocks ≡ ok n) q (p .2))
+
+    pub loads : loaded (keysIn list) blocks ≡ ok n
+    loads = both .1
+
+    behind : runAnswer list blocks entry ≡ judged (keysIn list)
+    unfolding runAnswer
+    behind =
+        ap (λ (x : Answer (List Key)). x >>= λ ks. loaded ks blocks >>= λ _. judged ks) (both .0)
+        ∙ ap (λ (x : Answer ℕ). x >>= λ _. judged (keysIn list)) loads
+
+    pub entry-refused : {k : ℕ} {i : Input} {at : ℕ} → conforms (keysIn list) entry ≡ refused k i at → refused k i at ≡ runAnswer list blocks entry
+    entry-refused f =
+        sym
+        (behind
+        ∙ ap (λ (x : Answer Entry). x >>= λ m. ok (leftTrue (valuesAlong (keysIn list) m (program blocks)))) (not-entered (keysIn list) entry f))
+
+    module _ (f : conforms (keysIn list) entry ≡ ok tt) where
+      pub conforming : Conforming list entry
+      conforming = record { listed = both .0; entered = entered (keysIn list) entry f }
+
+      pub ran : ok (leftTrue (valuesAlong (keysIn list) (entryIn list entry) (program blocks))) ≡ runAnswer list blocks entry
+      ran =
+          sym
+          (behind
+          ∙ ap (λ (x : Answer Entry). x >>= λ m. ok (leftTrue (valuesAlong (keysIn list) m (program blocks)))) (conforming .entered))

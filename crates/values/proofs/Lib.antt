@@ -2,4 +2,3 @@ pub mod Held
 mod Meeting
 pub mod Numbered
 mod Rules
-mod Words

@@ -10,6 +10,7 @@ ghost use Rattle.values.specs.Typed.{tyMeant, typingMeant, namedOf};
 use crate::types;
 use crate::types::Type;
 use crate::types::Typing;
+use keys::bytes::same_bytes;
 
 // A field's number: 0 value, 1 mask, 2 prefix_length, 3 low, 4 high.
 pub enum Named {
@@ -42,12 +43,6 @@ pub fn field_type(kind: u8, width: u8, field: u8) -> Typing
     ensures { λ r. ⌜ typingMeant r ≡ when (paper.has (kindOf kind) (fieldOf field)) (fieldTy width (fieldOf field)) ⌝ }
 {
     types::when(has(kind, field), type_in(width, field))
-}
-
-fn same_bytes(a: &[u8], b: &[u8]) -> bool
-    ensures { λ r. ⌜ r ≡ sameBytes (now (a .entry)) (now (b .entry)) ⌝ }
-{
-    check::same(a, b)
 }
 
 fn spelled(word: &[u8], name: &[u8], field: u8, other: Named) -> Named

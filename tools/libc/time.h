@@ -1,7 +1,7 @@
 #ifndef _TIME_H
 #define _TIME_H
 
-#define CLOCK_MONOTONIC 1
+#define CLOCK_PROCESS_CPUTIME_ID 2
 
 struct timespec {
     long tv_sec;

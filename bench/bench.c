@@ -1,0 +1,230 @@
+/*
+ * How fast Polluxvalve is, beside plain C that does the same work, in one process.
+ *
+ *   bench requests FOLDER > REQUESTS     what is measured, for `desk answer`
+ *   bench FOLDER LINES                   holds every version to the reference's lines, then measures and prints a table
+ *
+ * FOLDER has NAME.text, NAME.list and NAME.entries for each table of examples/.
+ */
+#include <stdlib.h>
+#include <string.h>
+#include <time.h>
+
+#include "plain.h"
+#include "tables.h"
+
+static const struct calls plain_calls = { plain_read, plain_check, plain_judge, plain_translate, plain_load, plain_run };
+
+/* ---- The requests that show what every version answers, in one order. */
+
+typedef void with_request(struct request *request, const struct table *table);
+
+static void each_request(const struct table *table, with_request *use)
+{
+    static uint8_t buffer[POLLUX_BLOCKS_LONGEST];
+    const struct input nothing = { buffer, 0 }, whole = { buffer, sizeof buffer };
+    use(&(struct request){ READ, { table->text, nothing, nothing } }, table);
+    use(&(struct request){ CHECK, { table->text, table->list, nothing } }, table);
+    use(&(struct request){ TRANSLATE, { table->text, table->list, whole } }, table);
+    use(&(struct request){ LOAD, { table->list, table->blocks, nothing } }, table);
+    for (size_t i = 0; i < entry_count(table); i++) {
+        use(&(struct request){ JUDGE, { table->text, table->list, entry_of(table, i) } }, table);
+        use(&(struct request){ RUN, { table->list, table->blocks, entry_of(table, i) } }, table);
+    }
+}
+
+static void write_one(struct request *request, const struct table *table)
+{
+    (void)table;
+    write_request(stdout, request);
+}
+
+/* ---- Agreement with the reference. */
+
+static FILE *lines;
+
+static _Noreturn void differs(const struct request *request, const struct table *table, const char *who, const char *got, const char *line)
+{
+    fprintf(stderr, "%s, %s: %s says '%s', the reference '%s'\n", table->name, call_name(request->call), who, got, line);
+    exit(1);
+}
+
+static void hold(struct request *request, const struct table *table, const char *who, const struct calls *calls, const char *line)
+{
+    char got[LINE_SIZE];
+    if (request->call == TRANSLATE)
+        memset(request->inputs[2].at, 0, request->inputs[2].length);
+    answer_line(got, request, make_call(calls, request));
+    if (strcmp(got, line) != 0)
+        differs(request, table, who, got, line);
+    if (request->call == TRANSLATE)
+        memset(request->inputs[2].at, 0, request->inputs[2].length);
+}
+
+static void hold_unchecked(struct request *request, const struct table *table, const char *line)
+{
+    const uint8_t *entry = request->inputs[2].at;
+    const char *verdicts[] = { "violated", "accepted" };
+    if (strcmp(line, verdicts[0]) != 0 && strcmp(line, verdicts[1]) != 0)
+        return;
+    const char *run = verdicts[plain_accepts(table->list.at, table->blocks.at, table->instructions, entry)];
+    if (strcmp(run, line) != 0)
+        differs(request, table, "the unchecked interpreter", run, line);
+    const char *by_hand = table->by_hand == NULL ? line : verdicts[table->by_hand(entry)];
+    if (strcmp(by_hand, line) != 0)
+        differs(request, table, "the restriction by hand", by_hand, line);
+}
+
+static void hold_all(struct request *request, const struct table *table)
+{
+    char line[LINE_SIZE];
+    if (fgets(line, sizeof line, lines) == NULL) {
+        fprintf(stderr, "there are fewer lines than requests\n");
+        exit(3);
+    }
+    line[strcspn(line, "\n")] = '\0';
+    hold(request, table, "Polluxvalve", &pollux_calls, line);
+    hold(request, table, "plain C", &plain_calls, line);
+    if (request->call == RUN)
+        hold_unchecked(request, table, line);
+}
+
+/* ---- What is measured: one piece of work on one of the entries that conform. */
+
+static uint8_t scratch[POLLUX_BLOCKS_LONGEST];
+
+typedef uint64_t work(const struct table *table, const uint8_t *entry);
+
+#define TEXT table->text.at, table->text.length
+#define LIST table->list.at, table->list.length
+#define BLOCKS table->blocks.at, table->blocks.length
+#define ENTRY entry, table->entry_size
+#define WORK(name, value)                                                  \
+    static uint64_t name(const struct table *table, const uint8_t *entry)  \
+    {                                                                      \
+        (void)entry;                                                       \
+        return value;                                                      \
+    }
+
+WORK(run_pollux, pollux_run(LIST, BLOCKS, ENTRY).says)
+WORK(run_plain, plain_run(LIST, BLOCKS, ENTRY).says)
+WORK(run_unchecked, plain_accepts(table->list.at, table->blocks.at, table->instructions, entry))
+WORK(run_by_hand, table->by_hand(entry))
+WORK(judge_pollux, pollux_judge(TEXT, LIST, ENTRY).says)
+WORK(judge_plain, plain_judge(TEXT, LIST, ENTRY).says)
+WORK(load_pollux, pollux_load(LIST, BLOCKS).value)
+WORK(load_plain, plain_load(LIST, BLOCKS).value)
+WORK(translate_pollux, pollux_translate(TEXT, LIST, scratch, sizeof scratch).value)
+WORK(translate_plain, plain_translate(TEXT, LIST, scratch, sizeof scratch).value)
+
+enum { POLLUX, PLAIN, UNCHECKED, BY_HAND, VERSIONS };
+
+static const struct measured {
+    const char *name;
+    work *versions[VERSIONS];
+} all_measured[] = {
+    { "run", { run_pollux, run_plain, run_unchecked, run_by_hand } },
+    { "judge", { judge_pollux, judge_plain, NULL, NULL } },
+    { "load", { load_pollux, load_plain, NULL, NULL } },
+    { "translate", { translate_pollux, translate_plain, NULL, NULL } },
+};
+
+/* ---- Time. */
+
+enum { ROUNDS = 5, TURN = 20 /* milliseconds */ };
+
+/* Keeps the compiler from leaving the work out. */
+static volatile uint64_t sink;
+
+/* The processor's time, so that it matters little what else the machine does. */
+static double seconds(void)
+{
+    struct timespec now;
+    clock_gettime(CLOCK_PROCESS_CPUTIME_ID, &now);
+    return (double)now.tv_sec + (double)now.tv_nsec * 1e-9;
+}
+
+/* How often the work is done in a second, over one turn. */
+static double rate(work *work, const struct table *table)
+{
+    uint64_t done = 0, sum = 0;
+    double start = seconds(), took;
+    do {
+        for (int times = 0; times < 4; times++)
+            for (size_t at = 0; at < table->conforming.length; at += table->entry_size, done++)
+                sum += work(table, table->conforming.at + at);
+        took = seconds() - start;
+    } while (took < TURN * 1e-3);
+    sink += sum;
+    return (double)done / took;
+}
+
+/* The best of some rounds, in which the versions take turns. */
+static void measure(const struct measured *measured, const struct table *table, double best[VERSIONS])
+{
+    for (int round = 0; round < ROUNDS; round++)
+        for (int version = 0; version < VERSIONS; version++) {
+            work *work = measured->versions[version];
+            if (work == NULL || (version == BY_HAND && table->by_hand == NULL))
+                continue;
+            double now = rate(work, table);
+            if (now > best[version])
+                best[version] = now;
+        }
+}
+
+static void print_row(const struct measured *measured, const struct table *table, const double best[VERSIONS])
+{
+    printf("%-13s %-10s %12.0f", table->name, measured->name, best[POLLUX]);
+    for (int version = PLAIN; version < VERSIONS; version++) {
+        if (best[version] > 0)
+            printf(" %12.0f %6.2f", best[version], best[version] / best[POLLUX]);
+        else
+            printf(" %12s %6s", "-", "-");
+    }
+    printf("\n");
+    fflush(stdout);
+}
+
+static void print_sizes(const struct table tables[TABLES])
+{
+    printf("%-13s %6s %6s %14s %8s\n", "restriction", "bytes", "keys", "instructions", "blocks");
+    for (int i = 0; i < TABLES; i++)
+        printf("%-13s %6zu %6zu %14zu %8zu\n", tables[i].name, tables[i].text.length, tables[i].list.length / POLLUX_KEY_SIZE,
+               tables[i].instructions, tables[i].blocks.length / POLLUX_BLOCK_SIZE);
+}
+
+static void measure_all(const struct table tables[TABLES])
+{
+    print_sizes(tables);
+    printf("\nTimes a second. Each ratio is how many times longer Polluxvalve takes.\n\n");
+    printf("%-13s %-10s %12s %12s %6s %12s %6s %12s %6s\n", "restriction", "call", "Polluxvalve", "plain C", "ratio", "unchecked C",
+           "ratio", "by hand", "ratio");
+    for (int i = 0; i < TABLES; i++)
+        for (size_t j = 0; j < sizeof all_measured / sizeof all_measured[0]; j++) {
+            double best[VERSIONS] = { 0 };
+            measure(&all_measured[j], &tables[i], best);
+            print_row(&all_measured[j], &tables[i], best);
+        }
+}
+
+int main(int count, char **words)
+{
+    static struct table tables[TABLES];
+    if (count != 3) {
+        fprintf(stderr, "usage: bench requests FOLDER > REQUESTS\n       bench FOLDER LINES\n");
+        return 3;
+    }
+    bool only_requests = strcmp(words[1], "requests") == 0;
+    make_tables(tables, words[only_requests ? 2 : 1]);
+    lines = only_requests ? NULL : fopen(words[2], "rb");
+    if (!only_requests && lines == NULL) {
+        perror(words[2]);
+        return 3;
+    }
+    for (int i = 0; i < TABLES; i++)
+        each_request(&tables[i], only_requests ? write_one : hold_all);
+    if (!only_requests)
+        measure_all(tables);
+    return 0;
+}

@@ -1,0 +1,35 @@
+/*
+ * The six calls in plain C, as a careful engineer would write them without proofs: what the speed of Polluxvalve is held against.
+ * They give the same answers, refusals and places included.
+ */
+#ifndef PLAIN_H
+#define PLAIN_H
+
+#include <stdbool.h>
+
+#include "pollux.h"
+
+struct pollux_answer plain_read(const uint8_t *text, size_t text_length);
+
+struct pollux_answer plain_check(const uint8_t *text, size_t text_length,
+                                 const uint8_t *list, size_t list_length);
+
+struct pollux_answer plain_judge(const uint8_t *text, size_t text_length,
+                                 const uint8_t *list, size_t list_length,
+                                 const uint8_t *entry, size_t entry_length);
+
+struct pollux_answer plain_translate(const uint8_t *text, size_t text_length,
+                                     const uint8_t *list, size_t list_length,
+                                     uint8_t *buffer, size_t buffer_length);
+
+struct pollux_answer plain_load(const uint8_t *list, size_t list_length,
+                                const uint8_t *blocks, size_t blocks_length);
+
+struct pollux_answer plain_run(const uint8_t *list, size_t list_length,
+                               const uint8_t *blocks, size_t blocks_length,
+                               const uint8_t *entry, size_t entry_length);
+
+/* Runs blocks that load on an entry that conforms, and checks nothing. */
+bool plain_accepts(const uint8_t *list, const uint8_t *blocks, size_t instructions, const uint8_t *entry);
+
+#endif

@@ -1,0 +1,164 @@
+/* What the files of the plain C version share. */
+#ifndef PLAIN_PARTS_H
+#define PLAIN_PARTS_H
+
+#include <string.h>
+
+#include "plain.h"
+
+typedef unsigned __int128 number;
+
+/* ---- Refusals: a stage that refuses fills in the answer and returns false. */
+
+static inline bool refuse(struct pollux_answer *answer, unsigned why, enum pollux_input input, size_t offset)
+{
+    *answer = (struct pollux_answer){ POLLUX_REFUSED, why, input, offset };
+    return false;
+}
+
+static inline struct pollux_answer done(size_t count)
+{
+    return (struct pollux_answer){ POLLUX_DONE, 0, 0, count };
+}
+
+static inline struct pollux_answer verdict(bool accepted)
+{
+    return (struct pollux_answer){ accepted ? POLLUX_ACCEPTED : POLLUX_VIOLATED, 0, 0, 0 };
+}
+
+/* ---- Bytes, big-endian. */
+
+static inline unsigned short_at(const uint8_t *at)
+{
+    return (unsigned)at[0] << 8 | at[1];
+}
+
+static inline void set_short(uint8_t *at, unsigned value)
+{
+    at[0] = (uint8_t)(value >> 8);
+    at[1] = (uint8_t)value;
+}
+
+static inline number number_at(const uint8_t *at)
+{
+    uint64_t high, low;
+    memcpy(&high, at, 8);
+    memcpy(&low, at + 8, 8);
+    return (number)__builtin_bswap64(high) << 64 | __builtin_bswap64(low);
+}
+
+static inline void set_number(uint8_t *at, number value)
+{
+    uint64_t high = __builtin_bswap64((uint64_t)(value >> 64));
+    uint64_t low = __builtin_bswap64((uint64_t)value);
+    memcpy(at, &high, 8);
+    memcpy(at + 8, &low, 8);
+}
+
+static inline bool all_zero(const uint8_t *at, size_t length)
+{
+    for (size_t i = 0; i < length; i++)
+        if (at[i] != 0)
+            return false;
+    return true;
+}
+
+/* 2^width - 1, for widths from 1 to 128. */
+static inline number all_ones(unsigned width)
+{
+    return ~(number)0 >> (128 - width);
+}
+
+/* ---- Keys and entries (plain_keys.c). */
+
+enum kind { EXACT, TERNARY, LPM, RANGE, OPTIONAL };
+enum field { VALUE, MASK, PREFIX_LENGTH, LOW, HIGH };
+
+/* Types: bit<W> is what an exact key of width W has; int and bool have width 0. */
+enum { INT = 5, BOOL = 6 };
+struct type {
+    uint8_t kind;
+    uint8_t width;
+};
+
+static inline bool same_type(struct type left, struct type right)
+{
+    return left.kind == right.kind && left.width == right.width;
+}
+
+bool check_list(const uint8_t *list, size_t length, struct pollux_answer *answer);
+
+/* The index of a key, or -1. */
+int find_key(const uint8_t *list, size_t length, const uint8_t *name, size_t name_length);
+
+static inline struct type key_type(const uint8_t *list, size_t key)
+{
+    const uint8_t *record = list + key * POLLUX_KEY_SIZE;
+    return (struct type){ record[1], record[2] };
+}
+
+bool has_field(unsigned kind, unsigned field);
+struct type field_type(struct type key, unsigned field);
+
+bool check_entry(const uint8_t *list, size_t list_length, const uint8_t *entry, size_t length, struct pollux_answer *answer);
+
+bool starts_word(uint8_t byte);
+bool continues_word(uint8_t byte);
+size_t word_length(const uint8_t *at, size_t length);
+
+/* ---- Tokens (plain_tokens.c). */
+
+enum sign {
+    WORD, NUMERAL, STRING, SEMICOLON, ARROW, OR, AND, EQUAL, NOT_EQUAL, GREATER, GREATER_EQUAL, LESS, LESS_EQUAL, COLONS, NOT,
+    MINUS, OPEN, CLOSE, END
+};
+
+struct token {
+    number value; /* of a numeral */
+    uint16_t place;
+    uint16_t length;
+    uint8_t sign;
+};
+
+/* The last one is END, at the text's length. */
+struct tokens {
+    struct token at[POLLUX_TOKENS_MOST + 1];
+};
+
+bool read_tokens(const uint8_t *text, size_t length, struct tokens *tokens, struct pollux_answer *answer);
+
+/* ---- Trees in postfix order (plain_tree.c), and their types (plain_types.c). */
+
+enum what { TRUTH, WHOLE, KEY, FIELD, ATTRIBUTE, OPPOSITE, NEGATIVE, COMPARISON, BOTH, EITHER, IMPLIES };
+
+struct node {
+    number value;           /* of a numeral or an address; 0 or 1 of a truth */
+    uint16_t place;
+    uint16_t left, right;   /* the operands' nodes; a prefix operator has the left one alone */
+    uint16_t word, name;    /* the tokens of a key, and of its field or of an attribute */
+    uint8_t what;
+    uint8_t comparison;     /* 0 ==, 1 !=, 2 >, 3 >=, 4 <, 5 <= */
+    uint8_t key, field;     /* found by the type check */
+    struct type type;
+    struct type converted;  /* what it becomes before its comparison; width 0 if it stays */
+};
+
+struct tree {
+    size_t count;
+    struct node at[POLLUX_TOKENS_MOST];
+};
+
+bool read_tree(const uint8_t *text, const struct tokens *tokens, struct tree *tree, struct pollux_answer *answer);
+bool read_address(const uint8_t *word, size_t word_length, const uint8_t *contents, size_t length, number *value);
+
+bool can_negate(struct type type);
+bool can_convert(struct type from, struct type to);
+bool can_compare(unsigned comparison, struct type type);
+bool check_types(const uint8_t *text, const struct tokens *tokens, struct tree *tree, const uint8_t *list, size_t list_length,
+                 struct pollux_answer *answer);
+
+/* Stages 1 to 14 (plain_judge.c). */
+bool checked_tree(const uint8_t *text, size_t text_length, const uint8_t *list, size_t list_length, struct tree *tree,
+                  struct pollux_answer *answer);
+
+#endif

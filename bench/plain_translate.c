@@ -1,0 +1,75 @@
+/* A text's tree into blocks: refusal 15. */
+#include "plain_blocks.h"
+
+struct writer {
+    uint8_t *blocks;
+    size_t count; /* instructions written */
+};
+
+static void write_instruction(struct writer *writer, unsigned operation, unsigned detail, unsigned operand, number constant)
+{
+    uint8_t *at = writer->blocks + instruction_place(writer->count++);
+    at[0] = (uint8_t)operation;
+    at[1] = (uint8_t)detail;
+    set_short(at + 2, operand);
+    set_number(at + 4, constant);
+}
+
+static void write_node(struct writer *writer, const struct node *node)
+{
+    switch (node->what) {
+    case TRUTH: write_instruction(writer, PUSH_BOOL, 0, (unsigned)node->value, 0); break;
+    case WHOLE: write_instruction(writer, PUSH_INT, 0, 0, node->value); break;
+    case KEY: write_instruction(writer, PUSH_KEY, 0, node->key, 0); break;
+    case FIELD: write_instruction(writer, PUSH_FIELD, node->field, node->key, 0); break;
+    case ATTRIBUTE: write_instruction(writer, PUSH_PRIORITY, 0, 0, 0); break;
+    case OPPOSITE: write_instruction(writer, TURN, 0, 0, 0); break;
+    case NEGATIVE: write_instruction(writer, NEGATE, 0, 0, 0); break;
+    case COMPARISON: write_instruction(writer, COMPARE, node->comparison, 0, 0); break;
+    default: write_instruction(writer, JOIN_AND + (node->what - BOTH), 0, 0, 0);
+    }
+    if (node->converted.width != 0)
+        write_instruction(writer, CONVERT, node->converted.kind, node->converted.width, 0);
+}
+
+static size_t instructions_of(const struct tree *tree)
+{
+    size_t count = tree->count;
+    for (size_t i = 0; i < tree->count; i++)
+        count += tree->at[i].converted.width != 0;
+    return count;
+}
+
+static void seal(uint8_t *block, size_t index, size_t total, size_t keys)
+{
+    size_t left = total - index * POLLUX_BLOCK_INSTRUCTIONS;
+    set_short(block, (unsigned)index);
+    set_short(block + 2, (unsigned)(left < POLLUX_BLOCK_INSTRUCTIONS ? left : POLLUX_BLOCK_INSTRUCTIONS));
+    set_short(block + TOTAL_AT, (unsigned)total);
+    set_short(block + KEYS_AT, (unsigned)keys);
+    struct sums sums = block_sums(block);
+    set_short(block + CHECK_AT, sums.second);
+    set_short(block + CHECK_AT + 2, sums.first);
+}
+
+struct pollux_answer plain_translate(const uint8_t *text, size_t text_length, const uint8_t *list, size_t list_length,
+                                     uint8_t *buffer, size_t buffer_length)
+{
+    struct tree tree;
+    struct pollux_answer answer;
+    if (!checked_tree(text, text_length, list, list_length, &tree, &answer))
+        return answer;
+    size_t total = instructions_of(&tree);
+    size_t needed = POLLUX_BLOCKS_SIZE(total);
+    if (buffer_length < needed) {
+        refuse(&answer, POLLUX_BUFFER_SHORT, POLLUX_BUFFER, buffer_length);
+        return answer;
+    }
+    memset(buffer, 0, needed);
+    struct writer writer = { buffer, 0 };
+    for (size_t i = 0; i < tree.count; i++)
+        write_node(&writer, &tree.at[i]);
+    for (size_t index = 0; index < needed / POLLUX_BLOCK_SIZE; index++)
+        seal(buffer + index * POLLUX_BLOCK_SIZE, index, total, list_length / POLLUX_KEY_SIZE);
+    return done(total);
+}

@@ -1,0 +1,170 @@
+#include "tables.h"
+
+#include <stdlib.h>
+#include <string.h>
+
+#include "../examples/switch/files.h"
+#include "by_hand.h"
+#include "plain.h"
+
+enum { EXACT, TERNARY, LPM, RANGE, OPTIONAL };
+
+static struct input room(size_t length)
+{
+    uint8_t *at = malloc(length);
+    if (at == NULL) {
+        perror("memory");
+        exit(3);
+    }
+    memset(at, 0, length);
+    return (struct input){ at, length };
+}
+
+static struct input from_words(const char *words)
+{
+    struct input text = room(strlen(words));
+    memcpy(text.at, words, text.length);
+    return text;
+}
+
+static void set_key(struct input *list, size_t key, const char *name, unsigned kind, unsigned width)
+{
+    uint8_t *record = list->at + key * POLLUX_KEY_SIZE;
+    record[0] = (uint8_t)strlen(name);
+    record[1] = (uint8_t)kind;
+    record[2] = (uint8_t)width;
+    memcpy(record + 16, name, record[0]);
+}
+
+static void set_low_word(uint8_t *number, uint32_t value)
+{
+    for (int i = 0; i < 4; i++)
+        number[12 + i] = (uint8_t)(value >> (24 - 8 * i));
+}
+
+/* ---- Small: one key, one comparison. */
+
+static void make_small(struct table *table)
+{
+    *table = (struct table){ .name = "small", .text = from_words("ipv6.dst::prefix_length <= 64"), .entry_size = POLLUX_ENTRY_SIZE(1) };
+    table->list = room(POLLUX_KEY_SIZE);
+    set_key(&table->list, 0, "ipv6.dst", LPM, 128);
+    table->entries = room(2 * table->entry_size);
+    for (int i = 0; i < 2; i++) {
+        uint8_t *record = table->entries.at + (size_t)i * table->entry_size + POLLUX_PRIORITY_SIZE;
+        record[0] = 1;
+        record[1] = i == 0 ? 48 : 128;
+        record[4] = 0x20;
+    }
+}
+
+/* ---- At the limits: 4,096 bytes of text, 1,024 tokens, 32 keys of 128 bits. */
+
+enum { COMPARISONS = POLLUX_TOKENS_MOST / 4, FIRST_NUMERAL = 100000000 };
+
+/* kNN!=NNNNNNNNN, 256 times, with && between them, a ";" and a blank at the end. */
+static void make_limit_text(struct table *table)
+{
+    table->text = room(POLLUX_TEXT_LONGEST);
+    char piece[32];
+    size_t at = 0;
+    for (unsigned i = 0; i < COMPARISONS; i++) {
+        const char *joined = i + 1 < COMPARISONS ? "&&" : "; ";
+        snprintf(piece, sizeof piece, "k%02u!=%u%s", i % POLLUX_KEYS_MOST, FIRST_NUMERAL + i, joined);
+        memcpy(table->text.at + at, piece, strlen(piece));
+        at += strlen(piece);
+    }
+}
+
+static void set_limit_record(uint8_t *record, size_t key, uint32_t value)
+{
+    record[0] = 1;
+    set_low_word(record + 4, value);
+    switch (key % 5) {
+    case TERNARY:
+    case OPTIONAL: memset(record + 20, 0xff, 16); break;
+    case LPM: record[1] = 128; break;
+    case RANGE: set_low_word(record + 20, value + 1); break;
+    default: break;
+    }
+}
+
+/* The first entry is accepted; the second is violated by the last comparison. */
+static void make_limit(struct table *table)
+{
+    char name[8];
+    *table = (struct table){ .name = "limit", .entry_size = POLLUX_ENTRY_SIZE(POLLUX_KEYS_MOST) };
+    make_limit_text(table);
+    table->list = room(POLLUX_LIST_LONGEST);
+    table->entries = room(2 * table->entry_size);
+    for (size_t key = 0; key < POLLUX_KEYS_MOST; key++) {
+        uint8_t *record = table->entries.at + POLLUX_ENTRY_SIZE(key);
+        snprintf(name, sizeof name, "k%02zu", key);
+        set_key(&table->list, key, name, key % 5, 128);
+        set_limit_record(record, key, (uint32_t)key + 1);
+        bool last = key + 1 == POLLUX_KEYS_MOST;
+        set_limit_record(record + table->entry_size, key, last ? FIRST_NUMERAL + COMPARISONS - 1 : (uint32_t)key + 1);
+    }
+}
+
+/* ---- The examples. */
+
+static struct input part_of(const char *folder, const char *name, const char *part)
+{
+    char path[4096];
+    snprintf(path, sizeof path, "%s/%s.%s", folder, name, part);
+    struct bytes file = read_file(path);
+    return (struct input){ file.at, file.length };
+}
+
+static void make_example(struct table *table, const char *folder, const char *name, bool (*by_hand)(const uint8_t *))
+{
+    *table = (struct table){ .name = name, .by_hand = by_hand };
+    table->text = part_of(folder, name, "text");
+    table->list = part_of(folder, name, "list");
+    table->entries = part_of(folder, name, "entries");
+    table->entry_size = POLLUX_ENTRY_SIZE(table->list.length / POLLUX_KEY_SIZE);
+}
+
+/* ---- What is made from text, list and entries. */
+
+static void add_blocks(struct table *table)
+{
+    table->blocks = room(POLLUX_BLOCKS_LONGEST);
+    struct pollux_answer answer = plain_translate(table->text.at, table->text.length, table->list.at, table->list.length,
+                                                  table->blocks.at, table->blocks.length);
+    if (answer.says != POLLUX_DONE) {
+        fprintf(stderr, "%s: its restriction does not pass\n", table->name);
+        exit(3);
+    }
+    table->instructions = answer.value;
+    table->blocks.length = POLLUX_BLOCKS_SIZE(answer.value);
+}
+
+static void add_conforming(struct table *table)
+{
+    table->conforming = room(table->entries.length);
+    table->conforming.length = 0;
+    for (size_t i = 0; i < entry_count(table); i++) {
+        struct input entry = entry_of(table, i);
+        struct pollux_answer answer = plain_judge(table->text.at, table->text.length, table->list.at, table->list.length,
+                                                  entry.at, entry.length);
+        if (answer.says == POLLUX_REFUSED)
+            continue;
+        memcpy(table->conforming.at + table->conforming.length, entry.at, entry.length);
+        table->conforming.length += entry.length;
+    }
+}
+
+void make_tables(struct table tables[TABLES], const char *folder)
+{
+    make_small(&tables[0]);
+    make_example(&tables[1], folder, "ipv6-routing", by_hand_ipv6_routing);
+    make_example(&tables[2], folder, "uplink", by_hand_uplink);
+    make_example(&tables[3], folder, "acl", by_hand_acl);
+    make_limit(&tables[4]);
+    for (int i = 0; i < TABLES; i++) {
+        add_blocks(&tables[i]);
+        add_conforming(&tables[i]);
+    }
+}

@@ -1,0 +1,33 @@
+/* The tables that are measured: a small one, one at the limits, and those of examples/. */
+#ifndef TABLES_H
+#define TABLES_H
+
+#include "../tests/c/requests.h"
+
+struct table {
+    const char *name;
+    struct input text, list, entries;
+    size_t entry_size;
+    bool (*by_hand)(const uint8_t *entry); /* or NULL */
+    /* Made from the above: */
+    struct input blocks;
+    size_t instructions;
+    struct input conforming; /* the entries that are not refused, end to end */
+};
+
+enum { TABLES = 5 };
+
+/* FOLDER has NAME.text, NAME.list and NAME.entries for each example. */
+void make_tables(struct table tables[TABLES], const char *folder);
+
+static inline size_t entry_count(const struct table *table)
+{
+    return table->entries.length / table->entry_size;
+}
+
+static inline struct input entry_of(const struct table *table, size_t index)
+{
+    return (struct input){ table->entries.at + index * table->entry_size, table->entry_size };
+}
+
+#endif

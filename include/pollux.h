@@ -1,0 +1,153 @@
+/*
+ * Polluxvalve for C: a restriction on the entries of a P4 table is read, checked, translated into blocks of 512 bytes,
+ * loaded, and held against entries. Link with target/staticlib/libabi.a, which `rt staticlib abi` makes.
+ *
+ *   On the author's desk     pollux_check, pollux_translate, pollux_judge: from the restriction's text
+ *   On the switch            pollux_load once for a table, then pollux_run for every entry
+ *
+ * Inputs
+ *   Each input is a pointer and a length in bytes, in that order. It may have any length and any content: whatever does not
+ *   conform is refused with a number and a place. No alignment is asked for.
+ *   A pointer is never NULL. For an input of length 0 pass any other pointer; no byte behind it is touched.
+ *   The buffer of pollux_translate must not overlap the text or the key list. Inputs that are only read may overlap.
+ *
+ * What a call touches
+ *   A call reads no byte outside the inputs that it is given and writes none but those of pollux_translate's buffer. It keeps
+ *   nothing: there are no globals, no heap and no system calls, and the same inputs always have the same answer. Threads may
+ *   call at the same time, as long as nobody writes what another one's call has been given.
+ *
+ * What a call needs
+ *   Stack: at most N KiB, see docs/DECISIONS.md.   <-- to be filled in when measured
+ *   From the C library, or from you on bare metal: memcpy and memset.
+ *   Processor and calling convention: x86-64, System V.
+ */
+#ifndef POLLUX_H
+#define POLLUX_H
+
+#include <stddef.h>
+#include <stdint.h>
+
+#ifdef __cplusplus
+extern "C" {
+#endif
+
+/* Sizes in bytes, and limits. What is over a limit is refused. */
+#define POLLUX_TEXT_LONGEST 4096
+#define POLLUX_TOKENS_MOST 1024
+#define POLLUX_LEVELS_MOST 64 /* parentheses and prefix operators that are open at one time */
+
+#define POLLUX_KEY_SIZE 80 /* one record of a key list */
+#define POLLUX_KEYS_MOST 32
+#define POLLUX_LIST_LONGEST (POLLUX_KEYS_MOST * POLLUX_KEY_SIZE)
+#define POLLUX_NAME_LONGEST 64
+#define POLLUX_WIDTH_MOST 128 /* bits of a key */
+
+#define POLLUX_PRIORITY_SIZE 4 /* an entry is a priority and a record for each key */
+#define POLLUX_RECORD_SIZE 36
+#define POLLUX_ENTRY_SIZE(keys) (POLLUX_PRIORITY_SIZE + POLLUX_RECORD_SIZE * (size_t)(keys))
+
+#define POLLUX_BLOCK_SIZE 512
+#define POLLUX_BLOCKS_MOST 82
+#define POLLUX_BLOCKS_LONGEST (POLLUX_BLOCKS_MOST * POLLUX_BLOCK_SIZE)
+#define POLLUX_INSTRUCTION_SIZE 20
+#define POLLUX_BLOCK_INSTRUCTIONS 25
+#define POLLUX_VALUES_MOST 384 /* values that a run holds at one time */
+
+/* The bytes of the blocks that hold so many instructions. */
+#define POLLUX_BLOCKS_SIZE(instructions) \
+    (((size_t)(instructions) + POLLUX_BLOCK_INSTRUCTIONS - 1) / POLLUX_BLOCK_INSTRUCTIONS * POLLUX_BLOCK_SIZE)
+
+/* What an answer says. */
+enum pollux_says {
+    POLLUX_REFUSED = 0,
+    POLLUX_ACCEPTED = 1, /* the restriction is true of the entry */
+    POLLUX_VIOLATED = 2, /* it is false of the entry */
+    POLLUX_DONE = 3      /* read, passed, translated or loaded */
+};
+
+/* The input that a refusal lies in. */
+enum pollux_input {
+    POLLUX_NOWHERE = 0, /* no refusal */
+    POLLUX_TEXT = 1,
+    POLLUX_LIST = 2,
+    POLLUX_ENTRY = 3,
+    POLLUX_BLOCKS = 4,
+    POLLUX_BUFFER = 5
+};
+
+/* Why an input was refused, and where in it. */
+enum pollux_refusal {
+    POLLUX_TEXT_TOO_LONG = 1,   /* at 4096 */
+    POLLUX_LIST_LENGTH = 2,     /* not a multiple of 80, or over 2,560; at its length */
+    POLLUX_KEY_LAYOUT = 3,      /* at the record */
+    POLLUX_KEY_REPEATED = 4,    /* at the later record */
+    POLLUX_NO_TOKEN = 5,        /* at the first byte that forms no token */
+    POLLUX_NUMERAL_LARGE = 6,   /* above 2^128 - 1; at the numeral */
+    POLLUX_TOKENS_MANY = 7,     /* at the 1,025th token */
+    POLLUX_GRAMMAR = 8,         /* at the token that cannot stand there, or at the text's length */
+    POLLUX_LEVELS_MANY = 9,     /* at the token that opens the 65th level */
+    POLLUX_ADDRESS = 10,        /* at the string's quote */
+    POLLUX_KEY_UNKNOWN = 11,    /* at the key */
+    POLLUX_FIELD_UNKNOWN = 12,  /* or attribute; at its name */
+    POLLUX_OPERAND_TYPES = 13,  /* at the operator */
+    POLLUX_NOT_BOOL = 14,       /* at the root of the text's tree */
+    POLLUX_BUFFER_SHORT = 15,   /* at the buffer's length */
+    POLLUX_BLOCKS_LENGTH = 16,  /* 0, not a multiple of 512, or over 82 blocks; at the length */
+    POLLUX_BLOCK_LAYOUT = 17,   /* at the block */
+    POLLUX_INSTRUCTION = 18,    /* at the instruction, or at the blocks' length if what is left at the end is not one bool */
+    POLLUX_ENTRY_LENGTH = 19,   /* at its length */
+    POLLUX_ENTRY_RULE = 20      /* at the priority (0) or at the key's record */
+};
+
+/*
+ * An answer of any call.
+ *
+ *   refused               says POLLUX_REFUSED, number and input as above, value the byte offset in that input
+ *   accepted, violated    the other three are 0
+ *   done                  number and input are 0; value is the count that the call gives, or 0
+ */
+struct pollux_answer {
+    uint64_t says;   /* enum pollux_says */
+    uint64_t number; /* enum pollux_refusal, or 0 */
+    uint64_t input;  /* enum pollux_input */
+    uint64_t value;
+};
+
+/* Reads a restriction's text. Done: value is the number of nodes of its tree. */
+struct pollux_answer pollux_read(const uint8_t *text, size_t text_length);
+
+/* Checks a text and its types against a key list. Done: value is 0. */
+struct pollux_answer pollux_check(const uint8_t *text, size_t text_length,
+                                  const uint8_t *list, size_t list_length);
+
+/* Judges one entry directly from the text: accepted, violated or refused. */
+struct pollux_answer pollux_judge(const uint8_t *text, size_t text_length,
+                                  const uint8_t *list, size_t list_length,
+                                  const uint8_t *entry, size_t entry_length);
+
+/*
+ * Translates a text into blocks at the front of the buffer. Done: value is the number of instructions, and
+ * POLLUX_BLOCKS_SIZE(value) bytes were written. Later bytes of the buffer stay as they were; on a refusal every byte does.
+ * A buffer of POLLUX_BLOCKS_LONGEST bytes is large enough for any text.
+ */
+struct pollux_answer pollux_translate(const uint8_t *text, size_t text_length,
+                                      const uint8_t *list, size_t list_length,
+                                      uint8_t *buffer, size_t buffer_length);
+
+/* Checks that blocks load with a key list. Done: value is the number of instructions. */
+struct pollux_answer pollux_load(const uint8_t *list, size_t list_length,
+                                 const uint8_t *blocks, size_t blocks_length);
+
+/*
+ * Runs blocks on one entry: accepted, violated or refused. It checks list and blocks itself, every time, and trusts no earlier
+ * load: blocks of which a byte has changed since are refused. Where pollux_load passes, only the entry can be refused (19, 20).
+ */
+struct pollux_answer pollux_run(const uint8_t *list, size_t list_length,
+                                const uint8_t *blocks, size_t blocks_length,
+                                const uint8_t *entry, size_t entry_length);
+
+#ifdef __cplusplus
+}
+#endif
+
+#endif

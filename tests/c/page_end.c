@@ -1,0 +1,321 @@
+/*
+ * Lends the inputs of every call at the very end of a page, with the next page out of bounds, and a little before it, so that
+ * they begin at every alignment; and at the very start of a page, with the one before out of bounds. A call that touches a byte
+ * outside its inputs ends this program with a message that names the case.
+ *
+ *   page_end vary < REQUESTS > VARIED     the request of the incident and those given, each whole, and with one input a byte
+ *                                         shorter or a byte longer
+ *   page_end VARIED LINES                 makes the calls and holds their answers to the lines
+ *
+ * LINES is what `desk answer` says of VARIED. The last line is 'N passed, M failed'; the status is 0 if M is 0.
+ */
+#include <signal.h>
+#include <stdlib.h>
+#include <string.h>
+#include <sys/mman.h>
+#include <unistd.h>
+
+#include "requests.h"
+
+enum { PAGE = 4096, ROOM = LONGEST_INPUT + PAGE, MARGIN = 64, ALIGNMENTS = 16, AT_START = ALIGNMENTS, PLACINGS };
+
+/* Room for one input between two pages that nobody may touch. */
+struct arena {
+    uint8_t *room;
+};
+
+static struct arena arenas[INPUTS];
+
+/* What is being done, for the message after a fault and for the counts. */
+static struct {
+    unsigned long request;
+    const struct request *lent;
+    unsigned placing;
+    unsigned long passed, failed;
+} now;
+
+/* ---- Requests with inputs that are a byte too short or too long. */
+
+/* A digit: at a text's end it makes a word or a numeral longer. */
+enum { MORE = '1' };
+
+static void write_varied(const struct request *request, unsigned input)
+{
+    static uint8_t longer[LONGEST_INPUT];
+    struct request varied = *request;
+    size_t length = request->inputs[input].length;
+    if (length > 0) {
+        varied.inputs[input].length = length - 1;
+        write_request(stdout, &varied);
+    }
+    if (length < LONGEST_INPUT) {
+        memcpy(longer, request->inputs[input].at, length);
+        longer[length] = MORE;
+        varied.inputs[input] = (struct input){ longer, length + 1 };
+        write_request(stdout, &varied);
+    }
+}
+
+static void write_all_varied(const struct request *request)
+{
+    write_request(stdout, request);
+    for (unsigned input = 0; input < INPUTS; input++)
+        if (input_name(request->call, input)[0] != '\0')
+            write_varied(request, input);
+}
+
+/*
+ * The incident: a key name that fills its record to the last byte of the list, and a text whose word is that name and goes on.
+ * Compared by the word's length, the name is read past the list's end. (The longer word comes from a byte more of text.)
+ */
+static void write_incident(void)
+{
+    static uint8_t list[POLLUX_KEY_SIZE] = { POLLUX_NAME_LONGEST, 0, 1 };
+    static uint8_t entry[POLLUX_ENTRY_SIZE(1)] = { [4] = 1, [23] = 1 };
+    static uint8_t buffer[POLLUX_BLOCK_SIZE];
+    uint8_t *name = list + POLLUX_KEY_SIZE - POLLUX_NAME_LONGEST;
+    memset(name, 'k', POLLUX_NAME_LONGEST);
+    struct request request = { .inputs = { { name, POLLUX_NAME_LONGEST }, { list, sizeof list }, { buffer, 0 } } };
+    request.call = CHECK;
+    write_all_varied(&request);
+    request.call = JUDGE;
+    request.inputs[2] = (struct input){ entry, sizeof entry };
+    write_all_varied(&request);
+    request.call = TRANSLATE;
+    request.inputs[2] = (struct input){ buffer, sizeof buffer };
+    write_all_varied(&request);
+}
+
+static int vary(void)
+{
+    struct request request;
+    write_incident();
+    while (read_request(stdin, &request))
+        write_all_varied(&request);
+    return fflush(stdout) == 0 ? 0 : 3;
+}
+
+/* ---- Pages. */
+
+static _Noreturn void give_up(const char *what)
+{
+    perror(what);
+    exit(3);
+}
+
+static void protect(const struct arena *arena, int protection)
+{
+    if (mprotect(arena->room, ROOM, protection) != 0)
+        give_up("mprotect");
+}
+
+static void make_arena(struct arena *arena)
+{
+    uint8_t *pages = mmap(NULL, PAGE + ROOM + PAGE, PROT_NONE, MAP_PRIVATE | MAP_ANONYMOUS, -1, 0);
+    if (pages == MAP_FAILED)
+        give_up("mmap");
+    arena->room = pages + PAGE;
+    protect(arena, PROT_READ | PROT_WRITE);
+}
+
+/* The bytes around an input have a value that changes from placing to placing, so an answer that depends on them changes too. */
+static uint8_t surroundings(unsigned placing)
+{
+    static const uint8_t values[] = { 0x00, MORE, 0xff, ' ', '\'', 0xa5 };
+    return values[placing % sizeof values];
+}
+
+/* The bytes before and after an input that are watched: as many as the room has, and at most MARGIN. */
+static struct input before(const struct arena *arena, struct input lent)
+{
+    size_t room = (size_t)(lent.at - arena->room);
+    size_t length = room < MARGIN ? room : MARGIN;
+    return (struct input){ lent.at - length, length };
+}
+
+static struct input after(const struct arena *arena, struct input lent)
+{
+    uint8_t *end = lent.at + lent.length;
+    size_t room = (size_t)(arena->room + ROOM - end);
+    return (struct input){ end, room < MARGIN ? room : MARGIN };
+}
+
+static bool all_are(struct input part, uint8_t byte)
+{
+    for (size_t i = 0; i < part.length; i++)
+        if (part.at[i] != byte)
+            return false;
+    return true;
+}
+
+static struct input lend(const struct arena *arena, struct input input, unsigned placing)
+{
+    uint8_t *at = placing == AT_START ? arena->room : arena->room + ROOM - placing - input.length;
+    struct input lent = { at, input.length };
+    struct input front = before(arena, lent), back = after(arena, lent);
+    memcpy(at, input.at, input.length);
+    memset(front.at, surroundings(placing), front.length);
+    memset(back.at, surroundings(placing), back.length);
+    return lent;
+}
+
+static bool untouched_around(const struct arena *arena, struct input lent, unsigned placing)
+{
+    uint8_t byte = surroundings(placing);
+    return all_are(before(arena, lent), byte) && all_are(after(arena, lent), byte);
+}
+
+/* ---- Faults. */
+
+static void tell_case(void)
+{
+    printf("request %lu, %s", now.request, call_name(now.lent->call));
+    if (now.placing == AT_START)
+        printf(", inputs at the start of a page");
+    else
+        printf(", inputs that end %u bytes before the end of a page", now.placing);
+    for (unsigned input = 0; input < INPUTS; input++)
+        if (input_name(now.lent->call, input)[0] != '\0')
+            printf(", %s of %zu bytes", input_name(now.lent->call, input), now.lent->inputs[input].length);
+    printf("\n");
+}
+
+static void tell_place(const uint8_t *address)
+{
+    for (unsigned input = 0; input < INPUTS; input++) {
+        const uint8_t *room = arenas[input].room;
+        const struct input *lent = &now.lent->inputs[input];
+        const char *name = input_name(now.lent->call, input);
+        if (address < room - PAGE || address >= room + ROOM + PAGE)
+            continue;
+        if (address < lent->at)
+            printf("FAULT at byte %td before the %s: ", lent->at - address, name);
+        else if (address >= lent->at + lent->length)
+            printf("FAULT at byte %td past the end of the %s: ", address - lent->at - (ptrdiff_t)lent->length + 1, name);
+        else
+            printf("FAULT by writing byte %td of the %s: ", address - lent->at, name);
+        return;
+    }
+    printf("FAULT at %p, outside all inputs (the stack, if nothing else): ", (const void *)address);
+}
+
+/* The kit's emulator enters a handler with a stack that is 8 bytes off, which printf does not bear; hence the attribute. */
+__attribute__((force_align_arg_pointer)) static void on_fault(int signal, siginfo_t *what, void *context)
+{
+    (void)signal;
+    (void)context;
+    tell_place(what->si_addr);
+    tell_case();
+    printf("%lu passed, %lu failed\n", now.passed, now.failed + 1);
+    fflush(stdout);
+    _exit(1);
+}
+
+static void catch_faults(void)
+{
+    static uint8_t memory[65536];
+    stack_t own = { .ss_sp = memory, .ss_size = sizeof memory };
+    struct sigaction action = { .sa_sigaction = on_fault, .sa_flags = SA_SIGINFO | SA_ONSTACK };
+    if (sigaltstack(&own, NULL) != 0 || sigaction(SIGSEGV, &action, NULL) != 0 || sigaction(SIGBUS, &action, NULL) != 0)
+        give_up("sigaction");
+}
+
+/* ---- The calls. */
+
+static bool failed(const char *what)
+{
+    printf("FAILED, %s: ", what);
+    tell_case();
+    return false;
+}
+
+/* Only the blocks that a translation tells of may have changed, and after a refusal nothing. */
+static bool kept_rest(const struct request *request, const struct request *lent, struct pollux_answer answer)
+{
+    if (request->call != TRANSLATE)
+        return true;
+    size_t written = answer.says == POLLUX_DONE ? POLLUX_BLOCKS_SIZE(answer.value) : 0;
+    const struct input *before = &request->inputs[2], *after = &lent->inputs[2];
+    return written <= after->length && memcmp(before->at + written, after->at + written, after->length - written) == 0;
+}
+
+static bool same_answer(const struct request *lent, struct pollux_answer answer, const char *line)
+{
+    char got[LINE_SIZE];
+    answer_line(got, lent, answer);
+    if (strcmp(got, line) == 0)
+        return true;
+    printf("answer '%s', expected '%s': ", got, line);
+    return false;
+}
+
+static bool try_placing(const struct request *request, const char *line, unsigned placing)
+{
+    struct request lent = *request;
+    now.lent = &lent;
+    now.placing = placing;
+    for (unsigned i = 0; i < INPUTS; i++) {
+        lent.inputs[i] = lend(&arenas[i], request->inputs[i], placing);
+        if (request->call != TRANSLATE || i != 2)
+            protect(&arenas[i], PROT_READ);
+    }
+    struct pollux_answer answer = make_call(&pollux_calls, &lent);
+    for (unsigned i = 0; i < INPUTS; i++) {
+        protect(&arenas[i], PROT_READ | PROT_WRITE);
+        if (!untouched_around(&arenas[i], lent.inputs[i], placing))
+            return failed("bytes around an input were written");
+    }
+    if (!kept_rest(request, &lent, answer))
+        return failed("bytes of the buffer changed that must stay");
+    return same_answer(&lent, answer, line) || failed("another answer");
+}
+
+static void try_request(const struct request *request, const char *line)
+{
+    for (unsigned placing = 0; placing < PLACINGS; placing++) {
+        if (!try_placing(request, line, placing)) {
+            now.failed++;
+            return;
+        }
+    }
+    now.passed++;
+}
+
+static FILE *opened(const char *path)
+{
+    FILE *file = fopen(path, "rb");
+    if (file == NULL)
+        give_up(path);
+    return file;
+}
+
+static int try_all(FILE *requests, FILE *lines)
+{
+    char line[LINE_SIZE];
+    struct request request;
+    for (unsigned i = 0; i < INPUTS; i++)
+        make_arena(&arenas[i]);
+    catch_faults();
+    while (read_request(requests, &request)) {
+        now.request++;
+        if (fgets(line, sizeof line, lines) == NULL) {
+            fprintf(stderr, "there are fewer lines than requests\n");
+            return 3;
+        }
+        line[strcspn(line, "\n")] = '\0';
+        try_request(&request, line);
+    }
+    printf("%lu passed, %lu failed\n", now.passed, now.failed);
+    return now.failed == 0 ? 0 : 1;
+}
+
+int main(int count, char **words)
+{
+    if (count == 2 && strcmp(words[1], "vary") == 0)
+        return vary();
+    if (count != 3) {
+        fprintf(stderr, "usage: page_end vary < REQUESTS > VARIED\n       page_end VARIED LINES\n");
+        return 3;
+    }
+    return try_all(opened(words[1]), opened(words[2]));
+}

@@ -1,0 +1,56 @@
+/*
+ * Requests to the six calls, and the lines that tell their answers: the framing of the programs `answers` and `desk answer`.
+ *
+ * A request is a byte for the call and three inputs, each a length of 4 bytes, big-endian, and its bytes; a call that has fewer
+ * inputs finds the rest empty. The line of a translation ends in the Adler-32 sum of the buffer as it stands after the call.
+ */
+#ifndef REQUESTS_H
+#define REQUESTS_H
+
+#include <stdbool.h>
+#include <stdio.h>
+
+#include "pollux.h"
+
+enum { READ = 1, CHECK, JUDGE, TRANSLATE, LOAD, RUN };
+enum { INPUTS = 3, LONGEST_INPUT = 65536, LINE_SIZE = 80 };
+
+struct input {
+    uint8_t *at; /* never NULL */
+    size_t length;
+};
+
+struct request {
+    unsigned call;
+    struct input inputs[INPUTS];
+};
+
+/* The call's name, and which input of a request it is: "text", "list", "entry", "blocks", "buffer", or "" if it has none. */
+const char *call_name(unsigned call);
+const char *input_name(unsigned call, unsigned input);
+
+/*
+ * Reads the next request into memory that the next one uses again; false at the end. Requests that name no call or have an input
+ * over 65,536 bytes are passed over. A cut one ends the program with status 3.
+ */
+bool read_request(FILE *file, struct request *request);
+void write_request(FILE *file, const struct request *request);
+
+/* Someone's version of the six calls. */
+struct calls {
+    struct pollux_answer (*read)(const uint8_t *, size_t);
+    struct pollux_answer (*check)(const uint8_t *, size_t, const uint8_t *, size_t);
+    struct pollux_answer (*judge)(const uint8_t *, size_t, const uint8_t *, size_t, const uint8_t *, size_t);
+    struct pollux_answer (*translate)(const uint8_t *, size_t, const uint8_t *, size_t, uint8_t *, size_t);
+    struct pollux_answer (*load)(const uint8_t *, size_t, const uint8_t *, size_t);
+    struct pollux_answer (*run)(const uint8_t *, size_t, const uint8_t *, size_t, const uint8_t *, size_t);
+};
+
+extern const struct calls pollux_calls;
+
+struct pollux_answer make_call(const struct calls *calls, const struct request *request);
+
+/* The answer as a line, without its end. An answer that no call may give is told as "odd" with its four numbers. */
+void answer_line(char line[LINE_SIZE], const struct request *request, struct pollux_answer answer);
+
+#endif

@@ -1,0 +1,121 @@
+/*
+ * Measures how much stack the calls take. Each call has a stack of its own, filled beforehand with a byte, with a page that
+ * nobody may touch below it; how far it is no longer that byte at the end is the most that was used.
+ *
+ *   stack LIMIT < REQUESTS
+ *
+ * Makes the deepest texts that the limits allow, and the requests given. Prints the most that each call took, in bytes, and then
+ * 'N passed, M failed': a call passes if it stayed within LIMIT KiB.
+ */
+#include <stdlib.h>
+#include <string.h>
+#include <sys/mman.h>
+
+#include "requests.h"
+
+enum { PAGE = 4096, STACK = 4 * 1024 * 1024, FILL = 0x5a };
+
+static uint8_t *stacks[RUN + 1];
+
+static uint8_t *make_stack(void)
+{
+    uint8_t *pages = mmap(NULL, PAGE + STACK, PROT_READ | PROT_WRITE, MAP_PRIVATE | MAP_ANONYMOUS, -1, 0);
+    if (pages == MAP_FAILED || mprotect(pages, PAGE, PROT_NONE) != 0) {
+        perror("stack");
+        exit(3);
+    }
+    memset(pages + PAGE, FILL, STACK);
+    return pages + PAGE;
+}
+
+static size_t used(const uint8_t *stack)
+{
+    size_t unused = 0;
+    while (unused < STACK && stack[unused] == FILL)
+        unused++;
+    return STACK - unused;
+}
+
+static const struct request *current;
+
+static void make_current_call(void)
+{
+    make_call(&pollux_calls, current);
+}
+
+/* Calls make_current_call on another stack. */
+static void call_on(uint8_t *top)
+{
+    __asm__ volatile("movq %%rsp, %%rbx\n\t"
+                     "movq %0, %%rsp\n\t"
+                     "call *%1\n\t"
+                     "movq %%rbx, %%rsp"
+                     :
+                     : "r"(top), "r"(make_current_call)
+                     : "rbx", "rax", "rcx", "rdx", "rsi", "rdi", "r8", "r9", "r10", "r11", "memory", "cc", "xmm0", "xmm1", "xmm2",
+                       "xmm3", "xmm4", "xmm5", "xmm6", "xmm7", "xmm8", "xmm9", "xmm10", "xmm11", "xmm12", "xmm13", "xmm14", "xmm15");
+}
+
+static void measure(const struct request *request)
+{
+    current = request;
+    call_on(stacks[request->call] + STACK);
+}
+
+/* ---- The deepest texts: of 1,024 tokens in a row, and of 64 levels, the innermost of which holds the rest of the tokens. */
+
+static size_t repeat(uint8_t *text, const char *piece, size_t times)
+{
+    size_t length = strlen(piece);
+    for (size_t i = 0; i < times; i++)
+        memcpy(text + i * length, piece, length);
+    return times * length;
+}
+
+static void measure_text(uint8_t *text, size_t length)
+{
+    static uint8_t entry[POLLUX_PRIORITY_SIZE], buffer[POLLUX_BLOCKS_LONGEST];
+    struct request request = { .inputs = { { text, length }, { entry, 0 }, { entry, sizeof entry } } };
+    for (request.call = READ; request.call <= JUDGE; request.call++)
+        measure(&request);
+    request.call = TRANSLATE;
+    request.inputs[2] = (struct input){ buffer, sizeof buffer };
+    measure(&request);
+}
+
+static void measure_deepest(void)
+{
+    static uint8_t text[POLLUX_TEXT_LONGEST];
+    measure_text(text, repeat(text, "true;", POLLUX_TOKENS_MOST / 2));
+
+    static const char *const levels[] = { "(", "!", "-" };
+    for (int i = 0; i < 3; i++) {
+        size_t end = repeat(text, levels[i], POLLUX_LEVELS_MOST);
+        end += repeat(text + end, i == 2 ? "ipv6('1:2:3:4:5:6:7:8')==1" : "true", 1);
+        end += repeat(text + end, ";true", (POLLUX_TOKENS_MOST - 2 * POLLUX_LEVELS_MOST) / 2 - 6);
+        end += repeat(text + end, ")", i == 0 ? POLLUX_LEVELS_MOST : 0);
+        measure_text(text, end);
+    }
+}
+
+int main(int count, char **words)
+{
+    struct request request;
+    if (count != 2) {
+        fprintf(stderr, "usage: stack LIMIT < REQUESTS\n");
+        return 3;
+    }
+    size_t limit = strtoul(words[1], NULL, 10) * 1024;
+    for (unsigned call = READ; call <= RUN; call++)
+        stacks[call] = make_stack();
+    measure_deepest();
+    while (read_request(stdin, &request))
+        measure(&request);
+    unsigned failed = 0;
+    for (unsigned call = READ; call <= RUN; call++) {
+        printf("%s: %zu bytes of stack\n", call_name(call), used(stacks[call]));
+        failed += used(stacks[call]) > limit;
+    }
+    printf("%u passed, %u failed\n", RUN - failed, failed);
+    return failed == 0 ? 0 : 1;
+}

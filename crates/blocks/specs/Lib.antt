@@ -1,3 +1,4 @@
 pub mod Sealed
 pub mod Fields
 pub mod Layout
+pub mod Written

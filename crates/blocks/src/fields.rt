@@ -3,6 +3,7 @@ ghost use mathlib.Core.Path.{_≡_};
 ghost use Prim.Native.Nat.{_+_, _≤_, _<_};
 ghost use lib.ListN.{length};
 ghost use Rattle.paper.specs.Numbers.{numberAt};
+ghost use Rattle.paper.specs.Blocks.{blocksNeeded};
 ghost use Rattle.blocks.specs.Fields.{BlockOf};
 
 // What a block says of itself.
@@ -36,6 +37,8 @@ impl Block {
 
     pub const INSTRUCTIONS: usize = 25;
 
+    pub const CODE: usize = 500;
+
     pub const TAIL: usize = 504;
 
     pub const CHECK: usize = 508;
@@ -52,5 +55,15 @@ impl Block {
             total: two_bytes(block, Block::TAIL),
             keys: two_bytes(block, 506),
         }
+    }
+
+    // How many blocks hold n instructions.
+    pub fn needed(n: usize) -> usize
+        ensures { λ r. ⌜ r ≡ blocksNeeded n ⌝ }
+    {
+        if n % Block::INSTRUCTIONS == 0 {
+            return n / Block::INSTRUCTIONS;
+        }
+        n / Block::INSTRUCTIONS + 1
     }
 }

@@ -1,10 +1,12 @@
-// Blocks of 512 bytes: whether some are laid out as they must be, and the check at a block's end.
+// Blocks of 512 bytes: whether some are laid out as they must be, the writing of them, and the check at a block's end.
 //
 // `layout` answers for any bytes: the count of instructions that the blocks hold, or refusal 16 or 17 at its place. It reads
-// nothing past the bytes it is lent. `seal` stores a block's check and leaves every other byte.
+// nothing past the bytes it is lent. `write_blocks` fills exactly the blocks that the instructions of the bytes it is lent need, and
+// leaves every later byte of the buffer. `seal` stores a block's check and leaves every other byte.
 mod fields;
 mod laying;
 mod sums;
+mod writing;
 
 pub use fields::Block;
 pub use fields::two_bytes;
@@ -13,3 +15,4 @@ pub use laying::layout;
 pub use sums::Sums;
 pub use sums::seal;
 pub use sums::sums_of;
+pub use writing::write_blocks;

@@ -1,0 +1,77 @@
+-- A run of bytes stored in a slice: what stands before its end, and runs stored one behind the other.
+use Prim.Native.Nat.{ℕ, zero, suc, _+_, _-_, _/_, _%_, _≤_, _<_}
+use native.Mathlib.Nat.{div-one}
+use native.Mathlib.Numerals.{add-one}
+use native.Mathlib.Omega.{arith}
+use mathlib.Core.Path.{_≡_, refl, sym, _∙_, ap, ap₂}
+use mathlib.Core.List.{List, [], _∷_, _++_, append-assoc}
+use lib.ListN.{length, getD, take, drop, set, replicate, length-append, length-drop, length-replicate}
+use lib.Seq.{length-take-le, take-all, take-at, take-add, drop-drop, drop-append-add, sets, sets-eq, paste, paste-suc}
+use Rattle.paper.specs.Numbers.{bigEndian, bytesAt}
+use Rattle.blocks.specs.Written.{padded}
+
+pub two-stores : (l : List ℕ) (at n : ℕ) → set (set l at (n / 256 % 256)) (at + 1) (n % 256) ≡ sets l at (bigEndian 2 n)
+two-stores l at n = rw (add-one at, div-one n)
+
+module _ (l : List ℕ) (i n : ℕ) (vs : List ℕ) (size : length vs ≡ n) (room : i + n ≤ length l) where
+  pub stored : sets l i vs ≡ take i l ++ vs ++ drop (i + n) l
+  stored = sets-eq vs l i (omega arith) ∙ ap (λ (m : ℕ). take i l ++ vs ++ drop (i + m) l) size
+
+  -- behind what stood before it
+  pub stored-behind : (front : List ℕ) → take i l ≡ front → take (i + n) (sets l i vs) ≡ front ++ vs
+  stored-behind front e =
+      let long : length (take i l ++ vs) ≡ i + n = length-append (take i l) vs ∙ omega (arith, length-take-le i l (omega arith)) in
+      ap (take (i + n)) stored ∙ take-at (take i l ++ vs) (drop (i + n) l) (i + n) long ∙ ap (λ (p : List ℕ). p ++ vs) e
+
+  -- as a part that was lent comes back
+  pub put-back : take i l ++ (vs ++ drop n (drop i l)) ≡ sets l i vs
+  put-back =
+      ap (λ (r : List ℕ). take i l ++ (vs ++ r)) (drop-drop n i l) ∙ sym (append-assoc (take i l) vs (drop (i + n) l)) ∙ sym stored
+
+-- new bytes over the first m of the old, and the next n of the new behind them
+pub over-on : (new old : List ℕ) (m n : ℕ) → m + n ≤ length new → m + n ≤ length old
+    → sets (take m new ++ drop m old) m (bytesAt new m n) ≡ take (m + n) new ++ drop (m + n) old
+over-on new old m n h g =
+    let so-far = take m new ++ drop m old in
+    let next = bytesAt new m n in
+    let front = length-take-le m new (omega arith) in
+    let whole : length so-far ≡ length old = length-append (take m new) (drop m old) ∙ omega (arith, front, length-drop m old) in
+    let behind : drop (m + n) so-far ≡ drop (m + n) old =
+    ap (λ (k : ℕ). drop (k + n) so-far) (sym front) ∙ drop-append-add (take m new) (drop m old) n ∙ drop-drop n m old
+    in
+    stored so-far m n next (length-take-le n (drop m new) (omega (arith, length-drop m new))) (omega (arith, whole))
+    ∙ ap₂ (λ (a b : List ℕ). a ++ next ++ b) (take-at (take m new) (drop m old) m front) behind
+    ∙ ap (λ (a : List ℕ). a ++ drop (m + n) old) (sym (take-add m n new))
+
+-- a part that ends where the slice does
+pub short-part : (s : List ℕ) (from n : ℕ) → length s - from ≤ n → take (length s - from) (drop from s) ≡ bytesAt s from n
+short-part s from n h =
+    take-all (length s - from) (drop from s) (omega (arith, length-drop from s))
+    ∙ sym (take-all n (drop from s) (omega (arith, length-drop from s)))
+
+-- bytes, then zeros
+
+zero-there : (n i : ℕ) → getD {A = ℕ} (replicate n 0) i 0 ≡ 0
+zero-there zero i = refl
+zero-there (suc n) zero = refl
+zero-there (suc n) (suc i) = zero-there n i
+
+byte-there : (s : List ℕ) (n i : ℕ) → getD (s ++ replicate n 0) i 0 ≡ getD s i 0
+byte-there [] n i = zero-there n i
+byte-there (x ∷ s) n zero = refl
+byte-there (x ∷ s) n (suc i) = byte-there s n i
+
+module _ (code : List ℕ) (few : length code ≤ 500) where
+  pub padded-length : length (padded code) ≡ 500
+  padded-length = length-append code (replicate (500 - length code) 0) ∙ rw length-replicate (omega arith)
+
+  module _ (b : List ℕ) (size : length b ≡ 512) where
+    pub padded-on : (i : ℕ) → i < 500 → set (paste b 4 (padded code) i) (4 + i) (getD code i 0) ≡ paste b 4 (padded code) (i + 1)
+    padded-on i h =
+        ap (set (paste b 4 (padded code) i) (4 + i)) (sym (byte-there code (500 - length code) i))
+        ∙ paste-suc b 4 (padded code) i 0 (omega arith) (omega (arith, padded-length)) ∙ ap (paste b 4 (padded code)) (sym (add-one i))
+
+    pub padded-through : paste b 4 (padded code) 500 ≡ sets b 4 (padded code)
+    padded-through =
+        ap (λ (s : List ℕ). take 4 b ++ s ++ drop 504 b) (take-all 500 (padded code) (omega (arith, padded-length)))
+        ∙ sym (stored b 4 500 (padded code) padded-length (omega arith))

@@ -11,6 +11,9 @@ use grammar::Parsed;
 use paper::Place;
 use tokens::Tokenized;
 
+// No text is longer: document 01's refusal 1, which is given before a text comes here.
+pub const MOST_TEXT: usize = 4096;
+
 // The number of nodes, of which the last is the root; or a refusal.
 pub enum Grown {
     Tree(usize),

@@ -24,7 +24,7 @@ use Rattle.typing.specs.declared.root.Checked.{Checked}
 use Rattle.typing.specs.declared.root.Checked.the-variants as C
 use Rattle.restricting.specs.declared.Restricted.{Restricted}
 use Rattle.restricting.specs.declared.Restricted.the-variants.{Root, Refused}
-use Rattle.restricting.specs.Restricted.{rootAt, Typed, Types, Restricts}
+use Rattle.restricting.specs.Restricted.{rootAt, Typed, Rooted, Types, Restricts}
 
 -- a refusal of two stages is that of the stages behind them too
 refused-early : {A B : Type 0} (x : Answer A) (f : A → Answer (Unit {0})) (g : A → Answer B) {n : ℕ} {i : Input} {at : ℕ}
@@ -87,3 +87,11 @@ module _ (text list : List ℕ) where
               typed = t;
             }
         restricts kinds starts ends nodes (Refused m p) t = short ∙ rw good (refused-early (tree text) (typed (keysIn list)) _ t)
+
+-- what the answer tells
+module _ (text list kinds starts ends nodes : List ℕ) (r : Restricted) (told : Restricts text list kinds starts ends nodes r) where
+  pub not-restricted : {n : ℕ} {p : Place} → r ≡ Refused n p → restriction text list ≡ refused n (inputOf p) (offsetOf p)
+  not-restricted e = subst (Restricts text list kinds starts ends nodes) e told
+
+  pub rooted : {k : ℕ} → r ≡ Root k → Rooted text list kinds starts ends nodes k
+  rooted e = subst (Restricts text list kinds starts ends nodes) e told

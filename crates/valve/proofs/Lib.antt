@@ -1,2 +1,4 @@
 mod Loads
 mod Runs
+mod Texts
+mod Verdicts

@@ -2,9 +2,14 @@
 //
 // Every call answers for all bytes, of any length and content, what the definition of its name in document 01's words
 // (`paper`, specs/Calls) says: its count or verdict, or the refusal with its number and place. It asks nothing of its caller, keeps
-// nothing from one call to the next, and reads nothing past the bytes it is lent.
+// nothing from one call to the next, and reads nothing past the bytes it is lent. The scratch of a call lies in its own frame.
 mod loading;
 mod running;
+mod text;
+mod verdict;
 
 pub use loading::load;
 pub use running::run;
+pub use text::check;
+pub use text::read;
+pub use verdict::judge;

@@ -1,0 +1,55 @@
+-- From the stages' answers to those of `judge`.
+use Prim.Native.Nat.{ℕ}
+use mathlib.Core.Path.{_≡_, sym, _∙_, ap, subst}
+use mathlib.Core.Bool.{Bool}
+use mathlib.Core.Option.{Option, some}
+use mathlib.Core.List.{List}
+use Rattle.paper.specs.declared.Place.{Place}
+use Rattle.paper.specs.Answers.{ok, refused, _>>=_, inputOf, offsetOf}
+use Rattle.paper.specs.Grammar as G
+use Rattle.paper.specs.Entry.{entryOf}
+use Rattle.paper.specs.Meaning.{Value, truth, valueOf, isTrue}
+use Rattle.paper.specs.Calls.{judgeAnswer}
+use Rattle.paper.proofs.Meant.{judged}
+use Rattle.keys.specs.Says.{keysIn, enteredSays, conforms}
+use Rattle.keys.specs.declared.conform.Entered.{Entered}
+use Rattle.keys.specs.declared.conform.Entered.the-variants as E
+use Rattle.keys.proofs.Conforming.{matches-length}
+use Rattle.keys.proofs.Conforming as K
+use Rattle.values.specs.Held.{Is}
+use Rattle.operands.specs.Conforming.{entryIn, Conforming}
+use Rattle.restricting.specs.Restricted.{rootAt, Rooted, Restricts}
+use Rattle.restricting.specs.declared.Restricted.{Restricted}
+use Rattle.restricting.specs.declared.Restricted.the-variants as R
+use Rattle.restricting.proofs.Stages.{not-restricted}
+
+module _ (text list entry : List ℕ) where
+  pub not-passed : (kinds starts ends nodes : List ℕ) (r : Restricted) → Restricts text list kinds starts ends nodes r
+      → {n : ℕ} {p : Place} → r ≡ R.Refused n p → refused n (inputOf p) (offsetOf p) ≡ judgeAnswer text list entry
+  unfolding judgeAnswer
+  not-passed kinds starts ends nodes r told e = rw (not-restricted text list kinds starts ends nodes r told e)
+
+  module _ (kinds starts ends nodes : List ℕ) (k : ℕ) (r : Rooted text list kinds starts ends nodes k) where
+    abbrev root : G.Tree
+    root = rootAt text kinds starts ends nodes k
+
+    by-entry : judgeAnswer text list entry ≡ (entryOf (keysIn list) entry >>= λ e. ok (isTrue (valueOf (keysIn list) e root)))
+    unfolding judgeAnswer
+    by-entry = rw (r .passed)
+
+    module _ (x : Entered) (says : enteredSays x ≡ conforms (keysIn list) entry) where
+      pub not-entered : {n : ℕ} {p : Place} → x ≡ E.Refused n p → refused n (inputOf p) (offsetOf p) ≡ judgeAnswer text list entry
+      not-entered e = sym (by-entry ∙ rw (K.not-entered (keysIn list) entry (sym says ∙ ap enteredSays e)))
+
+      module _ (e : x ≡ E.Conforms) where
+        pub conforming : Conforming list entry
+        conforming = record { listed = r .listed; entered = K.entered (keysIn list) entry (sym says ∙ ap enteredSays e) }
+
+        -- the tree has a value, and that is a truth
+        pub verdict : (v : Value) (b : Bool) → Is (valueOf (keysIn list) (entryIn list entry) root) v → b ≡ isTrue (some v)
+            → ok b ≡ judgeAnswer text list entry
+        verdict v b i t =
+            let w = judged (keysIn list) (entryIn list entry) (matches-length entry 0 (keysIn list)) root (r .typed .checked) in
+            let h : v ≡ truth (w .0) = subst (λ (o : Option Value). Is o v) (w .1) i in
+            let f : b ≡ isTrue (valueOf (keysIn list) (entryIn list entry) root) = rw (t, h, w .1) in
+            sym (by-entry ∙ rw (conforming .entered, f))

@@ -1,4 +1,5 @@
 mod Loads
 mod Runs
 mod Texts
+mod Translates
 mod Verdicts

@@ -7,6 +7,7 @@ mod loading;
 mod running;
 mod text;
 mod verdict;
+mod writing;
 
 pub use loading::load;
 pub use running::run;

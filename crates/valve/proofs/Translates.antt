@@ -1,5 +1,5 @@
 -- The stages of a translation behind those of a check: its answer, and the buffer, from theirs.
-use Prim.Native.Nat.{ℕ, _+_, _*_, _≤_, _<_}
+use Prim.Native.Nat.{ℕ, _+_, _*_, _/_, _≤_, _<_}
 use mathlib.Core.Path.{_≡_, refl, sym, ap, ap₂, _∙_}
 use mathlib.Core.Bool.{Bool, true, false}
 use mathlib.Core.List.{List}
@@ -19,6 +19,10 @@ use Rattle.paper.specs.Translating.{codeOf}
 use Rattle.paper.proofs.Stages.{bind-ok}
 use Rattle.paper.proofs.Counted.{code-fits}
 use Rattle.paper.proofs.Encoded.{row-length}
+use Rattle.keys.specs.Says.{keysIn}
+use Rattle.keys.proofs.Records.{keys-length}
+use Rattle.restricting.specs.Restricted.{rootAt, Rooted}
+use Rattle.translating.specs.Writing.{Wrote}
 use Rattle.paper.specs.Calls.{Restriction, restriction, over, filled, translateAnswer, translateBuffer}
 
 -- a typed tree of at most 1,024 nodes has a code that fits the scratch of 41,000 bytes
@@ -51,8 +55,8 @@ module _ (text list buffer : List ℕ) where
   contents e f = ap₂ (λ (x : Answer ℕ) (y : Answer Restriction). filled x y buffer) f e
 
   module _ {k : ℕ} {i : Input} {at : ℕ} (e : restriction text list ≡ refused k i at) where
-    pub not-restricted : refused k i at ≡ translateAnswer text list buffer
-    not-restricted = sym (answer e)
+    pub stopped : refused k i at ≡ translateAnswer text list buffer
+    stopped = sym (answer e)
 
     pub kept : buffer ≡ translateBuffer text list buffer
     kept = sym (contents e (answer e))
@@ -80,3 +84,37 @@ module _ (text list buffer : List ℕ) where
 
       pub written : over (blocksOf (length (r .keys)) (codeOf (r .keys) (r .root))) buffer ≡ translateBuffer text list buffer
       written = sym (contents e large)
+
+-- by the tree at a node, of a text that passed
+module _ (text list kinds starts ends nodes buffer : List ℕ) (k : ℕ) (r : Rooted text list kinds starts ends nodes k) where
+  abbrev pub code : List Instruction
+  code = codeOf (keysIn list) (rootAt text kinds starts ends nodes k)
+
+  pub few : length code ≤ 2050
+  few = code-few (keysIn list) (rootAt text kinds starts ends nodes k) (r .typed .checked) (omega (arith, r .typed .count, r .typed .few))
+
+  module _ (before after : List ℕ) (n : ℕ) (w : Wrote before 0 code after n) where
+    pub count-few : n ≤ 2050
+    count-few = omega (arith, few, w .next)
+
+    same-count : length code ≡ n
+    same-count = omega (arith, w .next)
+
+    pub refusing : length buffer < blockSize * blocksNeeded n →
+        (refused 15 inBuffer (length buffer) ≡ translateAnswer text list buffer) × (buffer ≡ translateBuffer text list buffer)
+    refusing h =
+        let g : length buffer < blockSize * blocksNeeded (length code) = rw same-count h in
+        (too-small text list buffer (r .passed) g, small-kept text list buffer (r .passed) g)
+
+    pub filling : length before ≡ 41000 → blockSize * blocksNeeded n ≤ length buffer → (exit : List ℕ) →
+        ((is : List Instruction) → take (n * 20) after ≡ encodeAll is → exit ≡ over (blocksOf (length list / 80) is) buffer) →
+        (ok n ≡ translateAnswer text list buffer) × (exit ≡ translateBuffer text list buffer)
+    filling size h exit fills =
+        let g : blockSize * blocksNeeded (length code) ≤ length buffer = rw same-count h in
+        let b : take (n * 20) after ≡ encodeAll code =
+        ap (λ (m : ℕ). take (m * 20) after) (sym same-count) ∙ first-bytes before after code (omega (arith, few, size)) (w .stored)
+        in
+        let ks : length list / 80 ≡ length (keysIn list) = sym (keys-length list 0 (length list / 80)) in (
+          ap ok (sym same-count) ∙ large-enough text list buffer (r .passed) g,
+          fills code b ∙ ap (λ (m : ℕ). over (blocksOf m code) buffer) ks ∙ written text list buffer (r .passed) g,
+        )

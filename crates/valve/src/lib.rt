@@ -14,3 +14,4 @@ pub use running::run;
 pub use text::check;
 pub use text::read;
 pub use verdict::judge;
+pub use writing::translate;

@@ -1,18 +1,26 @@
+use Prim.Native.Nat.{ℕ, _*_, _/_}
+use native.Mathlib.Omega.{arith}
+use mathlib.Core.Path.{_≡_, sym, ap, _∙_}
+use lib.ListN.{length, take}
+use lib.Seq.{length-take-le}
 use borrow.Author.Needs.{needs}
 use Rattle.valve.proofs.writing.write_first.Statement.{statement}
 use Rattle.valve.proofs.writing.write_first.Tie as tie
-use Rattle.valve.proofs.writing.write_first.Reads as reads
-use Rattle.valve.proofs.writing.write_first.Lts as lts
-use Rattle.blocks.proofs.write_blocks.Reads as write-blocks-reads
 
 mul-write-blocks : tie.Need-mul-write-blocks
 mul-write-blocks c = search needs
 
 slice-aggregate-write-blocks : tie.Need-slice-aggregate-write-blocks
-slice-aggregate-write-blocks c = ?
+slice-aggregate-write-blocks c =
+    sym (length-take-le (c .before .before .before .args .n * 20) (c .before .before .before .args .code .now) (search needs))
 
 write-blocks-requires : tie.Need-write-blocks-requires
-write-blocks-requires c κs = ?
+write-blocks-requires c κs =
+    let a = c .before .before .before .before in
+    let m : length (take (a .args .n * 20) (a .args .code .now)) / 20 ≡ a .args .n =
+    ap (λ (x : ℕ). x / 20) (length-take-le (a .args .n * 20) (a .args .code .now) (search needs)) ∙ omega arith
+    in
+    rw m (a .pre .1)
 
 same-length : tie.Need-same-length
 same-length c = search needs

@@ -39,3 +39,4 @@ pub mod Sums
 pub mod Bits
 pub mod Laid
 pub mod Damaged
+pub mod Promised

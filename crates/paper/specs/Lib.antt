@@ -24,3 +24,4 @@ pub mod Marked
 pub mod Readings
 pub mod Limits
 pub mod CaseFour
+pub mod Promised

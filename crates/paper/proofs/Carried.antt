@@ -56,7 +56,7 @@ module _ (text list : List ℕ) where
   stages-pass (ok _) (ok ks) (refused n i at) k r = tt
   stages-pass (ok _) (ok ks) (ok t) k r = typed-passes ks t (typed ks t) k r refl
 
-  passing : (r : Restriction) → restriction text list ≡ ok r → Passing text list r
+  pub passing : (r : Restriction) → restriction text list ≡ ok r → Passing text list r
   unfolding restriction
   passing r h = subst (Of (Passing text list)) h (stages-pass (sized text) (keys list) (tree text) refl refl)
 

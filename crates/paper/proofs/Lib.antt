@@ -40,3 +40,14 @@ pub mod Bits
 pub mod Laid
 pub mod Damaged
 pub mod Promised
+pub mod Staged
+pub mod Earliest
+pub mod ListFaults
+pub mod BlockFaults
+pub mod EntryFaults
+pub mod CodeFaults
+pub mod TokenFaults
+pub mod Phrases
+pub mod InOrder
+pub mod TypeFaults
+pub mod Table

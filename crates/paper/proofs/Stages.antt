@@ -18,6 +18,10 @@ pub bind-ok : {A B : Type 0} (x : Answer A) (f : A → Answer B) (b : B) → (x 
 bind-ok (ok a) f b e = (a, refl, e)
 bind-ok (refused n i at) f b e = absurd (never-ok e)
 
+pub bind-again : {A B C : Type 0} (x : Answer A) (f : A → Answer B) (g : B → Answer C) → (x >>= f >>= g) ≡ (x >>= λ a. f a >>= g)
+bind-again (ok a) f g = refl
+bind-again (refused n i at) f g = refl
+
 -- the test passed
 pub require-ok : (t : Bool) (n : ℕ) (i : Input) (at : ℕ) (u : Unit {0}) → require t n i at ≡ ok u → t ≡ true
 require-ok true n i at u e = refl

@@ -25,3 +25,5 @@ pub mod Readings
 pub mod Limits
 pub mod CaseFour
 pub mod Promised
+pub mod Faults
+pub mod Table

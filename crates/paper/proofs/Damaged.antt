@@ -169,7 +169,7 @@ pub record Called (list blocks : List ℕ) : Type 0 where
   pub listed : keys list ≡ ok ks
   pub good : Laid (length ks) blocks
 
-called : (list blocks : List ℕ) (n : ℕ) → loadAnswer list blocks ≡ ok n → Called list blocks
+pub called : (list blocks : List ℕ) (n : ℕ) → loadAnswer list blocks ≡ ok n → Called list blocks
 unfolding loadAnswer
 called list blocks n h =
     let a = bind-ok (keys list) (λ ks. loaded ks blocks) n h in

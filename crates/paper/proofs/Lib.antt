@@ -51,3 +51,6 @@ pub mod Phrases
 pub mod InOrder
 pub mod TypeFaults
 pub mod Table
+pub mod Located
+pub mod Demands
+pub mod WrongPrograms

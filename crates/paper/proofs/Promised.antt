@@ -16,7 +16,7 @@ use Rattle.paper.specs.declared.Loading.{Loading}
 use Rattle.paper.specs.declared.Loading.the-variants as L
 use Rattle.paper.specs.Answers.{Input, inText, inList, inEntry, inBlocks, inBuffer, Answer, ok, refused, inputOf, offsetOf, readingSays, checkingSays, judgementSays, translationSays, loadingSays}
 use Rattle.paper.specs.Calls.{readAnswer, checkAnswer, judgeAnswer, translateAnswer, translateBuffer, loadAnswer, runAnswer}
-use Rattle.paper.specs.Promised.{Sole, NoSecondResult}
+use Rattle.paper.specs.Promised.{Sole, NoSecondResult, CanBeKept}
 
 -- places
 
@@ -138,3 +138,24 @@ no-second-result =
       load = λ list blocks. one-says loadingSays loadings (loadAnswer list blocks);
       run = λ list blocks entry. one-says judgementSays judgements (runAnswer list blocks entry);
     }
+
+pub can-be-kept : CanBeKept
+can-be-kept =
+    let s = no-second-result in (
+      record {
+        read = λ text. s .read text .result;
+        check = λ text list. s .check text list .result;
+        judge = λ text list entry. s .judge text list entry .result;
+        translate = λ text list buffer. s .translate text list buffer .result;
+        load = λ list blocks. s .load list blocks .result;
+        run = λ list blocks entry. s .run list blocks entry .result;
+      },
+      record {
+        read = λ text. s .read text .satisfies;
+        check = λ text list. s .check text list .satisfies;
+        judge = λ text list entry. s .judge text list entry .satisfies;
+        translate = λ text list buffer. s .translate text list buffer .satisfies;
+        load = λ list blocks. s .load list blocks .satisfies;
+        run = λ list blocks entry. s .run list blocks entry .satisfies;
+      },
+    )

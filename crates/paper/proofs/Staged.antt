@@ -32,6 +32,10 @@ abbrev pub Tells : {A : Type 0} → Input → Faults → Answer A → Type 0
 Tells i F (ok v) = Free F
 Tells i F (refused n j at) = (j ≡ i) × Wins F n at
 
+pub free-passes : {A : Type 0} (i : Input) (F : Faults) (a : Answer A) → Tells i F a → Free F → (v : A) × (a ≡ ok v)
+free-passes i F (ok v) h free = (v, refl)
+free-passes i F (refused n j at) h free = absurd (free n at (h .1 .fault))
+
 -- a stage that is one test
 pub test-tells : (F : Faults) (b : Bool) (n : ℕ) (i : Input) (at : ℕ) → (b ≡ true → Free F) → (b ≡ false → F n at)
     → ((m to : ℕ) → F m to → (m ≡ n) × (to ≡ at)) → Tells i F (require b n i at)

@@ -3,39 +3,39 @@ use Prim.Native.Nat.{ℕ, zero, suc, _+_, _-_, _≤_, _<_}
 use native.Mathlib.Nat.{add-zero}
 use native.Mathlib.Omega.{arith}
 use mathlib.Core.Path.{_≡_, refl, sym, ap, ap₂, subst, fun-ext, _∙_}
-use mathlib.Core.List.{List, [], _∷_, _++_, append-assoc, head-eq-of-cons-eq, tail-eq-of-cons-eq}
-use lib.ListN.{length, drop, length-append, length-drop}
+use mathlib.Core.List.{List, [], _∷_, _++_, append-assoc, append-nil, head-eq-of-cons-eq, tail-eq-of-cons-eq}
+use lib.ListN.{length, drop, length-append, length-drop, drop-of-length-le}
 use lib.Seq.{drop-cons, drop-drop}
 use Rattle.paper.specs.Answers.{Answer, ok, refused, _>>=_, inText}
 use Rattle.paper.specs.Tokens.{Token, Scan, blank, token, noToken, tooLarge, scan, onward, tokensFrom, tokens, mostTokens}
-use Rattle.paper.specs.Faults.{scanAt, Cut, at-start, a-blank, a-token, TextTokens, no-token, numeral-large, one-more-token}
+use Rattle.paper.specs.Faults.{scanAt, Cut, Cuts, at-start, a-blank, a-token, TextTokens, no-token, numeral-large, one-more-token}
+use Rattle.paper.specs.Table.{TokensAreCut}
 use Rattle.paper.proofs.Staged.{Tells, exact-tells}
 
 module _ (text : List ℕ) where
-  -- a refusal is a fault
+  -- behind the tokens cut so far: a refusal is a fault, and what passes cuts the text
 
-  abbrev Faulty : Answer (List Token) → Type 0
-  Faulty (ok ts) = Unit {0}
-  Faulty (refused n j at) = (j ≡ inText) × TextTokens text n at
+  abbrev Told : List Token → Answer (List Token) → Type 0
+  Told ts (ok us) = Cuts text (ts ++ us)
+  Told ts (refused n j at) = (j ≡ inText) × TextTokens text n at
 
-  with-first : (a : Answer (List Token)) (u : Token) → Faulty a → Faulty (a >>= λ us. ok (u ∷ us))
-  with-first (ok us) u h = tt
-  with-first (refused n j at) u h = h
+  with-first : (ts : List Token) (u : Token) (a : Answer (List Token)) → Told (ts ++ (u ∷ [])) a → Told ts (a >>= λ us. ok (u ∷ us))
+  with-first ts u (ok us) h = subst (Cuts text) (append-assoc ts (u ∷ []) us) h
+  with-first ts u (refused n j at) h = h
 
   -- what follows a cut there, whatever was cut
   abbrev Goes : ℕ → (ℕ → ℕ → Answer (List Token)) → Type 0
-  Goes at go = (n left : ℕ) (ts : List Token) → Cut text (suc at + n) ts → length ts + left ≡ mostTokens → Faulty (go n left)
+  Goes at go = (n left : ℕ) (ts : List Token) → Cut text (suc at + n) ts → length ts + left ≡ mostTokens → Told ts (go n left)
 
-  onward-faulty : (c : Scan) (at room : ℕ) (ts : List Token) (go : ℕ → ℕ → Answer (List Token)) → Cut text at ts → at < length text
-      → length ts + room ≡ mostTokens → scanAt text at ≡ c → Goes at go → Faulty (onward c at room go)
-  onward-faulty (blank n) at room ts go cut inside whole e later = later n room ts (a-blank n cut inside e) whole
-  onward-faulty (token k n) at zero ts go cut inside whole e later = (refl, one-more-token k n cut (omega arith) inside e)
-  onward-faulty (token k n) at (suc room) ts go cut inside whole e later =
+  onward-told : (c : Scan) (at room : ℕ) (ts : List Token) (go : ℕ → ℕ → Answer (List Token)) → Cut text at ts → at < length text
+      → length ts + room ≡ mostTokens → scanAt text at ≡ c → Goes at go → Told ts (onward c at room go)
+  onward-told (blank n) at room ts go cut inside whole e later = later n room ts (a-blank n cut inside e) whole
+  onward-told (token k n) at zero ts go cut inside whole e later = (refl, one-more-token k n cut (omega arith) inside e)
+  onward-told (token k n) at (suc room) ts go cut inside whole e later =
       let u : Token = record { at = at; tok = k } in
-      with-first (go n room) u
-      (later n room (ts ++ (u ∷ [])) (a-token k n cut inside e) (rw length-append (omega arith)))
-  onward-faulty noToken at room ts go cut inside whole e later = (refl, no-token cut (omega arith) inside e)
-  onward-faulty tooLarge at room ts go cut inside whole e later = (refl, numeral-large cut (omega arith) inside e)
+      with-first ts u (go n room) (later n room (ts ++ (u ∷ [])) (a-token k n cut inside e) (rw length-append (omega arith)))
+  onward-told noToken at room ts go cut inside whole e later = (refl, no-token cut (omega arith) inside e)
+  onward-told tooLarge at room ts go cut inside whole e later = (refl, numeral-large cut (omega arith) inside e)
 
   -- a byte that is there
   record There (at b : ℕ) (s : List ℕ) : Type 0 where
@@ -53,21 +53,23 @@ module _ (text : List ℕ) where
         next = tail-eq-of-cons-eq cons;
       }
 
-  from-faulty : (s : List ℕ) (n at room : ℕ) (ts : List Token) → drop at text ≡ s → Cut text (at + n) ts → length ts + room ≡ mostTokens
-      → Faulty (tokensFrom n at room s)
+  from-told : (s : List ℕ) (n at room : ℕ) (ts : List Token) → drop at text ≡ s → Cut text (at + n) ts → length ts + room ≡ mostTokens
+      → Told ts (tokensFrom n at room s)
   unfolding tokensFrom
-  from-faulty [] n at room ts here cut whole = tt
-  from-faulty (b ∷ s) (suc n) at room ts here cut whole =
+  from-told [] n at room ts here cut whole =
+      let out : length text ≤ at + n = omega (arith, length-drop at text, ap length here) in
+      subst (Cuts text) (sym (append-nil ts)) (at + n, cut, out, omega arith)
+  from-told (b ∷ s) (suc n) at room ts here cut whole =
       let e : at + suc n ≡ suc at + n = omega arith in
-      from-faulty s n (suc at) room ts (there at b s here .next) (subst (λ m. Cut text m ts) e cut) whole
-  from-faulty (b ∷ s) zero at room ts here cut whole =
+      from-told s n (suc at) room ts (there at b s here .next) (subst (λ m. Cut text m ts) e cut) whole
+  from-told (b ∷ s) zero at room ts here cut whole =
       let t = there at b s here in
-      onward-faulty (scan b s) at room ts (λ n left. tokensFrom n (suc at) left s) (subst (λ m. Cut text m ts) (add-zero at) cut) (t .inside)
-      whole (t .scanned) (λ n left ts cut whole. from-faulty s n (suc at) left ts (t .next) cut whole)
+      onward-told (scan b s) at room ts (λ n left. tokensFrom n (suc at) left s) (subst (λ m. Cut text m ts) (add-zero at) cut) (t .inside)
+      whole (t .scanned) (λ n left ts cut whole. from-told s n (suc at) left ts (t .next) cut whole)
 
-  refusal-faulty : Faulty (tokens text)
+  tokens-told : Told [] (tokens text)
   unfolding tokens
-  refusal-faulty = from-faulty text 0 0 mostTokens [] refl at-start refl
+  tokens-told = from-told text 0 0 mostTokens [] refl at-start refl
 
   -- what was cut stays
 
@@ -134,4 +136,15 @@ module _ (text : List ℕ) where
 
   pub tokens-tell : Tells inText (TextTokens text) (tokens text)
   tokens-tell =
-      exact-tells inText (TextTokens text) (tokens text) (λ n j at e. subst (λ (a : Answer (List Token)). Faulty a) e refusal-faulty) fault-refused
+      exact-tells inText (TextTokens text) (tokens text) (λ n j at e. subst (Told []) e tokens-told) fault-refused
+
+  -- all of it cut
+  cuts-read : (ts : List Token) → Cuts text ts → tokens text ≡ ok ts
+  unfolding tokensFrom
+  cuts-read ts (end, cut, out, few) =
+      cut-reads end ts cut few
+      ∙ ap (λ s. after ts (tokensFrom 0 end (mostTokens - length ts) s)) (drop-of-length-le text out)
+      ∙ ap (λ (s : List Token). ok s) (append-nil ts)
+
+pub tokens-are-cut : TokensAreCut
+tokens-are-cut text ts = (λ e. subst (Told text []) e (tokens-told text), cuts-read text ts)

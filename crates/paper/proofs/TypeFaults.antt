@@ -76,7 +76,7 @@ module _ (ks : List Key) where
   behind t n to (comparison-right at c h) = inr (inr h)
 
   -- a fault stands at one of the tree's places
-  placed : (P : ℕ → Type 0) (t : Tree) (n to : ℕ) → TreeTypes ks t n to → Everywhere P t → P to
+  pub placed : (P : ℕ → Type 0) (t : Tree) (n to : ℕ) → TreeTypes ks t n to → Everywhere P t → P to
   placed P t n to (key-unknown at e) p = p
   placed P t n to (key-of-field-unknown at past e) p = p .0
   placed P t n to (field-unknown at past k e h) p = p .1

@@ -55,6 +55,10 @@ pub data Cut (text : List ℕ) : ℕ → List Token → Type 0 where
   a-token : {at : ℕ} {ts : List Token} (k : Tok) (n : ℕ) → Cut text at ts → at < length text → scanAt text at ≡ token k n
       → Cut text (suc at + n) (ts ++ (record { at = at; tok = k } ∷ []))
 
+-- up to the end, into at most 1,024
+abbrev pub Cuts : List ℕ → List Token → Type 0
+Cuts text ts = (end : ℕ) × Cut text end ts × (length text ≤ end) × (length ts ≤ mostTokens)
+
 -- 5: "bytes that form no token"; text, first such byte
 -- 6: "a numeral above 2^128 − 1"; its first byte
 -- 7: "a 1,025th token"; its first byte

@@ -27,3 +27,5 @@ pub mod CaseFour
 pub mod Promised
 pub mod Faults
 pub mod Table
+pub mod Demands
+pub mod WrongPrograms

@@ -50,3 +50,25 @@ pub record NoSecondResult : Type 0 where
   pub translate : (text list buffer : List ℕ) → Sole (TranslatePromised text list buffer)
   pub load : (list blocks : List ℕ) → Sole (LoadPromised list blocks)
   pub run : (list blocks entry : List ℕ) → Sole (RunPromised list blocks entry)
+
+-- the six calls as programs: any that return such results, and those that keep their promises on all inputs
+
+pub record Programs : Type 0 where
+  pub read : List ℕ → Reading
+  pub check : List ℕ → List ℕ → Checking
+  pub judge : List ℕ → List ℕ → List ℕ → Judgement
+  pub translate : List ℕ → List ℕ → List ℕ → TranslateResult
+  pub load : List ℕ → List ℕ → Loading
+  pub run : List ℕ → List ℕ → List ℕ → Judgement
+
+pub record Kept (p : Programs) : Type 0 where
+  pub read : (text : List ℕ) → ReadPromised text (p .read text)
+  pub check : (text list : List ℕ) → CheckPromised text list (p .check text list)
+  pub judge : (text list entry : List ℕ) → JudgePromised text list entry (p .judge text list entry)
+  pub translate : (text list buffer : List ℕ) → TranslatePromised text list buffer (p .translate text list buffer)
+  pub load : (list blocks : List ℕ) → LoadPromised list blocks (p .load list blocks)
+  pub run : (list blocks entry : List ℕ) → RunPromised list blocks entry (p .run list blocks entry)
+
+-- there are such programs
+abbrev pub CanBeKept : Type 0
+CanBeKept = (p : Programs) × Kept p

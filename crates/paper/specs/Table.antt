@@ -6,10 +6,10 @@ use mathlib.Core.Logic.{_↔_, _⊎_}
 use mathlib.Core.List.{List, [], _∷_, _++_}
 use lib.ListN.{length}
 use Rattle.paper.specs.Answers.{Input, inText, inList, inEntry, inBlocks, inBuffer, Answer, ok, refused}
-use Rattle.paper.specs.Tokens.{tokens}
+use Rattle.paper.specs.Tokens.{Token, tokens}
 use Rattle.paper.specs.Keys.{keys}
 use Rattle.paper.specs.Calls.{tree, restriction, readAnswer, checkAnswer, judgeAnswer, translateAnswer, loadAnswer, runAnswer}
-use Rattle.paper.specs.Faults.{Faults, TextSize, ListSize, ListRecords, TextTokens, TextGrammar, TreeTypes, RootType, BufferSize, BlocksSize, BlocksLayout, BlocksCode, EntrySize, EntryRules}
+use Rattle.paper.specs.Faults.{Faults, TextSize, ListSize, ListRecords, Cuts, TextTokens, TextGrammar, TreeTypes, RootType, BufferSize, BlocksSize, BlocksLayout, BlocksCode, EntrySize, EntryRules}
 
 -- "In a stage the earliest place wins; at one place the lower number wins."
 
@@ -115,3 +115,7 @@ pub record TableHolds : Type 0 where
   pub translate : (text list buffer : List ℕ) → ByTable (translateAnswer text list buffer) (translateStages text list buffer)
   pub load : (list blocks : List ℕ) → ByTable (loadAnswer list blocks) (loadStages list blocks)
   pub run : (list blocks entry : List ℕ) → ByTable (runAnswer list blocks entry) (runStages list blocks entry)
+
+-- and a text that passes 5 to 7 is cut into its tokens
+abbrev pub TokensAreCut : Type 0
+TokensAreCut = (text : List ℕ) (ts : List Token) → (tokens text ≡ ok ts) ↔ Cuts text ts

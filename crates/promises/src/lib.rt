@@ -2,6 +2,7 @@
 // `paper`, and its proof cites it, so that a theorem that is lost fails the gate.
 mod accounts;
 mod damage;
+mod demands;
 mod numbers;
 mod reading;
 mod rules;

@@ -36,7 +36,8 @@ module _ (blocks : List ℕ) where
   size-free h =
       let (front, last) = and-eq-true-iff (some-there && even) few .0 h in
       let (first, second) = and-eq-true-iff some-there even .0 front in
-      go (ltb-true 0 (length blocks) first) (eqb-true (length blocks % blockSize) 0 second) (leb-true (length blocks) (mostBlocks * blockSize) last)
+      go (ltb-true 0 (length blocks) first) (eqb-true (length blocks % blockSize) 0 second)
+      (leb-true (length blocks) (mostBlocks * blockSize) last)
     where
       go : 0 < length blocks → length blocks % blockSize ≡ 0 → length blocks ≤ mostBlocks * blockSize → Free (BlocksSize blocks)
       go a b c n at (no-blocks e) = omega (arith, e)
@@ -71,8 +72,11 @@ module _ (keys : ℕ) (blocks : List ℕ) where
   abbrev right : ℕ → Bool
   right k = blockOk keys blocks k (total - suc k)
 
+  abbrev verdict : Bool → ℕ → Answer (Unit {0})
+  verdict good k = cond good (ok tt) (refused 17 inBlocks (k * blockSize))
+
   abbrev blockTest : ℕ → Answer (Unit {0})
-  blockTest k = cond (right k) (ok tt) (refused 17 inBlocks (k * blockSize))
+  blockTest k = verdict (right k) k
 
   layout-tests : (n k : ℕ) → k + n ≡ total → layoutFrom keys blocks k n ≡ testsFrom blockTest k n
   layout-tests zero k whole = refl
@@ -80,11 +84,11 @@ module _ (keys : ℕ) (blocks : List ℕ) where
       let behind : total - suc k ≡ n = omega arith in
       ap (λ m. cond (blockOk keys blocks k n) (layoutFrom keys blocks m n) (refused 17 inBlocks (k * blockSize))) (add-one k)
       ∙ go (blockOk keys blocks k n) (layout-tests n (suc k) (omega arith))
-      ∙ ap (λ m. cond (blockOk keys blocks k m) (ok tt) (refused 17 inBlocks (k * blockSize)) >>= λ (u : Unit {0}). testsFrom blockTest (suc k) n) (sym behind)
+      ∙ ap (λ m. verdict (blockOk keys blocks k m) k >>= λ _. testsFrom blockTest (suc k) n) (sym behind)
     where
       go : (b : Bool) → layoutFrom keys blocks (suc k) n ≡ testsFrom blockTest (suc k) n
           → cond b (layoutFrom keys blocks (suc k) n) (refused 17 inBlocks (k * blockSize))
-          ≡ (cond b (ok tt) (refused 17 inBlocks (k * blockSize)) >>= λ (u : Unit {0}). testsFrom blockTest (suc k) n)
+          ≡ (verdict b k >>= λ _. testsFrom blockTest (suc k) n)
       go true h = h
       go false h = refl
 

@@ -106,7 +106,8 @@ module _ (ks : List Key) (blocks : List ℕ) where
   end-faulty (of k w ∷ []) e = (refl, end-not-bool (of k w ∷ []) e (λ d. absurd (let z : _≡_ {A = ℕ} 0 1 = cc in omega (arith, z))))
   end-faulty (a ∷ b ∷ held) e = (refl, end-not-bool (a ∷ b ∷ held) e (λ d. absurd (omega (arith, ap length d))))
 
-  walk-faulty : (w : Walk Ty) → typesAlong ks (program blocks) ≡ w → Told (actionOf (typeAction ks)) (program blocks) 0 [] w → Faulty (check w)
+  walk-faulty : (w : Walk Ty) → typesAlong ks (program blocks) ≡ w → Told (actionOf (typeAction ks)) (program blocks) 0 [] w
+      → Faulty (check w)
   unfolding typesAlong
   walk-faulty (fails at) e h = (
     refl,
@@ -132,7 +133,8 @@ module _ (ks : List Key) (blocks : List ℕ) where
       (λ n j at e. subst (λ (a : Answer (Unit {0})). Faulty a) e refusal-faulty) fault-refused
 
 -- 16; 17; 18
-pub blocks-follow : (list : List ℕ) (ks : List Key) (blocks : List ℕ) → keys list ≡ ok ks → Follows (blockStages list blocks) (loaded ks blocks)
+pub blocks-follow : (list : List ℕ) (ks : List Key) (blocks : List ℕ) → keys list ≡ ok ks
+    → Follows (blockStages list blocks) (loaded ks blocks)
 unfolding loaded layout
 blocks-follow list ks blocks listed =
     let size = require (blocksSized blocks) 16 inBlocks (length blocks) in
@@ -148,10 +150,12 @@ blocks-follow list ks blocks listed =
     (follows-one inBlocks (BlocksSize blocks) size (blocks-size-tells blocks))
     (λ _ _.
     follows-then mid last lay (λ _. types >>= λ _. ok (totalOf blocks))
-    (follows-one inBlocks (Given (keys list) two) lay (given-tells (keys list) ks listed two inBlocks lay (blocks-layout-tells (length ks) blocks)))
+    (follows-one inBlocks (Given (keys list) two) lay
+    (given-tells (keys list) ks listed two inBlocks lay (blocks-layout-tells (length ks) blocks)))
     (λ _ _.
     follows-as last types (λ _. totalOf blocks)
-    (follows-one inBlocks (Given (keys list) three) types (given-tells (keys list) ks listed three inBlocks types (code-tells ks blocks))))))
+    (follows-one inBlocks (Given (keys list) three) types
+    (given-tells (keys list) ks listed three inBlocks types (code-tells ks blocks))))))
 
 pub load-follows : (list blocks : List ℕ) → Follows (loadStages list blocks) (loadAnswer list blocks)
 unfolding loadAnswer

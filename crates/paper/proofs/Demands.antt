@@ -25,21 +25,17 @@ use Rattle.paper.specs.Meaning.{truth, valueOf, isTrue}
 use Rattle.paper.specs.Blocks.{blockSize, blocksNeeded}
 use Rattle.paper.specs.Calls.{sized, tree, restriction, readAnswer, checkAnswer, judgeAnswer, translateAnswer, translateBuffer, loadAnswer, runAnswer}
 use Rattle.paper.specs.Table.{ByTable, Stage, sizeStages, listStages, treeStages, entryStages, blockStages, bufferStages, checkStages, readStages, judgeStages, translateStages, loadStages, runStages}
-use Rattle.paper.specs.Promised.{Sole, Programs, Kept}
-use Rattle.paper.specs.Demands.{Lent, lent, Refusal, DemandOne, WellFormed, Judgeable, Refuses, DemandTwo, Carried, verdict, Judged, DemandThree, DemandOneMet, DemandTwoMet, DemandThreeMet}
-use Rattle.paper.proofs.Stages.{never-ok, bind-ok, require-ok}
+use Rattle.paper.specs.Promised.{verdict, Programs, Kept}
+use Rattle.paper.specs.Demands.{Lent, lent, Refusal, DemandOne, WellFormed, Judgeable, Refuses, DemandTwo, Carried, Judged, DemandThree, DemandOneMet, DemandTwoMet, DemandThreeMet}
+use Rattle.paper.proofs.Stages.{never-ok, ok-same, bind-ok, require-ok}
 use Rattle.paper.proofs.Refusals.{read-is-valid}
 use Rattle.paper.proofs.Sound.{conforming}
 use Rattle.paper.proofs.Meant.{judged, bool-root}
 use Rattle.paper.proofs.Carried.{passing, translation-carries, checked-translates, refused-unchanged, loaded-answers}
-use Rattle.paper.proofs.Promised.{no-second-result}
+use Rattle.paper.proofs.Promised.{judgement-same, translation-same, loading-same}
 use Rattle.paper.proofs.TokenFaults.{tokens-are-cut}
 use Rattle.paper.proofs.Located.{AllLocated, LiesIn, located-then, decided-lies, size-located, list-located, tree-located, check-located, buffer-located, block-located, entry-located}
 use Rattle.paper.proofs.Table.{table-holds}
-
--- two results that keep one promise are the same
-pub same-result : {R : Type 0} (Promised : R → Type 0) → Sole Promised → (a b : R) → Promised a → Promised b → a ≡ b
-same-result Promised s a b h g = s .no-second a h ∙ sym (s .no-second b g)
 
 -- demand 1
 
@@ -58,7 +54,8 @@ lies-refusal inputs n at l =
 refusal-by : {A : Type 0} (inputs : List Lent) (a : Answer A) (ss : List Stage) → ByTable a ss → AllLocated inputs ss → (n : ℕ) (at : Place)
     → a ≡ refused n (inputOf at) (offsetOf at) → Refusal inputs n at
 refusal-by inputs a ss table located n at e =
-    lies-refusal inputs n at (decided-lies inputs ss n (inputOf at) (offsetOf at) located (table .refuses n (inputOf at) (offsetOf at) .0 e))
+    lies-refusal inputs n at
+    (decided-lies inputs ss n (inputOf at) (offsetOf at) located (table .refuses n (inputOf at) (offsetOf at) .0 e))
 
 here : {x : Lent} {xs : List Lent} → List·Memᴰ x (x ∷ xs)
 here = List·Memᴰ·head refl
@@ -80,8 +77,8 @@ module _ (p : Programs) (kept : Kept p) where
         read = λ text n at e.
             let inputs = lent inText text ∷ [] in
             refusal-by inputs (readAnswer text) (readStages text) (table-holds .read text)
-            (located-then inputs (sizeStages text) (treeStages text) (size-located inputs text here) (λ _. tree-located inputs text here)) n at
-            (sym (kept .read text) ∙ ap readingSays e);
+            (located-then inputs (sizeStages text) (treeStages text) (size-located inputs text here)
+            (λ _. tree-located inputs text here)) n at (sym (kept .read text) ∙ ap readingSays e);
         check = λ text list n at e.
             let inputs = lent inText text ∷ lent inList list ∷ [] in
             refusal-by inputs (checkAnswer text list) (checkStages text list) (table-holds .check text list)
@@ -93,7 +90,8 @@ module _ (p : Programs) (kept : Kept p) where
             (λ _. entry-located inputs list entry third)) n at (sym (kept .judge text list entry) ∙ ap judgementSays e);
         translate = λ text list buffer n at e.
             let inputs = lent inText text ∷ lent inList list ∷ lent inBuffer buffer ∷ [] in
-            refusal-by inputs (translateAnswer text list buffer) (translateStages text list buffer) (table-holds .translate text list buffer)
+            refusal-by inputs (translateAnswer text list buffer) (translateStages text list buffer)
+            (table-holds .translate text list buffer)
             (located-then inputs (checkStages text list) (bufferStages text list buffer) (check-located inputs text list here second)
             (λ _. buffer-located inputs text list buffer third)) n at (translate-refused text list buffer n at e);
         load = λ list blocks n at e.
@@ -115,9 +113,6 @@ module _ (p : Programs) (kept : Kept p) where
 
 -- demand 2
 
-pub ok-once : {A : Type 0} (a b : A) → ok a ≡ ok b → a ≡ b
-ok-once a b e = cc
-
 verdict-says : (b : Bool) → judgementSays (verdict b) ≡ ok b
 verdict-says true = refl
 verdict-says false = refl
@@ -128,7 +123,8 @@ module _ (text list entry : List ℕ) where
   two-stages = refl
 
   formed-tree : (root : Tree) → WellFormed text root → tree text ≡ ok root
-  formed-tree root f = two-stages ∙ rw (tokens-are-cut text (f .words) .1 (f .cut)) (read-is-valid (length text) (f .words) root .1 (f .sentence))
+  formed-tree root f =
+      two-stages ∙ rw (tokens-are-cut text (f .words) .1 (f .cut)) (read-is-valid (length text) (f .words) root .1 (f .sentence))
 
   tree-formed : (root : Tree) → length text ≤ mostText → tree text ≡ ok root → WellFormed text root
   unfolding tree
@@ -153,11 +149,12 @@ module _ (text list entry : List ℕ) where
       let (u, short, _) =
       bind-ok (sized text) (λ _. keys list >>= λ ks. tree text >>= λ t. typed ks t >>= λ _. ok (record { keys = ks; root = t })) r passed
       in
+      let few = require-ok (leb (length text) mostText) 1 inText mostText u short in
       let known = passing text list r passed in
       let (a, has, root) = bind-ok (typeOf (r .keys) (r .root)) (rootType (r .root)) tt (known .checked) in
       record {
         root = r .root;
-        formed = tree-formed (r .root) (leb-true (length text) mostText (require-ok (leb (length text) mostText) 1 inText mostText u short)) (known .read);
+        formed = tree-formed (r .root) (leb-true (length text) mostText few) (known .read);
         ks = r .keys;
         listed = known .listed;
         typed = has ∙ ap (λ x. ok x) (bool-root (r .root) a tt root);
@@ -173,10 +170,13 @@ module _ (text list entry : List ℕ) where
 
 module _ (p : Programs) (kept : Kept p) where
   module _ (text list entry : List ℕ) where
+    said : (r : Judgement) → p .judge text list entry ≡ r → judgeAnswer text list entry ≡ judgementSays r
+    said r e = sym (kept .judge text list entry) ∙ ap judgementSays e
+
     refused-when : (r : Judgement) → p .judge text list entry ≡ r → ¬ Judgeable text list entry → Refuses r
-    refused-when J.Accepted e no-way = absurd (no-way (answer-judgeable text list entry true (sym (kept .judge text list entry) ∙ ap judgementSays e)))
-    refused-when J.Violated e no-way = absurd (no-way (answer-judgeable text list entry false (sym (kept .judge text list entry) ∙ ap judgementSays e)))
-    refused-when (J.Refused n at) e no-way = (n, at, refl)
+    refused-when J.Accepted e unfit = absurd (unfit (answer-judgeable text list entry true (said J.Accepted e)))
+    refused-when J.Violated e unfit = absurd (unfit (answer-judgeable text list entry false (said J.Violated e)))
+    refused-when (J.Refused n at) e unfit = (n, at, refl)
 
     not-judgeable : Refuses (p .judge text list entry) → ¬ Judgeable text list entry
     not-judgeable (n, at, e) j = never-ok (sym (ap judgementSays e) ∙ kept .judge text list entry ∙ judgeable-answer text list entry j)
@@ -187,12 +187,12 @@ module _ (p : Programs) (kept : Kept p) where
         let (c, there) = judgeable-truth text list entry j in
         let answer : judgeAnswer text list entry ≡ ok c = judgeable-answer text list entry j ∙ ap (λ v. ok (isTrue v)) there in (
           λ e.
-              let same : c ≡ b = ok-once c b (sym answer ∙ sym (kept .judge text list entry) ∙ ap judgementSays e ∙ verdict-says b) in
+              let same : c ≡ b = ok-same c b (sym answer ∙ sym (kept .judge text list entry) ∙ ap judgementSays e ∙ verdict-says b) in
               there ∙ ap (λ x. some (truth x)) same,
           λ e.
               let same : c ≡ b = ap isTrue (sym there ∙ e) in
-              same-result (λ r. judgementSays r ≡ judgeAnswer text list entry) (no-second-result .judge text list entry) (p .judge text list entry)
-              (verdict b) (kept .judge text list entry) (verdict-says b ∙ ap (λ x. ok x) (sym same) ∙ sym answer),
+              judgement-same (p .judge text list entry) (verdict b)
+              (kept .judge text list entry ∙ answer ∙ ap (λ x. ok x) same ∙ sym (verdict-says b)),
         )
 
   demand-two : DemandTwo p
@@ -209,12 +209,10 @@ module _ (p : Programs) (kept : Kept p) where
   check-passed : (text list : List ℕ) → p .check text list ≡ C.Passed → checkAnswer text list ≡ ok tt
   check-passed text list e = sym (kept .check text list) ∙ ap checkingSays e
 
-  written : (text list buffer : List ℕ) (n : ℕ) → translateAnswer text list buffer ≡ ok n → p .translate text list buffer .answer ≡ T.Written n
+  written : (text list buffer : List ℕ) (n : ℕ) → translateAnswer text list buffer ≡ ok n
+      → p .translate text list buffer .answer ≡ T.Written n
   written text list buffer n e =
-      let s = no-second-result .translate text list buffer in
-      ap (λ r. r .answer)
-      (same-result _ s (p .translate text list buffer) (record { answer = T.Written n; buffer = translateBuffer text list buffer })
-      (kept .translate text list buffer) (record { says = sym e; holds = refl }))
+      translation-same (p .translate text list buffer .answer) (T.Written n) (kept .translate text list buffer .says ∙ e)
 
   carried : (text list buffer : List ℕ) (n : ℕ) → p .translate text list buffer .answer ≡ T.Written n → Carried p text list buffer n
   carried text list buffer n e =
@@ -223,26 +221,23 @@ module _ (p : Programs) (kept : Kept p) where
       let blocks = take (blockSize * blocksNeeded n) (translateBuffer text list buffer) in
       record {
         room = filled .room;
-        loads =
-            rw exit
-            (same-result (λ r. loadingSays r ≡ loadAnswer list blocks) (no-second-result .load list blocks) (p .load list blocks) (L.Loaded n)
-            (kept .load list blocks) (sym (filled .carries .loads)));
+        loads = rw exit (loading-same (p .load list blocks) (L.Loaded n) (kept .load list blocks ∙ filled .carries .loads));
         runs = λ entry.
             rw exit
-            (same-result (λ r. judgementSays r ≡ judgeAnswer text list entry) (no-second-result .judge text list entry) (p .run list blocks entry)
-            (p .judge text list entry) (kept .run list blocks entry ∙ filled .carries .runs entry) (kept .judge text list entry));
+            (judgement-same (p .run list blocks entry) (p .judge text list entry)
+            (kept .run list blocks entry ∙ filled .carries .runs entry ∙ sym (kept .judge text list entry)));
         later = rw exit (filled .later);
       }
 
-  answered : (list blocks : List ℕ) (n : ℕ) → p .load list blocks ≡ L.Loaded n → (ks : List Key) → keys list ≡ ok ks → (entry : List ℕ) (e : Entry)
-      → entryOf ks entry ≡ ok e → Judged p list blocks entry ks e n
+  answered : (list blocks : List ℕ) (n : ℕ) → p .load list blocks ≡ L.Loaded n → (ks : List Key) → keys list ≡ ok ks
+      → (entry : List ℕ) (e : Entry) → entryOf ks entry ≡ ok e → Judged p list blocks entry ks e n
   answered list blocks n h ks listed entry e conforms =
       let a = loaded-answers list blocks entry ks e n (sym (kept .load list blocks) ∙ ap loadingSays h) listed conforms in
       record {
         goes = a .run;
         answer =
-            same-result (λ r. judgementSays r ≡ runAnswer list blocks entry) (no-second-result .run list blocks entry) (p .run list blocks entry)
-            (verdict (a .run .bit)) (kept .run list blocks entry) (verdict-says (a .run .bit) ∙ sym (a .answer));
+            judgement-same (p .run list blocks entry) (verdict (a .run .bit))
+            (kept .run list blocks entry ∙ a .answer ∙ sym (verdict-says (a .run .bit)));
       }
 
   demand-three : DemandThree p

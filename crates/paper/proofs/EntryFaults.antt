@@ -50,10 +50,14 @@ module _ (ks : List Key) (entry : List ℕ) where
   right zero = ltb (priorityOf entry) (2 ^ 31)
   right (suc k) = fits (getElem? ks k) k
 
-  abbrev ruleTest : ℕ → Answer (Unit {0})
-  ruleTest k = cond (right k) (ok tt) (refused 20 inEntry (place k))
+  abbrev verdict : Bool → ℕ → Answer (Unit {0})
+  verdict good k = cond good (ok tt) (refused 20 inEntry (place k))
 
-  rules-tests : (xs : List Key) (k : ℕ) → ((j : ℕ) → getElem? ks (k + j) ≡ getElem? xs j) → rulesFrom entry k xs ≡ testsFrom ruleTest (suc k) (length xs)
+  abbrev ruleTest : ℕ → Answer (Unit {0})
+  ruleTest k = verdict (right k) k
+
+  rules-tests : (xs : List Key) (k : ℕ) → ((j : ℕ) → getElem? ks (k + j) ≡ getElem? xs j)
+      → rulesFrom entry k xs ≡ testsFrom ruleTest (suc k) (length xs)
   rules-tests [] k same = refl
   rules-tests (x ∷ xs) k same =
       let here : getElem? ks k ≡ some x = ap (getElem? ks) (sym (add-zero k)) ∙ same 0 in
@@ -62,7 +66,7 @@ module _ (ks : List Key) (entry : List ℕ) where
     where
       go : (b : Bool) → rulesFrom entry (suc k) xs ≡ testsFrom ruleTest (suc (suc k)) (length xs)
           → cond b (rulesFrom entry (suc k) xs) (refused 20 inEntry (place (suc k)))
-          ≡ (cond b (ok tt) (refused 20 inEntry (place (suc k))) >>= λ (u : Unit {0}). testsFrom ruleTest (suc (suc k)) (length xs))
+          ≡ (verdict b (suc k) >>= λ _. testsFrom ruleTest (suc (suc k)) (length xs))
       go true h = h
       go false h = refl
 
@@ -107,16 +111,18 @@ module _ (ks : List Key) (entry : List ℕ) where
       test-tells-at inEntry (EntryRules ks entry) (suc (length ks)) place indexed k 20 (right k)
       (λ good n h. true≢false (sym good ∙ broken-at k n h)) (fault-at k l) only)
 
-  rules-stage : (require (ltb (priorityOf entry) (2 ^ 31)) 20 inEntry 0 >>= λ _. rulesFrom entry 0 ks) ≡ testsFrom ruleTest 0 (suc (length ks))
+  rules-stage : (require (ltb (priorityOf entry) (2 ^ 31)) 20 inEntry 0 >>= λ _. rulesFrom entry 0 ks)
+      ≡ testsFrom ruleTest 0 (suc (length ks))
   rules-stage = go (ltb (priorityOf entry) (2 ^ 31)) (rules-tests ks 0 (λ j. ap (getElem? ks) (omega arith)))
     where
       go : (b : Bool) → rulesFrom entry 0 ks ≡ testsFrom ruleTest 1 (length ks)
-          → (require b 20 inEntry 0 >>= λ _. rulesFrom entry 0 ks) ≡ (cond b (ok tt) (refused 20 inEntry 0) >>= λ (u : Unit {0}). testsFrom ruleTest 1 (length ks))
+          → (require b 20 inEntry 0 >>= λ _. rulesFrom entry 0 ks) ≡ (verdict b 0 >>= λ _. testsFrom ruleTest 1 (length ks))
       go true h = h
       go false h = refl
 
 -- of the keys of a list
-pub entry-follows : (list : List ℕ) (ks : List Key) (entry : List ℕ) → keys list ≡ ok ks → Follows (entryStages list entry) (entryOf ks entry)
+pub entry-follows : (list : List ℕ) (ks : List Key) (entry : List ℕ) → keys list ≡ ok ks
+    → Follows (entryStages list entry) (entryOf ks entry)
 unfolding entryOf
 entry-follows list ks entry listed =
     let size = require (sized ks entry) 19 inEntry (length entry) in

@@ -44,10 +44,12 @@ everywhere P Q f (compared at c l r) h = (f at (h .0), everywhere P Q f l (h .1)
 abbrev Within : ℕ → ℕ → ℕ → Type 0
 Within from below p = (from ≤ p) × (p < below)
 
-wider : (from below first last : ℕ) → first ≤ from → below ≤ last → (t : Tree) → Everywhere (Within from below) t → Everywhere (Within first last) t
+wider : (from below first last : ℕ) → first ≤ from → below ≤ last → (t : Tree)
+    → Everywhere (Within from below) t → Everywhere (Within first last) t
 wider from below first last a b = everywhere (Within from below) (Within first last) (λ p h. omega arith)
 
-apart : (from mid later below : ℕ) (l r : Tree) → mid ≤ later → Everywhere (Within from mid) l → Everywhere (Within later below) r → Apart l r
+apart : (from mid later below : ℕ) (l r : Tree) → mid ≤ later
+    → Everywhere (Within from mid) l → Everywhere (Within later below) r → Apart l r
 apart from mid later below l r a h g =
     everywhere (Within from mid) (λ p. Everywhere (λ q. p < q) r)
     (λ p x. everywhere (Within later below) (λ q. p < q) (λ q y. omega arith) r g) l h
@@ -78,7 +80,8 @@ looser : (from below first last : ℕ) (t : Tree) → first ≤ from → below �
 looser from below first last t a b h = record { within = wider from below first last a b t (h .within); ordered = h .ordered }
 
 -- what stands before a token
-front-fits : (t : Tree) (ts : List Token) (u : Token) (from below : ℕ) → Fit t ts → Rising from below (ts ++ (u ∷ [])) → Orderly from below t
+front-fits : (t : Tree) (ts : List Token) (u : Token) (from below : ℕ) → Fit t ts → Rising from below (ts ++ (u ∷ []))
+    → Orderly from below t
 front-fits t ts u from below h rising =
     let m = middle from below ts (u ∷ []) rising in
     looser from (m .mid) from below t (le-refl from) (omega (arith, m .back .0, m .back .1)) (h from (m .mid) (m .front))
@@ -121,7 +124,8 @@ handed-on =
           let inner = looser (suc at) below from below t (omega (arith, h .0)) (le-refl below) (g (suc at) below (h .2)) in
           record { within = ((h .0, h .1), inner .within); ordered = inner .ordered };
       of-parenthesis = λ at to t ts g from below h.
-          looser (suc at) below from below t (omega (arith, h .0)) (le-refl below) (front-fits t ts (signAt to closing) (suc at) below g (h .2));
+          looser (suc at) below from below t (omega (arith, h .0)) (le-refl below)
+          (front-fits t ts (signAt to closing) (suc at) below g (h .2));
       of-join = λ at o l r ls rs g k from below h.
           let b = between l r ls rs (signAt at (join o)) from below g k h in
           record {

@@ -114,7 +114,8 @@ module _ (list : List ℕ) where
   least-good k m good (inl (e, bad)) = absurd (true≢false (sym good ∙ bad))
   least-good k m good (inr (e, again)) = omega (arith, e)
 
-  record-tells : (k : ℕ) → k < recordsIn list → TellsAt inList (ListRecords list) (recordsIn list) (λ k. k * recordSize) indexed k (recordTest k)
+  record-tells : (k : ℕ) → k < recordsIn list
+      → TellsAt inList (ListRecords list) (recordsIn list) (λ k. k * recordSize) indexed k (recordTest k)
   record-tells k l = go (recordOk (recordAt list k)) (isNew k) refl refl
     where
       here : (n : ℕ) → ListRecords list n (k * recordSize) → FaultOf k n
@@ -135,20 +136,26 @@ module _ (list : List ℕ) where
 
   -- the length
 
+  abbrev even : Bool
+  even = eqb (length list % recordSize) 0
+
+  abbrev few : Bool
+  few = leb (length list) (mostKeys * recordSize)
+
   abbrev sizeOk : Bool
-  sizeOk = eqb (length list % recordSize) 0 && leb (length list) (mostKeys * recordSize)
+  sizeOk = even && few
 
   size-free : sizeOk ≡ true → (n at : ℕ) → ¬ ListSize list n at
   size-free h n at (list-uneven d) =
-      d (eqb-true (length list % recordSize) 0 (and-eq-true-iff (eqb (length list % recordSize) 0) (leb (length list) (mostKeys * recordSize)) .0 h .0))
+      d (eqb-true (length list % recordSize) 0 (and-eq-true-iff even few .0 h .0))
   size-free h n at (list-over l) =
-      let e = leb-true (length list) (mostKeys * recordSize) (and-eq-true-iff (eqb (length list % recordSize) 0) (leb (length list) (mostKeys * recordSize)) .0 h .1) in
+      let e = leb-true (length list) (mostKeys * recordSize) (and-eq-true-iff even few .0 h .1) in
       omega arith
 
   size-fault : sizeOk ≡ false → ListSize list 2 (length list)
-  size-fault h = go (either-false (eqb (length list % recordSize) 0) (leb (length list) (mostKeys * recordSize)) h)
+  size-fault h = go (either-false even few h)
     where
-      go : (eqb (length list % recordSize) 0 ≡ false) ⊎ (leb (length list) (mostKeys * recordSize) ≡ false) → ListSize list 2 (length list)
+      go : (even ≡ false) ⊎ (few ≡ false) → ListSize list 2 (length list)
       go (inl e) = list-uneven (eqb-false (length list % recordSize) 0 e)
       go (inr e) = list-over (leb-false (length list) (mostKeys * recordSize) e)
 

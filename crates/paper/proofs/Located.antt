@@ -135,7 +135,8 @@ root-bounded text list n at (ks, listed, (t, read, h)) = go n at h
         let inside = root-place (λ at. at < length text) t (all-inside text t read) in
         bound (omega arith) (omega arith) (omega arith)
 
-buffer-bounded : (text list buffer : List ℕ) (n at : ℕ) → Given (restriction text list) (λ r. BufferSize r buffer) n at → Bounded buffer n at
+buffer-bounded : (text list buffer : List ℕ) (n at : ℕ) → Given (restriction text list) (λ r. BufferSize r buffer) n at
+    → Bounded buffer n at
 buffer-bounded text list buffer n at (r, passed, h) = go n at h
   where
     go : (n at : ℕ) → BufferSize r buffer n at → Bounded buffer n at

@@ -16,7 +16,7 @@ use Rattle.paper.specs.declared.Loading.{Loading}
 use Rattle.paper.specs.declared.Loading.the-variants as L
 use Rattle.paper.specs.Answers.{Input, inText, inList, inEntry, inBlocks, inBuffer, Answer, ok, refused, inputOf, offsetOf, readingSays, checkingSays, judgementSays, translationSays, loadingSays}
 use Rattle.paper.specs.Calls.{readAnswer, checkAnswer, judgeAnswer, translateAnswer, translateBuffer, loadAnswer, runAnswer}
-use Rattle.paper.specs.Promised.{Sole, NoSecondResult, CanBeKept}
+use Rattle.paper.specs.Promised.{verdict, Sole, NoSecondResult, CanBeKept}
 
 -- places
 
@@ -68,6 +68,9 @@ module _ {R A : Type 0} (says : R → Answer A) (e : Enum says) where
   says-back r (is-good a) = ap back (e .good-says a)
   says-back r (is-refusal n p) = ap back (e .refusal-says n p) ∙ ap (e .refusal n) (place-back p)
 
+  same-says : (r s : R) → says r ≡ says s → r ≡ s
+  same-says r s h = sym (says-back r (e .either r)) ∙ ap back h ∙ says-back s (e .either s)
+
   one-says : (a : Answer A) → Sole (λ r. says r ≡ a)
   one-says a =
       record {
@@ -89,10 +92,6 @@ checkings = record { good = λ _. C.Passed; refusal = C.Refused; good-says = λ 
     go : (r : Checking) → Either (λ (u : Unit {0}). C.Passed) C.Refused r
     go C.Passed = is-good tt
     go (C.Refused n p) = is-refusal n p
-
-abbrev verdict : Bool → Judgement
-verdict true = J.Accepted
-verdict false = J.Violated
 
 judgements : Enum judgementSays
 judgements = record { good = verdict; refusal = J.Refused; good-says = said; refusal-says = λ n p. refl; either = go }
@@ -119,6 +118,20 @@ loadings = record { good = L.Loaded; refusal = L.Refused; good-says = λ n. refl
     go : (r : Loading) → Either L.Loaded L.Refused r
     go (L.Loaded n) = is-good n
     go (L.Refused n p) = is-refusal n p
+
+-- results that say the same are the same
+
+pub checking-same : (r s : Checking) → checkingSays r ≡ checkingSays s → r ≡ s
+checking-same = same-says checkingSays checkings
+
+pub judgement-same : (r s : Judgement) → judgementSays r ≡ judgementSays s → r ≡ s
+judgement-same = same-says judgementSays judgements
+
+pub translation-same : (r s : Translation) → translationSays r ≡ translationSays s → r ≡ s
+translation-same = same-says translationSays translations
+
+pub loading-same : (r s : Loading) → loadingSays r ≡ loadingSays s → r ≡ s
+loading-same = same-says loadingSays loadings
 
 -- calls
 

@@ -8,7 +8,7 @@ use mathlib.Core.List.{List, [], _∷_, _++_}
 use Rattle.paper.specs.Answers.{Input, Answer, ok, refused, _>>=_, require}
 use Rattle.paper.specs.Faults.{Faults}
 use Rattle.paper.specs.Table.{Sooner, Wins, Free, Stage, stage, Decided, Clear, ByTable, Given}
-use Rattle.paper.proofs.Stages.{never-ok}
+use Rattle.paper.proofs.Stages.{never-ok, ok-same}
 
 -- one fault wins
 
@@ -56,9 +56,6 @@ exact-tells i F (refused n j at) has gives =
     (same, only-wins fault (λ m to h. let e = gives m to h in (cc, cc)))
 
 -- faults of what an earlier stage passed on
-
-ok-same : {A : Type 0} (a b : A) → ok a ≡ ok b → a ≡ b
-ok-same a b e = cc
 
 module _ {A : Type 0} (x : Answer A) (v : A) (there : x ≡ ok v) (F : A → Faults) where
   given-fault : (n at : ℕ) → Given x F n at → F v n at

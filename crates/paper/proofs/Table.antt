@@ -55,7 +55,8 @@ tree-follows : (text : List ℕ) → Follows (treeStages text) (tree text)
 unfolding tree
 tree-follows text =
     let grammar = TextGrammar (length text) in
-    follows-then (stage inText (TextTokens text) ∷ []) (stage inText (Given (tokens text) grammar) ∷ []) (tokens text) (parsed (length text))
+    follows-then (stage inText (TextTokens text) ∷ []) (stage inText (Given (tokens text) grammar) ∷ []) (tokens text)
+    (parsed (length text))
     (follows-one inText (TextTokens text) (tokens text) (tokens-tell text))
     (λ ts cut.
     follows-one inText (Given (tokens text) grammar) (parsed (length text) ts)
@@ -69,7 +70,8 @@ restriction-follows text list =
     (λ _ _.
     follows-then (listStages list) _ (keys list) _ (list-follows list)
     (λ ks listed.
-    follows-then (treeStages text) (typeStages text list) (tree text) (λ t. typed ks t >>= λ _. ok (record { keys = ks; root = t })) (tree-follows text)
+    follows-then (treeStages text) (typeStages text list) (tree text) (λ t. typed ks t >>= λ _. ok (record { keys = ks; root = t }))
+    (tree-follows text)
     (λ t read.
     follows-as (typeStages text list) (typed ks t) (λ _. record { keys = ks; root = t }) (types-follow text list ks t listed read))))
 

@@ -103,12 +103,15 @@ module _ (text : List ℕ) where
       (fun-ext λ n. fun-ext λ left.
       skip n (suc at) left (drop (suc at) text) ∙ ap (tokensFrom 0 (suc at + n) left) (drop-drop n (suc at) text))
 
-  cut-reads : (at : ℕ) (ts : List Token) → Cut text at ts → length ts ≤ mostTokens → tokens text ≡ after ts (reading at (mostTokens - length ts))
+  cut-reads : (at : ℕ) (ts : List Token) → Cut text at ts → length ts ≤ mostTokens
+      → tokens text ≡ after ts (reading at (mostTokens - length ts))
   unfolding tokens
   cut-reads at ts at-start few = sym (after-none (reading 0 mostTokens))
   cut-reads at ts (a-blank {at = from} n cut inside e) few =
       cut-reads from ts cut few
-      ∙ ap (after ts) (reads-on from (mostTokens - length ts) inside ∙ ap (λ c. onward c from (mostTokens - length ts) (λ n left. reading (suc from + n) left)) e)
+      ∙ ap (after ts)
+      (reads-on from (mostTokens - length ts) inside
+      ∙ ap (λ c. onward c from (mostTokens - length ts) (λ n left. reading (suc from + n) left)) e)
   cut-reads at ts (a-token {at = from} {ts = vs} k n cut inside e) few =
       let u : Token = record { at = from; tok = k } in
       let more : length (vs ++ (u ∷ [])) ≡ suc (length vs) = length-append vs (u ∷ []) ∙ omega arith in
@@ -126,11 +129,14 @@ module _ (text : List ℕ) where
       → tokens text ≡ refused n inText at
   stopped at ts room n c cut few left inside e gives =
       cut-reads at ts cut few
-      ∙ ap (after ts) (reads-on at (mostTokens - length ts) inside ∙ ap₂ (λ c m. onward c at m (λ n left. reading (suc at + n) left)) e left ∙ gives)
+      ∙ ap (after ts)
+      (reads-on at (mostTokens - length ts) inside ∙ ap₂ (λ c m. onward c at m (λ n left. reading (suc at + n) left)) e left ∙ gives)
 
   fault-refused : (n at : ℕ) → TextTokens text n at → tokens text ≡ refused n inText at
-  fault-refused n at (no-token {ts = ts} cut few inside e) = stopped at ts (mostTokens - length ts) 5 noToken cut few refl inside e refl
-  fault-refused n at (numeral-large {ts = ts} cut few inside e) = stopped at ts (mostTokens - length ts) 6 tooLarge cut few refl inside e refl
+  fault-refused n at (no-token {ts = ts} cut few inside e) =
+      stopped at ts (mostTokens - length ts) 5 noToken cut few refl inside e refl
+  fault-refused n at (numeral-large {ts = ts} cut few inside e) =
+      stopped at ts (mostTokens - length ts) 6 tooLarge cut few refl inside e refl
   fault-refused n at (one-more-token {ts = ts} k m cut full inside e) =
       stopped at ts 0 7 (token k m) cut (omega (arith, full)) (omega (arith, full)) inside e refl
 

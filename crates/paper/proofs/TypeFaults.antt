@@ -10,21 +10,22 @@ use mathlib.Core.List.{List, [], _∷_}
 use lib.ListN.{getElem?}
 use Rattle.paper.specs.Answers.{Input, inText, Answer, ok, refused, _>>=_}
 use Rattle.paper.specs.Tokens.{bytes, sameBytes}
-use Rattle.paper.specs.Keys.{Key, findFrom, find, keys}
+use Rattle.paper.specs.Keys.{Kind, Key, findFrom, find, keys}
 use Rattle.paper.specs.Grammar.{Tree, truth, number, key, field, attribute, prefixed, joined, compared, placeOf}
 use Rattle.paper.specs.Places.{Everywhere}
 use Rattle.paper.specs.Types.{Ty, bool, int, of, when, andThen, fieldNamed, fieldType, bareType, prefixType, joinType, comparisonType, operatorType, known, namedType, typeOf, rootType, typed}
 use Rattle.paper.specs.Calls.{tree}
 use Rattle.paper.specs.Faults.{Faults, TreeTypes, key-unknown, key-of-field-unknown, field-unknown, attribute-unknown, prefix-wrong, join-wrong, comparison-wrong, in-operand, join-left, join-right, comparison-left, comparison-right, RootType, not-bool}
 use Rattle.paper.specs.Table.{Sooner, Wins, Free, stage, Given, typeStages}
-use Rattle.paper.proofs.Stages.{never-ok}
+use Rattle.paper.proofs.Stages.{never-ok, ok-same}
 use Rattle.paper.proofs.Words.{same-bytes, not-bytes}
 use Rattle.paper.proofs.Staged.{only-wins, Tells, given-tells, Follows, follows-one, follows-then}
 use Rattle.paper.proofs.InOrder.{InOrder, text-in-order}
 
 -- a key that is found has a type
 
-found-there : (ks : List Key) (w : List ℕ) (m k : ℕ) → findFrom m ks w ≡ some k → (i : ℕ) × (x : Key) × (k ≡ m + i) × (getElem? ks i ≡ some x)
+found-there : (ks : List Key) (w : List ℕ) (m k : ℕ) → findFrom m ks w ≡ some k
+    → (i : ℕ) × (x : Key) × (k ≡ m + i) × (getElem? ks i ≡ some x)
 found-there [] w m k h = absurd (Option·none-ne-some k h)
 found-there (x ∷ ks) w m k h = go (sameBytes (x .name) w) h (found-there ks w (suc m) k)
   where
@@ -96,7 +97,7 @@ module _ (ks : List Key) where
 -- an operator over two operands
 
 same-ok : {A : Type 0} (x : Answer A) (a b : A) → x ≡ ok a → x ≡ ok b → a ≡ b
-same-ok x a b d e = let both : ok a ≡ ok b = sym d ∙ e in cc
+same-ok x a b d e = ok-same a b (sym d ∙ e)
 
 module _ (L R F : Faults) (at : ℕ) (op : Ty → Ty → Option Ty) (x y : Answer Ty)
     (wrong : (a b : Ty) → x ≡ ok a → y ≡ ok b → op a b ≡ none → F 13 at) (left : (n to : ℕ) → L n to → F n to)
@@ -138,7 +139,8 @@ module _ (L R F : Faults) (at : ℕ) (op : Ty → Ty → Option Ty) (x y : Answe
           (refl, only-wins (wrong a b d e h) (λ m q f. operator-only none-left none-right m q (whence m q f)))
       third a b d e none-left none-right (some c) h = λ m q f. operator-free a b c d e h none-left none-right m q (whence m q f)
 
-      second : (a : Ty) → x ≡ ok a → Free L → (v : Answer Ty) → y ≡ v → Tells inText R v → Tells inText F (v >>= λ b. operatorType at (op a b))
+      second : (a : Ty) → x ≡ ok a → Free L → (v : Answer Ty) → y ≡ v → Tells inText R v
+          → Tells inText F (v >>= λ b. operatorType at (op a b))
       second a d none-left (ok b) e h = third a b d e none-left h (op a b) refl
       second a d none-left (refused n j p) e h = (h .0, right-wins n j p none-left e (h .1))
 
@@ -213,7 +215,8 @@ module _ (ks : List Key) where
         Option·none-ne-some a (sym nothing ∙ ap fieldHas same ∙ there)
 
     field-tells : (o : Option ℕ) → find ks w ≡ o → Tells inText F (known at o >>= λ k. namedType past (fieldHas k))
-    field-tells none e = (refl, only-wins (key-of-field-unknown at past e) (λ m q h. unknown-only e m q (behind ks (field at w past f) m q h)))
+    field-tells none e =
+        (refl, only-wins (key-of-field-unknown at past e) (λ m q h. unknown-only e m q (behind ks (field at w past f) m q h)))
     field-tells (some k) e = go (fieldHas k) refl
       where
         go : (o : Option Ty) → fieldHas k ≡ o → Tells inText F (namedType past o)
@@ -225,7 +228,8 @@ module _ (ks : List Key) where
   attribute-tells at past f true e =
       λ m q h. let (_, _, other) = behind ks (attribute at past f) m q h in other (same-bytes f (bytes "priority") e)
   attribute-tells at past f false e =
-      (refl, only-wins (attribute-unknown at past (not-bytes f (bytes "priority") e)) (λ m q h. let (d, g, _) = behind ks (attribute at past f) m q h in (d, g)))
+      let other = attribute-unknown at past (not-bytes f (bytes "priority") e) in
+      (refl, only-wins other (λ m q h. let (d, g, _) = behind ks (attribute at past f) m q h in (d, g)))
 
   types-tell : (t : Tree) → InOrder t → Tells inText (TreeTypes ks t) (typeOf ks t)
   unfolding typeOf
@@ -235,17 +239,24 @@ module _ (ks : List Key) where
   types-tell (field at w to f) o = field-tells at w to f (find ks w) refl
   types-tell (attribute at to f) o = attribute-tells at to f (sameBytes f (bytes "priority")) refl
   types-tell (prefixed at o t) h =
-      prefix-tells (TreeTypes ks t) (TreeTypes ks (prefixed at o t)) at (prefixType o) (typeOf ks t) (prefix-wrong at o) (λ n to. in-operand at o)
-      (behind ks (prefixed at o t)) (types-tell t h)
+      prefix-tells (TreeTypes ks t) (TreeTypes ks (prefixed at o t)) at (prefixType o) (typeOf ks t)
+      (prefix-wrong at o) (λ n to. in-operand at o) (behind ks (prefixed at o t)) (types-tell t h)
   types-tell (joined at o l r) h =
-      operator-tells (TreeTypes ks l) (TreeTypes ks r) (TreeTypes ks (joined at o l r)) at joinType (typeOf ks l) (typeOf ks r) (join-wrong at o)
-      (λ n to. join-left at o) (λ n to. join-right at o) (behind ks (joined at o l r)) (apart ks l r (h .0)) (types-tell l (h .1)) (types-tell r (h .2))
+      operator-tells (TreeTypes ks l) (TreeTypes ks r) (TreeTypes ks (joined at o l r)) at joinType (typeOf ks l) (typeOf ks r)
+      (join-wrong at o) (λ n to. join-left at o) (λ n to. join-right at o) (behind ks (joined at o l r))
+      (apart ks l r (h .0)) (types-tell l (h .1)) (types-tell r (h .2))
   types-tell (compared at c l r) h =
       operator-tells (TreeTypes ks l) (TreeTypes ks r) (TreeTypes ks (compared at c l r)) at (comparisonType c) (typeOf ks l) (typeOf ks r)
-      (comparison-wrong at c) (λ n to. comparison-left at c) (λ n to. comparison-right at c) (behind ks (compared at c l r)) (apart ks l r (h .0))
-      (types-tell l (h .1)) (types-tell r (h .2))
+      (comparison-wrong at c) (λ n to. comparison-left at c) (λ n to. comparison-right at c) (behind ks (compared at c l r))
+      (apart ks l r (h .0)) (types-tell l (h .1)) (types-tell r (h .2))
 
   -- 14
+
+  not-number : bool ≢ int
+  not-number d = let z : _≡_ {A = ℕ} 0 1 = cc in omega (arith, z)
+
+  not-match : (k : Kind) (w : ℕ) → bool ≢ of k w
+  not-match k w d = let z : _≡_ {A = ℕ} 0 1 = cc in omega (arith, z)
 
   root-free : (t : Tree) → typeOf ks t ≡ ok bool → Free (RootType ks t)
   root-free t e n to (not-bool a d other) = other (same-ok (typeOf ks t) a bool d e)
@@ -255,8 +266,8 @@ module _ (ks : List Key) where
 
   root-tells : (t : Tree) (a : Ty) → typeOf ks t ≡ ok a → Tells inText (RootType ks t) (rootType t a)
   root-tells t bool e = root-free t e
-  root-tells t int e = (refl, only-wins (not-bool int e (λ d. absurd (let z : _≡_ {A = ℕ} 0 1 = cc in omega (arith, z)))) (root-only t))
-  root-tells t (of k w) e = (refl, only-wins (not-bool (of k w) e (λ d. absurd (let z : _≡_ {A = ℕ} 0 1 = cc in omega (arith, z)))) (root-only t))
+  root-tells t int e = (refl, only-wins (not-bool int e (λ d. not-number (sym d))) (root-only t))
+  root-tells t (of k w) e = (refl, only-wins (not-bool (of k w) e (λ d. not-match k w (sym d))) (root-only t))
 
 -- of the keys of a list and the tree of a text
 pub types-follow : (text list : List ℕ) (ks : List Key) (t : Tree) → keys list ≡ ok ks → tree text ≡ ok t

@@ -9,7 +9,7 @@ use lib.ListN.{length, take, replicate, length-replicate}
 use Rattle.paper.specs.declared.Checking.the-variants as C
 use Rattle.paper.specs.declared.Judgement.the-variants as J
 use Rattle.paper.specs.declared.Loading.the-variants as L
-use Rattle.paper.specs.Answers.{ok, refused, inBlocks, judgementSays, checkingSays, translationSays, loadingSays}
+use Rattle.paper.specs.Answers.{ok, refused, inBlocks, judgementSays, translationSays, loadingSays}
 use Rattle.paper.specs.Numbers.{byteAt}
 use Rattle.paper.specs.Tokens.{bytes}
 use Rattle.paper.specs.Keys.{keys}
@@ -18,15 +18,15 @@ use Rattle.paper.specs.Code.{invert}
 use Rattle.paper.specs.Blocks.{blockSize, mostBlocks, blocksNeeded, blocksOf, countAt, layout}
 use Rattle.paper.specs.Calls.{checkAnswer, judgeAnswer, loadAnswer, runAnswer}
 use Rattle.paper.specs.Marked.{theKeys, theEntry}
-use Rattle.paper.specs.Promised.{Programs, Kept}
-use Rattle.paper.specs.Demands.{DemandTwo, DemandThree, verdict}
+use Rattle.paper.specs.Promised.{verdict, Programs, Kept}
+use Rattle.paper.specs.Demands.{DemandTwo, DemandThree}
 use Rattle.paper.specs.WrongPrograms.{RefusesAll, AcceptsAll, WritesNothing, FirstPartOnly, PassesNothing, PassesAll, CountsRight, KeepsCheck, KeepsLoad, NoWrongProgram, paddedText, paddedBlocks, PaddingSeen}
-use Rattle.paper.proofs.Stages.{never-ok}
+use Rattle.paper.proofs.Stages.{never-ok, ok-same}
 use Rattle.paper.proofs.Carried.{counted, translates, translating, translated}
 use Rattle.paper.proofs.Laid.{first-counted}
 use Rattle.paper.proofs.Damaged.{called}
-use Rattle.paper.proofs.Promised.{no-second-result}
-use Rattle.paper.proofs.Demands.{same-result, ok-once, judgeable-answer, answer-judgeable, judgeable-truth}
+use Rattle.paper.proofs.Promised.{checking-same}
+use Rattle.paper.proofs.Demands.{judgeable-answer, answer-judgeable, judgeable-truth}
 
 -- what demand 2 says of an entry that is judged
 by-demand-two : (p : Programs) → DemandTwo p → (text list entry : List ℕ) (b : Bool) → judgeAnswer text list entry ≡ ok b
@@ -38,7 +38,7 @@ by-demand-two p two text list entry b e = go b e
     worth b e =
         let j = answer-judgeable text list entry b e in
         let (c, there) = judgeable-truth text list entry j in
-        let same : c ≡ b = ok-once c b (ap (λ v. ok (isTrue v)) (sym there) ∙ sym (judgeable-answer text list entry j) ∙ e) in
+        let same : c ≡ b = ok-same c b (ap (λ v. ok (isTrue v)) (sym there) ∙ sym (judgeable-answer text list entry j) ∙ e) in
         there ∙ ap (λ x. some (truth x)) same
 
     go : (b : Bool) → judgeAnswer text list entry ≡ ok b → p .judge text list entry ≡ verdict b
@@ -46,7 +46,7 @@ by-demand-two p two text list entry b e = go b e
     go false e = two .violates text list entry (answer-judgeable text list entry false e) .1 (worth false e)
 
 not-both : J.Accepted ≡ J.Violated → ⊥
-not-both e = true≢false (ok-once true false (ap judgementSays e))
+not-both e = true≢false (ok-same true false (ap judgementSays e))
 
 -- case 2
 
@@ -80,7 +80,7 @@ enough = omega (arith, length-replicate {A = ℕ} 41984 0)
 
 passes : (p : Programs) → KeepsCheck p → (text list : List ℕ) → checkAnswer text list ≡ ok tt → p .check text list ≡ C.Passed
 passes p checks text list e =
-    same-result (λ r. checkingSays r ≡ checkAnswer text list) (no-second-result .check text list) (p .check text list) C.Passed (checks text list) (sym e)
+    checking-same (p .check text list) C.Passed (checks text list ∙ e)
 
 -- `true` with no keys
 
@@ -198,5 +198,5 @@ padding-seen =
       loads = padded-loads;
       runs = padded-runs;
       judged = whole-violated;
-      not-carried = λ n c. true≢false (ok-once true false (sym padded-runs ∙ c .runs theEntry ∙ whole-violated));
+      not-carried = λ n c. true≢false (ok-same true false (sym padded-runs ∙ c .runs theEntry ∙ whole-violated));
     }

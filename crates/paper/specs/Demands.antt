@@ -2,7 +2,7 @@
 use Prim.Native.Nat.{ℕ, _*_, _≤_}
 use mathlib.Core.Path.{_≡_}
 use mathlib.Core.Logic.{_↔_}
-use mathlib.Core.Bool.{Bool, true, false}
+use mathlib.Core.Bool.{true, false}
 use mathlib.Core.Option.{some}
 use mathlib.Core.List.{List, [], _∷_, List·Memᴰ}
 use lib.ListN.{length, take, drop}
@@ -24,7 +24,7 @@ use Rattle.paper.specs.Meaning.{truth, valueOf}
 use Rattle.paper.specs.Blocks.{blockSize, mostBlocks, blocksNeeded}
 use Rattle.paper.specs.Sound.{Runs}
 use Rattle.paper.specs.Faults.{Cuts}
-use Rattle.paper.specs.Promised.{Programs, Kept}
+use Rattle.paper.specs.Promised.{verdict, Programs, Kept}
 
 -- Demand 1: every input gets an answer, and a refusal changes nothing lent. An answer is one of the enum's cases; if a refusal, its
 -- number is one of 1 to 20, and its place lies in an input that was lent, or at its length.
@@ -100,10 +100,6 @@ pub record Carried (p : Programs) (text list buffer : List ℕ) (n : ℕ) : Type
       → p .run list (take (blockSize * blocksNeeded n) (p .translate text list buffer .buffer)) entry ≡ p .judge text list entry
   pub later : drop (blockSize * blocksNeeded n) (p .translate text list buffer .buffer) ≡ drop (blockSize * blocksNeeded n) buffer
 
-abbrev pub verdict : Bool → Judgement
-verdict true = J.Accepted
-verdict false = J.Violated
-
 pub record Judged (p : Programs) (list blocks entry : List ℕ) (ks : List Key) (e : Entry) (n : ℕ) : Type 0 where
   pub goes : Runs ks e blocks n
   pub answer : p .run list blocks entry ≡ verdict (goes .bit)
@@ -112,8 +108,8 @@ pub record DemandThree (p : Programs) : Type 0 where
   pub translates : (text list buffer : List ℕ) → p .check text list ≡ C.Passed → mostBlocks * blockSize ≤ length buffer
       → (n : ℕ) × (p .translate text list buffer .answer ≡ T.Written n)
   pub carries : (text list buffer : List ℕ) (n : ℕ) → p .translate text list buffer .answer ≡ T.Written n → Carried p text list buffer n
-  pub runs : (list blocks : List ℕ) (n : ℕ) → p .load list blocks ≡ L.Loaded n → (ks : List Key) → keys list ≡ ok ks → (entry : List ℕ) (e : Entry)
-      → entryOf ks entry ≡ ok e → Judged p list blocks entry ks e n
+  pub runs : (list blocks : List ℕ) (n : ℕ) → p .load list blocks ≡ L.Loaded n → (ks : List Key) → keys list ≡ ok ks
+      → (entry : List ℕ) (e : Entry) → entryOf ks entry ≡ ok e → Judged p list blocks entry ks e n
 
 -- programs that keep the promises meet them
 

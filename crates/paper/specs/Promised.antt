@@ -2,10 +2,12 @@
 -- holds afterwards, refused calls included. .. Show that no second result satisfies it".
 use Prim.Native.Nat.{ℕ}
 use mathlib.Core.Path.{_≡_}
+use mathlib.Core.Bool.{Bool, true, false}
 use mathlib.Core.List.{List}
 use Rattle.paper.specs.declared.Reading.{Reading}
 use Rattle.paper.specs.declared.Checking.{Checking}
 use Rattle.paper.specs.declared.Judgement.{Judgement}
+use Rattle.paper.specs.declared.Judgement.the-variants as J
 use Rattle.paper.specs.declared.Translation.{Translation}
 use Rattle.paper.specs.declared.Loading.{Loading}
 use Rattle.paper.specs.Answers.{readingSays, checkingSays, judgementSays, translationSays, loadingSays}
@@ -36,6 +38,10 @@ LoadPromised list blocks r = loadingSays r ≡ loadAnswer list blocks
 
 abbrev pub RunPromised : List ℕ → List ℕ → List ℕ → Judgement → Type 0
 RunPromised list blocks entry r = judgementSays r ≡ runAnswer list blocks entry
+
+abbrev pub verdict : Bool → Judgement
+verdict true = J.Accepted
+verdict false = J.Violated
 
 -- one result satisfies it, and no second
 pub record Sole {R : Type 0} (Promised : R → Type 0) : Type 0 where

@@ -20,13 +20,13 @@ use Rattle.paper.specs.Calls.{checkAnswer, judgeAnswer, loadAnswer, runA
 use Rattle.paper.specs.Marked.{theKeys, theEntry}
 use Rattle.paper.specs.Promised.{verdict, Programs, Kept}
 use Rattle.paper.specs.Demands.{DemandTwo, DemandThree}
-use Rattle.paper.specs.WrongPrograms.{RefusesAll, AcceptsAll, WritesNothing, FirstPartOnly, PassesNothing, PassesAll, CountsRight, KeepsCheck, KeepsLoad, NoWrongProgram, paddedText, paddedBlocks, PaddingSeen}
+use Rattle.paper.specs.WrongPrograms.{RefusesAll, AcceptsAll, WritesNothing, FirstPartOnly, PassesNothing, PassesAll, CountsRight, KeepsCheck, KeepsLoad, WrongProgramsFail, NoWrongProgram, paddedText, paddedBlocks, PaddingSeen}
 use Rattle.paper.proofs.Stages.{never-ok, ok-same}
 use Rattle.paper.proofs.Carried.{counted, translates, translating, translated}
 use Rattle.paper.proofs.Laid.{first-counted}
 use Rattle.paper.proofs.Damaged.{called}
 use Rattle.paper.proofs.Promised.{checking-same}
-use Rattle.paper.proofs.Demands.{judgeable-answer, answer-judgeable, judgeable-truth}
+use Rattle.paper.proofs.Demands.{judgeable-answer, answer-judgeable, judgeable-truth, demand-two-met, demand-three-met}
 
 -- what demand 2 says of an entry that is judged
 by-demand-two : (p : Programs) → DemandTwo p → (text list entry : List ℕ) (b : Bool) → judgeAnswer text list entry ≡ ok b
@@ -172,8 +172,8 @@ counts-right p kept text list buffer n written r passed =
     let here : translating buffer r ≡ ok n = rw passed at answer in
     sym (translated buffer r n here .0) ∙ counted text list r passed
 
-pub no-wrong-program : NoWrongProgram
-no-wrong-program p =
+pub wrong-programs-fail : WrongProgramsFail
+wrong-programs-fail p =
     record {
       refusing = refusing-fails p;
       accepting = accepting-fails p;
@@ -181,7 +181,20 @@ no-wrong-program p =
       cutting = cutting-fails p;
       barring = barring-fails p;
       admitting = admitting-fails p;
-      counting = counts-right p;
+    }
+
+pub no-wrong-program : NoWrongProgram
+no-wrong-program p kept =
+    let two = demand-two-met p kept in
+    let three = demand-three-met p kept in
+    record {
+      refusing = refusing-fails p two;
+      accepting = accepting-fails p two;
+      idle = idle-fails p (kept .check) (kept .load) three;
+      cutting = cutting-fails p (kept .check) two three;
+      barring = barring-fails p (kept .check) three;
+      admitting = admitting-fails p (kept .load);
+      counting = counts-right p kept;
     }
 
 padded-loads : loadAnswer theKeys paddedBlocks ≡ ok 3

@@ -1,4 +1,4 @@
--- 01, "Try these against it": programs that the demands must leave no room for. Each is refuted at an input, named in the proof.
+-- 01, "Try these against it": programs that the promises must leave no room for. Each is refuted at an input, named in the proof.
 use Prim.Native.Nat.{ℕ, _+_, _*_}
 use mathlib.Core.Path.{_≡_}
 use mathlib.Core.Bool.{true, false}
@@ -64,17 +64,30 @@ KeepsCheck p = (text list : List ℕ) → CheckPromised text list (p .check text
 abbrev pub KeepsLoad : Programs → Type 0
 KeepsLoad p = (list blocks : List ℕ) → LoadPromised list blocks (p .load list blocks)
 
-pub record WrongProgramsFail (p : Programs) : Type 0 where
+-- what excludes each: a demand, beside the calls that it is tried with; or the promise of `load`, by 18
+pub record DemandsExclude (p : Programs) : Type 0 where
   pub refusing : DemandTwo p → ¬ RefusesAll p
   pub accepting : DemandTwo p → ¬ AcceptsAll p
   pub idle : KeepsCheck p → KeepsLoad p → DemandThree p → ¬ WritesNothing p
   pub cutting : KeepsCheck p → DemandTwo p → DemandThree p → ¬ FirstPartOnly p
   pub barring : KeepsCheck p → DemandThree p → ¬ PassesNothing p
   pub admitting : KeepsLoad p → ¬ PassesAll p
-  pub counting : Kept p → CountsRight p
+
+abbrev pub WrongProgramsFail : Type 0
+WrongProgramsFail = (p : Programs) → DemandsExclude p
+
+-- so none keeps the promises
+pub record Excluded (p : Programs) : Type 0 where
+  pub refusing : ¬ RefusesAll p
+  pub accepting : ¬ AcceptsAll p
+  pub idle : ¬ WritesNothing p
+  pub cutting : ¬ FirstPartOnly p
+  pub barring : ¬ PassesNothing p
+  pub admitting : ¬ PassesAll p
+  pub counting : CountsRight p
 
 abbrev pub NoWrongProgram : Type 0
-NoWrongProgram = (p : Programs) → WrongProgramsFail p
+NoWrongProgram = (p : Programs) → Kept p → Excluded p
 
 -- one of the paddings, for `true; v == 0`: its blocks load, and accept an entry that the text calls violated
 

@@ -3,4 +3,4 @@ use Rattle.promises.proofs.accounts.wrong_programs_fail.Statement.{stat
 use Rattle.promises.proofs.accounts.wrong_programs_fail.Tie as tie
 
 pub wrong-programs-fail-spec : {M : Type 1} → statement M
-wrong-programs-fail-spec = tie.close (tie.spec (λ c. Theorem.no-wrong-program))
+wrong-programs-fail-spec = tie.close (tie.spec (λ c. Theorem.wrong-programs-fail))

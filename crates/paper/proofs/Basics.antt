@@ -1,11 +1,13 @@
 -- Small laws of tests, of what may be missing, and of what each element of a list has.
-use Prim.Native.Nat.{ℕ, zero, suc, _<_}
+use Prim.Native.Nat.{ℕ, zero, suc, _<_, suc-le-suc}
 use native.Mathlib.Nat.{not-suc-le-zero, le-of-suc-le-suc}
+use native.Mathlib.Omega.{arith}
 use mathlib.Core.Path.{_≡_, refl}
+use mathlib.Core.Logic.{_⊎_, inl, inr}
 use mathlib.Core.Bool.{Bool, true, false, _&&_, and-eq-true-iff}
-use mathlib.Core.Option.{Option, none, some, Option·map}
+use mathlib.Core.Option.{Option, none, some, Option·map, Option·none-ne-some}
 use mathlib.Core.List.{List, [], _∷_, _++_}
-use lib.ListN.{length, getD}
+use lib.ListN.{length, getD, getElem?}
 use Rattle.paper.specs.Types.{when, andThen}
 use Rattle.paper.specs.Written.{All}
 
@@ -17,6 +19,10 @@ and-false false = refl
 
 pub and-right : (a b : Bool) → a && b ≡ true → b ≡ true
 and-right a b h = and-eq-true-iff a b .0 h .1
+
+pub either-false : (a b : Bool) → a && b ≡ false → (a ≡ false) ⊎ (b ≡ false)
+either-false true b h = inr h
+either-false false b h = inl refl
 
 -- what may be missing
 
@@ -51,6 +57,11 @@ if-when P false a h = tt
 pub all-append : {A : Type 0} (P : A → Type 0) (xs ys : List A) → All P xs → All P ys → All P (xs ++ ys)
 all-append P [] ys h k = k
 all-append P (x ∷ xs) ys h k = (h .0, all-append P xs ys (h .1) k)
+
+pub some-below : {A : Type 0} (xs : List A) (i : ℕ) (x : A) → getElem? xs i ≡ some x → i < length xs
+some-below [] i x h = absurd (Option·none-ne-some x h)
+some-below (y ∷ xs) zero x h = omega arith
+some-below (y ∷ xs) (suc i) x h = suc-le-suc (some-below xs i x h)
 
 pub all-at : {A : Type 0} (P : A → Type 0) (xs : List A) (d : A) → All P xs → (i : ℕ) → i < length xs → P (getD xs i d)
 all-at P [] d h i l = absurd (not-suc-le-zero l)

@@ -56,7 +56,7 @@ module _ (text list : List ℕ) where
   stages-pass (ok _) (ok ks) (refused n i at) k r = tt
   stages-pass (ok _) (ok ks) (ok t) k r = typed-passes ks t (typed ks t) k r refl
 
-  passing : (r : Restriction) → restriction text list ≡ ok r → Passing text list r
+  pub passing : (r : Restriction) → restriction text list ≡ ok r → Passing text list r
   unfolding restriction
   passing r h = subst (Of (Passing text list)) h (stages-pass (sized text) (keys list) (tree text) refl refl)
 
@@ -73,13 +73,13 @@ nodes-some (G.joined at o l r) = omega arith
 nodes-some (G.compared at c l r) = omega arith
 
 module _ (text list : List ℕ) (r : Restriction) (passed : restriction text list ≡ ok r) where
-  abbrev ks : List Key
+  abbrev pub ks : List Key
   ks = r .keys
 
-  abbrev t : Tree
+  abbrev pub t : Tree
   t = r .root
 
-  abbrev code : List Instruction
+  abbrev pub code : List Instruction
   code = codeOf ks t
 
   abbrev blocks : List ℕ
@@ -97,7 +97,7 @@ module _ (text list : List ℕ) (r : Restriction) (passed : restriction text lis
   room : needs t ≤ mostHeld
   room = omega (arith, few-held text t (known .read))
 
-  counted : length code ≡ nodes t + conversions ks t
+  pub counted : length code ≡ nodes t + conversions ks t
   counted = code-counted ks t bool a-bool
 
   short : length code ≤ mostBlocks * inBlock
@@ -167,12 +167,12 @@ module _ (text list : List ℕ) (r : Restriction) (passed : restriction text lis
         size = rw e (length-append blocks rest ∙ omega (arith, length-drop (length blocks) buffer, written .size));
       }
 
-abbrev translating : List ℕ → Restriction → Answer ℕ
+abbrev pub translating : List ℕ → Restriction → Answer ℕ
 translating buffer r =
     let n = length (codeOf (r .keys) (r .root)) in
     require (leb (blockSize * blocksNeeded n) (length buffer)) 15 inBuffer (length buffer) >>= λ _. ok n
 
-translates : (text list buffer : List ℕ) → translateAnswer text list buffer ≡ (restriction text list >>= translating buffer)
+pub translates : (text list buffer : List ℕ) → translateAnswer text list buffer ≡ (restriction text list >>= translating buffer)
 unfolding translateAnswer
 translates text list buffer = refl
 
@@ -182,7 +182,7 @@ unfolding translateBuffer
 fills text list buffer r n h k = ap₂ (λ x y. filled x y buffer) h k
 
 -- what a translation that passes has tested, and what it answers
-translated : (buffer : List ℕ) (r : Restriction) (n : ℕ) → translating buffer r ≡ ok n
+pub translated : (buffer : List ℕ) (r : Restriction) (n : ℕ) → translating buffer r ≡ ok n
     → (length (codeOf (r .keys) (r .root)) ≡ n) × (blockSize * blocksNeeded (length (codeOf (r .keys) (r .root))) ≤ length buffer)
 translated buffer r n h =
     let code = codeOf (r .keys) (r .root) in

@@ -5,22 +5,22 @@ use native.Mathlib.Decide.{decLt}
 use native.Mathlib.Omega.{arith}
 use mathlib.Core.Logic.{_≢_}
 use mathlib.Core.Path.{_≡_, refl, sym, ap, ap₂, subst, _∙_}
-use mathlib.Core.Bool.{Bool, true, false, cond, false≢true}
-use mathlib.Core.List.{List, [], _∷_}
+use mathlib.Core.Bool.{Bool, true, false}
+use mathlib.Core.List.{List}
 use lib.ListN.{length, take, drop, set, length-set, length-drop}
 use lib.Seq.{getD-take, getD-drop, getD-set-same, take-take, length-take-le, drop-set-add, drop-set-lt, take-set-lt, take-set-le}
 use lib.Bits.{bitXor, xor-lt}
 use lib.Pow.{pow-lt}
 use lib.Dec.{eqb}
-use borrow.Author.Tests.{eqb-true, ne-eqb}
+use borrow.Author.Tests.{ne-eqb}
 use Rattle.paper.specs.Answers.{ok, refused, _>>=_, inBlocks}
 use Rattle.paper.specs.Numbers.{byteAt, bytesAt, numberAt}
-use Rattle.paper.specs.Tokens.{sameBytes}
 use Rattle.paper.specs.Keys.{keys, Key}
 use Rattle.paper.specs.Blocks.{blockSize, checkOf, countAt, countsFrom, totalOf, blockOk, layoutFrom, layout}
 use Rattle.paper.specs.Loading.{program, typesAlong, loadCheck, loaded}
 use Rattle.paper.specs.Calls.{loadAnswer}
 use Rattle.paper.specs.Damaged.{CutRefused, ByteSeen, BitSeen}
+use Rattle.paper.proofs.Words.{same-bytes}
 use Rattle.paper.proofs.Stages.{bind-ok}
 use Rattle.paper.proofs.Digits.{number-same}
 use Rattle.paper.proofs.Bits.{bit-differs}
@@ -77,20 +77,10 @@ module _ (keys : ℕ) (blocks : List ℕ) (good : Laid keys blocks) (m : ℕ) (i
 
 -- one byte changed
 
-same-lists : (s t : List ℕ) → sameBytes s t ≡ true → s ≡ t
-same-lists [] [] h = refl
-same-lists [] (b ∷ t) h = absurd (false≢true h)
-same-lists (a ∷ s) [] h = absurd (false≢true h)
-same-lists (a ∷ s) (b ∷ t) h = go (eqb a b) refl h (same-lists s t)
-  where
-    go : (c : Bool) → eqb a b ≡ c → cond c (sameBytes s t) false ≡ true → (sameBytes s t ≡ true → s ≡ t) → a ∷ s ≡ b ∷ t
-    go true e h later = ap₂ (λ x l. x ∷ l) (eqb-true a b e) (later h)
-    go false e h later = absurd (false≢true h)
-
 module _ (b : List ℕ) (whole : length b ≡ blockSize) (right : checkRight b ≡ true) (j v : ℕ) (inside : j < blockSize) (was : byteAt b j < 256)
     (becomes : v < 256) (other : v ≢ byteAt b j) where
   check-was : bytesAt b 508 4 ≡ checkOf (take 508 b)
-  check-was = same-lists (bytesAt b 508 4) (checkOf (take 508 b)) right
+  check-was = same-bytes (bytesAt b 508 4) (checkOf (take 508 b)) right
 
   -- before the check: its first sum is another
   in-body : j < 508 → bytesAt (set b j v) 508 4 ≡ checkOf (take 508 (set b j v)) → ⊥
@@ -121,7 +111,7 @@ module _ (b : List ℕ) (whole : length b ≡ blockSize) (right : checkRight b �
       never e (no l) = in-check (omega arith) e
 
       go : (c : Bool) → checkRight (set b j v) ≡ c → c ≡ false
-      go true h = absurd (never (same-lists (bytesAt (set b j v) 508 4) (checkOf (take 508 (set b j v))) h) (decLt j 508))
+      go true h = absurd (never (same-bytes (bytesAt (set b j v) 508 4) (checkOf (take 508 (set b j v))) h) (decLt j 508))
       go false h = refl
 
 module _ (keys : ℕ) (blocks : List ℕ) (good : Laid keys blocks) (i v : ℕ) (within : i < length blocks) (was : byteAt blocks i < 256) (becomes : v < 256)
@@ -179,7 +169,7 @@ pub record Called (list blocks : List ℕ) : Type 0 where
   pub listed : keys list ≡ ok ks
   pub good : Laid (length ks) blocks
 
-called : (list blocks : List ℕ) (n : ℕ) → loadAnswer list blocks ≡ ok n → Called list blocks
+pub called : (list blocks : List ℕ) (n : ℕ) → loadAnswer list blocks ≡ ok n → Called list blocks
 unfolding loadAnswer
 called list blocks n h =
     let a = bind-ok (keys list) (λ ks. loaded ks blocks) n h in

@@ -84,6 +84,18 @@ fewer keys blocks (suc n) zero k l h = omega (arith, counted-here keys blocks k 
 fewer keys blocks (suc n) (suc m) k l h =
     omega (arith, fewer keys blocks n m (k + 1) (omega arith) (passes-here keys blocks k n h .1))
 
+few-counted : (later c : ℕ) → countOk later c ≡ true → c ≤ inBlock
+few-counted zero c h = leb-true c inBlock (and-eq-true-iff (leb 1 c) (leb c inBlock) .0 h .1)
+few-counted (suc later) c h = omega (arith, eqb-true c inBlock h)
+
+-- at most 25 in a block
+pub counts-within : (keys : ℕ) (blocks : List ℕ) (n k : ℕ) → layoutFrom keys blocks k n ≡ ok tt → countsFrom blocks k n ≤ inBlock * n
+counts-within keys blocks zero k h = omega arith
+counts-within keys blocks (suc n) k h =
+    let (here, later) = passes-here keys blocks k n h in
+    let few = few-counted n (numberAt (blockAt blocks k) 2 2) (fields keys blocks k n here .count) in
+    omega (arith, few, count-here blocks k, counts-within keys blocks n (k + 1) later)
+
 pub passes-at : (keys : ℕ) (blocks : List ℕ) (n k j : ℕ) → layoutFrom keys blocks k n ≡ ok tt → j < n
     → (later : ℕ) × (blockOk keys blocks (k + j) later ≡ true)
 passes-at keys blocks zero k j h l = absurd (omega arith)
@@ -151,3 +163,11 @@ pub by-blocks : (keys : ℕ) (blocks : List ℕ) → 0 < length blocks → lengt
 unfolding layout
 by-blocks keys blocks long even most =
     rw (lt-ltb 0 (length blocks) long, eq-eqb (length blocks % blockSize) 0 even, le-leb (length blocks) (mostBlocks * blockSize) most)
+
+-- the first block has an instruction
+pub first-counted : (keys : ℕ) (blocks : List ℕ) → Laid keys blocks → 1 ≤ countAt blocks 0
+first-counted keys blocks good = go (length blocks / blockSize) (omega (arith, good .long, good .even)) (good .each)
+  where
+    go : (n : ℕ) → 1 ≤ n → layoutFrom keys blocks 0 n ≡ ok tt → 1 ≤ countAt blocks 0
+    go zero l h = absurd (omega arith)
+    go (suc n) l h = counted-here keys blocks 0 n (passes-here keys blocks 0 n h .0)

@@ -64,7 +64,7 @@ pub places-in-text : PlacesInText
 places-in-text text ts t h p =
     places-as-offsets (λ at. at < length text) (length text) ts t p (λ u m. offsets-in-text text ts h (u .at) (u, m, refl))
 
-place-in-text : (text : List ℕ) (ts taken us : List Token) → tokens text ≡ ok ts → ts ≡ taken ++ us
+pub place-in-text : (text : List ℕ) (ts taken us : List Token) → tokens text ≡ ok ts → ts ≡ taken ++ us
     → placeFrom (length text) us ≤ length text
 place-in-text text ts taken [] h e = omega arith
 place-in-text text ts taken (u ∷ us) h e =

@@ -4,25 +4,21 @@ use native.Mathlib.Nat.{add-zero, not-suc-le-zero, le-of-suc-le-suc}
 use native.Mathlib.Omega.{arith}
 use mathlib.Core.Path.{_≡_, refl, sym, ap, ap₂, _∙_}
 use mathlib.Core.Bool.{true}
-use mathlib.Core.List.{List, [], _∷_, _++_, append-assoc}
+use mathlib.Core.List.{List, _++_, append-assoc}
 use lib.ListN.{length, take, drop, replicate, length-append, length-take, length-replicate}
 use lib.Seq.{drop-append-add, take-at, drop-drop}
 use borrow.Author.Tests.{eq-eqb}
 use Rattle.paper.specs.Numbers.{bytesAt, numberAt, bigEndian}
-use Rattle.paper.specs.Tokens.{sameBytes}
 use Rattle.paper.specs.Keys.{allZero}
 use Rattle.paper.specs.Code.{Instruction, instructionSize}
 use Rattle.paper.specs.Blocks.{blockSize, inBlock, checkOf, encodeAll, sealed, blockOf, blocksFrom, totalOf, countOk, blockOk}
+use Rattle.paper.proofs.Words.{bytes-same}
 use Rattle.paper.proofs.Digits.{drop-on, number-back}
 use Rattle.paper.proofs.Encoded.{row-length}
 
 zeros-zero : (n : ℕ) → allZero (replicate n 0) ≡ true
 zeros-zero zero = refl
 zeros-zero (suc n) = zeros-zero n
-
-same-bytes : (s : List ℕ) → sameBytes s s ≡ true
-same-bytes [] = refl
-same-bytes (b ∷ s) = rw (eq-eqb b b refl) (same-bytes s)
 
 -- a block whose fields are right passes
 fields-pass : (keys : ℕ) (blocks : List ℕ) (k later : ℕ) (b : List ℕ) (count : ℕ) (zeros body : List ℕ)
@@ -32,7 +28,7 @@ fields-pass : (keys : ℕ) (blocks : List ℕ) (k later : ℕ) (b : List ℕ) (c
     → blockOk keys blocks k later ≡ true
 fields-pass keys blocks k later b count zeros body there f0 f2 fits fz clear f504 f506 front f508 =
     rw (there, f0, eq-eqb k k refl, f2, fits, fz, clear, f504, eq-eqb (totalOf blocks) (totalOf blocks) refl, f506, eq-eqb keys keys refl, f508, front)
-    (same-bytes (checkOf body))
+    (bytes-same (checkOf body))
 
 -- one block
 

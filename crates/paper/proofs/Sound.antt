@@ -129,7 +129,7 @@ bool-left size (ends (whole z ∷ [])) u h = absurd (never-ok h)
 bool-left size (ends (matched k w m ∷ [])) u h = absurd (never-ok h)
 bool-left size (ends (a ∷ b ∷ held)) u h = absurd (never-ok h)
 
-program-length : (blocks : List ℕ) (i n : ℕ) → length (instructionsFrom blocks i n) ≡ n
+pub program-length : (blocks : List ℕ) (i n : ℕ) → length (instructionsFrom blocks i n) ≡ n
 program-length blocks i zero = refl
 program-length blocks i (suc n) = ap suc (program-length blocks (i + 1) n)
 

@@ -13,10 +13,17 @@ Of P (refused n i at) = Unit {0}
 pub never-ok : {A : Type 0} {n : ℕ} {i : Input} {at : ℕ} {a : A} → refused n i at ≡ ok a → ⊥
 never-ok e = let z : _≡_ {A = ℕ} 0 1 = cc in omega arith
 
+pub ok-same : {A : Type 0} (a b : A) → ok a ≡ ok b → a ≡ b
+ok-same a b e = cc
+
 -- both stages passed
 pub bind-ok : {A B : Type 0} (x : Answer A) (f : A → Answer B) (b : B) → (x >>= f) ≡ ok b → (a : A) × (x ≡ ok a) × (f a ≡ ok b)
 bind-ok (ok a) f b e = (a, refl, e)
 bind-ok (refused n i at) f b e = absurd (never-ok e)
+
+pub bind-again : {A B C : Type 0} (x : Answer A) (f : A → Answer B) (g : B → Answer C) → (x >>= f >>= g) ≡ (x >>= λ a. f a >>= g)
+bind-again (ok a) f g = refl
+bind-again (refused n i at) f g = refl
 
 -- the test passed
 pub require-ok : (t : Bool) (n : ℕ) (i : Input) (at : ℕ) (u : Unit {0}) → require t n i at ≡ ok u → t ≡ true

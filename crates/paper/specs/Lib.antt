@@ -24,3 +24,8 @@ pub mod Marked
 pub mod Readings
 pub mod Limits
 pub mod CaseFour
+pub mod Promised
+pub mod Faults
+pub mod Table
+pub mod Demands
+pub mod WrongPrograms

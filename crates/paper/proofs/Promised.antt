@@ -1,0 +1,174 @@
+-- Each public enum has one case for each answer of the paper. So one result keeps the promise of a call, and no second.
+use Prim.Native.Nat.{ℕ}
+use mathlib.Core.Path.{_≡_, refl, sym, ap, _∙_}
+use mathlib.Core.Bool.{Bool, true, false}
+use Rattle.paper.specs.declared.Place.{Place}
+use Rattle.paper.specs.declared.Place.the-variants as P
+use Rattle.paper.specs.declared.Reading.{Reading}
+use Rattle.paper.specs.declared.Reading.the-variants as R
+use Rattle.paper.specs.declared.Checking.{Checking}
+use Rattle.paper.specs.declared.Checking.the-variants as C
+use Rattle.paper.specs.declared.Judgement.{Judgement}
+use Rattle.paper.specs.declared.Judgement.the-variants as J
+use Rattle.paper.specs.declared.Translation.{Translation}
+use Rattle.paper.specs.declared.Translation.the-variants as T
+use Rattle.paper.specs.declared.Loading.{Loading}
+use Rattle.paper.specs.declared.Loading.the-variants as L
+use Rattle.paper.specs.Answers.{Input, inText, inList, inEntry, inBlocks, inBuffer, Answer, ok, refused, inputOf, offsetOf, readingSays, checkingSays, judgementSays, translationSays, loadingSays}
+use Rattle.paper.specs.Calls.{readAnswer, checkAnswer, judgeAnswer, translateAnswer, translateBuffer, loadAnswer, runAnswer}
+use Rattle.paper.specs.Promised.{verdict, Sole, NoSecondResult, CanBeKept}
+
+-- places
+
+abbrev placeAt : Input → ℕ → Place
+placeAt inText at = P.Text at
+placeAt inList at = P.List at
+placeAt inEntry at = P.Entry at
+placeAt inBlocks at = P.Blocks at
+placeAt inBuffer at = P.Buffer at
+
+place-back : (p : Place) → placeAt (inputOf p) (offsetOf p) ≡ p
+place-back (P.Text at) = refl
+place-back (P.List at) = refl
+place-back (P.Entry at) = refl
+place-back (P.Blocks at) = refl
+place-back (P.Buffer at) = refl
+
+refusal-back : {A : Type 0} (n : ℕ) (i : Input) (at : ℕ)
+    → _≡_ {A = Answer A} (refused n (inputOf (placeAt i at)) (offsetOf (placeAt i at))) (refused n i at)
+refusal-back n inText at = refl
+refusal-back n inList at = refl
+refusal-back n inEntry at = refl
+refusal-back n inBlocks at = refl
+refusal-back n inBuffer at = refl
+
+-- an enum with a case for each thing that can be asked for, and one for refusals
+
+data Either {R A : Type 0} (good : A → R) (refusal : ℕ → Place → R) : R → Type 0 where
+  is-good : (a : A) → Either good refusal (good a)
+  is-refusal : (n : ℕ) (p : Place) → Either good refusal (refusal n p)
+
+record Enum {R A : Type 0} (says : R → Answer A) : Type 0 where
+  good : A → R
+  refusal : ℕ → Place → R
+  good-says : (a : A) → says (good a) ≡ ok a
+  refusal-says : (n : ℕ) (p : Place) → says (refusal n p) ≡ refused n (inputOf p) (offsetOf p)
+  either : (r : R) → Either good refusal r
+
+module _ {R A : Type 0} (says : R → Answer A) (e : Enum says) where
+  abbrev back : Answer A → R
+  back (ok a) = e .good a
+  back (refused n i at) = e .refusal n (placeAt i at)
+
+  back-says : (a : Answer A) → says (back a) ≡ a
+  back-says (ok a) = e .good-says a
+  back-says (refused n i at) = e .refusal-says n (placeAt i at) ∙ refusal-back n i at
+
+  says-back : (r : R) → Either (e .good) (e .refusal) r → back (says r) ≡ r
+  says-back r (is-good a) = ap back (e .good-says a)
+  says-back r (is-refusal n p) = ap back (e .refusal-says n p) ∙ ap (e .refusal n) (place-back p)
+
+  same-says : (r s : R) → says r ≡ says s → r ≡ s
+  same-says r s h = sym (says-back r (e .either r)) ∙ ap back h ∙ says-back s (e .either s)
+
+  one-says : (a : Answer A) → Sole (λ r. says r ≡ a)
+  one-says a =
+      record {
+        result = back a;
+        satisfies = back-says a;
+        no-second = λ r h. sym (says-back r (e .either r)) ∙ ap back h;
+      }
+
+readings : Enum readingSays
+readings = record { good = R.Read; refusal = R.Refused; good-says = λ n. refl; refusal-says = λ n p. refl; either = go }
+  where
+    go : (r : Reading) → Either R.Read R.Refused r
+    go (R.Read n) = is-good n
+    go (R.Refused n p) = is-refusal n p
+
+checkings : Enum checkingSays
+checkings = record { good = λ _. C.Passed; refusal = C.Refused; good-says = λ u. refl; refusal-says = λ n p. refl; either = go }
+  where
+    go : (r : Checking) → Either (λ (u : Unit {0}). C.Passed) C.Refused r
+    go C.Passed = is-good tt
+    go (C.Refused n p) = is-refusal n p
+
+judgements : Enum judgementSays
+judgements = record { good = verdict; refusal = J.Refused; good-says = said; refusal-says = λ n p. refl; either = go }
+  where
+    said : (b : Bool) → judgementSays (verdict b) ≡ ok b
+    said true = refl
+    said false = refl
+
+    go : (r : Judgement) → Either verdict J.Refused r
+    go J.Accepted = is-good true
+    go J.Violated = is-good false
+    go (J.Refused n p) = is-refusal n p
+
+translations : Enum translationSays
+translations = record { good = T.Written; refusal = T.Refused; good-says = λ n. refl; refusal-says = λ n p. refl; either = go }
+  where
+    go : (r : Translation) → Either T.Written T.Refused r
+    go (T.Written n) = is-good n
+    go (T.Refused n p) = is-refusal n p
+
+loadings : Enum loadingSays
+loadings = record { good = L.Loaded; refusal = L.Refused; good-says = λ n. refl; refusal-says = λ n p. refl; either = go }
+  where
+    go : (r : Loading) → Either L.Loaded L.Refused r
+    go (L.Loaded n) = is-good n
+    go (L.Refused n p) = is-refusal n p
+
+-- results that say the same are the same
+
+pub checking-same : (r s : Checking) → checkingSays r ≡ checkingSays s → r ≡ s
+checking-same = same-says checkingSays checkings
+
+pub judgement-same : (r s : Judgement) → judgementSays r ≡ judgementSays s → r ≡ s
+judgement-same = same-says judgementSays judgements
+
+pub translation-same : (r s : Translation) → translationSays r ≡ translationSays s → r ≡ s
+translation-same = same-says translationSays translations
+
+pub loading-same : (r s : Loading) → loadingSays r ≡ loadingSays s → r ≡ s
+loading-same = same-says loadingSays loadings
+
+-- calls
+
+pub no-second-result : NoSecondResult
+no-second-result =
+    record {
+      read = λ text. one-says readingSays readings (readAnswer text);
+      check = λ text list. one-says checkingSays checkings (checkAnswer text list);
+      judge = λ text list entry. one-says judgementSays judgements (judgeAnswer text list entry);
+      translate = λ text list buffer.
+          let answer = one-says translationSays translations (translateAnswer text list buffer) in
+          record {
+            result = record { answer = answer .result; buffer = translateBuffer text list buffer };
+            satisfies = record { says = answer .satisfies; holds = refl };
+            no-second = λ r h i. record { answer = answer .no-second (r .answer) (h .says) i; buffer = h .holds i };
+          };
+      load = λ list blocks. one-says loadingSays loadings (loadAnswer list blocks);
+      run = λ list blocks entry. one-says judgementSays judgements (runAnswer list blocks entry);
+    }
+
+pub can-be-kept : CanBeKept
+can-be-kept =
+    let s = no-second-result in (
+      record {
+        read = λ text. s .read text .result;
+        check = λ text list. s .check text list .result;
+        judge = λ text list entry. s .judge text list entry .result;
+        translate = λ text list buffer. s .translate text list buffer .result;
+        load = λ list blocks. s .load list blocks .result;
+        run = λ list blocks entry. s .run list blocks entry .result;
+      },
+      record {
+        read = λ text. s .read text .satisfies;
+        check = λ text list. s .check text list .satisfies;
+        judge = λ text list entry. s .judge text list entry .satisfies;
+        translate = λ text list buffer. s .translate text list buffer .satisfies;
+        load = λ list blocks. s .load list blocks .satisfies;
+        run = λ list blocks entry. s .run list blocks entry .satisfies;
+      },
+    )

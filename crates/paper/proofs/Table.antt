@@ -1,0 +1,149 @@
+-- Each call refuses exactly as the table of numbers says, and passes exactly when no stage has a fault.
+use Prim.Native.Nat.{ℕ, _*_}
+use native.Mathlib.Omega.{arith}
+use mathlib.Core.Path.{_≡_, refl}
+use mathlib.Core.Bool.{true}
+use mathlib.Core.List.{List, [], _∷_, _++_}
+use lib.ListN.{length}
+use lib.Dec.{leb}
+use borrow.Author.Tests.{leb-true, leb-false}
+use Rattle.paper.specs.Answers.{ok, refused, _>>=_, require, inText, inBuffer}
+use Rattle.paper.specs.Tokens.{Token, tokens, mostText}
+use Rattle.paper.specs.Keys.{keys}
+use Rattle.paper.specs.Entry.{entryOf}
+use Rattle.paper.specs.Grammar.{nodes, parsed}
+use Rattle.paper.specs.Types.{typed}
+use Rattle.paper.specs.Meaning.{valueOf, isTrue}
+use Rattle.paper.specs.Blocks.{blockSize, blocksNeeded}
+use Rattle.paper.specs.Loading.{program, loaded, valuesAlong, leftTrue}
+use Rattle.paper.specs.Translating.{codeOf}
+use Rattle.paper.specs.Calls.{sized, tree, Restriction, restriction, readAnswer, checkAnswer, judgeAnswer, translateAnswer, loadAnswer, runAnswer}
+use Rattle.paper.specs.Faults.{Faults, TextSize, text-over, TextTokens, TextGrammar, BufferSize, buffer-short}
+use Rattle.paper.specs.Table.{Free, stage, Given, sizeStages, listStages, treeStages, typeStages, bufferStages, blockStages, entryStages, readStages, checkStages, judgeStages, translateStages, loadStages, runStages, TableHolds}
+use Rattle.paper.proofs.Carried.{passing}
+use Rattle.paper.proofs.Refusals.{parsed-is-right}
+use Rattle.paper.proofs.Staged.{Tells, test-tells, exact-tells, given-tells, Follows, follows-one, follows-as, follows-then, by-table}
+use Rattle.paper.proofs.ListFaults.{list-follows}
+use Rattle.paper.proofs.TokenFaults.{tokens-tell}
+use Rattle.paper.proofs.TypeFaults.{types-follow}
+use Rattle.paper.proofs.EntryFaults.{entry-follows}
+use Rattle.paper.proofs.CodeFaults.{blocks-follow, load-follows}
+
+-- 1
+
+text-free : (text : List ℕ) → leb (length text) mostText ≡ true → Free (TextSize text)
+text-free text h n at (text-over l) = let e = leb-true (length text) mostText h in omega arith
+
+text-only : (text : List ℕ) (m to : ℕ) → TextSize text m to → (m ≡ 1) × (to ≡ mostText)
+text-only text m to (text-over l) = (refl, refl)
+
+size-follows : (text : List ℕ) → Follows (sizeStages text) (sized text)
+size-follows text =
+    follows-one inText (TextSize text) (sized text)
+    (test-tells (TextSize text) (leb (length text) mostText) 1 inText mostText (text-free text)
+    (λ h. text-over (leb-false (length text) mostText h)) (text-only text))
+
+-- 5 to 7; 8 to 10
+
+grammar-tells : (size : ℕ) (ts : List Token) → Tells inText (TextGrammar size ts) (parsed size ts)
+grammar-tells size ts =
+    exact-tells inText (TextGrammar size ts) (parsed size ts)
+    (λ n j at e. let (us, stops, same, place) = parsed-is-right size ts (refused n j at) .0 e in (same, (us, stops, place)))
+    (λ n at (us, stops, place). parsed-is-right size ts (refused n inText at) .1 (us, stops, refl, place))
+
+tree-follows : (text : List ℕ) → Follows (treeStages text) (tree text)
+unfolding tree
+tree-follows text =
+    let grammar = TextGrammar (length text) in
+    follows-then (stage inText (TextTokens text) ∷ []) (stage inText (Given (tokens text) grammar) ∷ []) (tokens text)
+    (parsed (length text))
+    (follows-one inText (TextTokens text) (tokens text) (tokens-tell text))
+    (λ ts cut.
+    follows-one inText (Given (tokens text) grammar) (parsed (length text) ts)
+    (given-tells (tokens text) ts cut grammar inText (parsed (length text) ts) (grammar-tells (length text) ts)))
+
+-- up to 14
+restriction-follows : (text list : List ℕ) → Follows (checkStages text list) (restriction text list)
+unfolding restriction
+restriction-follows text list =
+    follows-then (sizeStages text) _ (sized text) _ (size-follows text)
+    (λ _ _.
+    follows-then (listStages list) _ (keys list) _ (list-follows list)
+    (λ ks listed.
+    follows-then (treeStages text) (typeStages text list) (tree text) (λ t. typed ks t >>= λ _. ok (record { keys = ks; root = t }))
+    (tree-follows text)
+    (λ t read.
+    follows-as (typeStages text list) (typed ks t) (λ _. record { keys = ks; root = t }) (types-follow text list ks t listed read))))
+
+-- 15
+
+module _ (r : Restriction) (buffer : List ℕ) where
+  abbrev count : ℕ
+  count = length (codeOf (r .keys) (r .root))
+
+  abbrev bytesNeeded : ℕ
+  bytesNeeded = blockSize * blocksNeeded count
+
+  buffer-free : leb bytesNeeded (length buffer) ≡ true → Free (BufferSize r buffer)
+  buffer-free h n at (buffer-short l) = let e = leb-true bytesNeeded (length buffer) h in omega arith
+
+  buffer-only : (m to : ℕ) → BufferSize r buffer m to → (m ≡ 15) × (to ≡ length buffer)
+  buffer-only m to (buffer-short l) = (refl, refl)
+
+  buffer-tells : Tells inBuffer (BufferSize r buffer) (require (leb bytesNeeded (length buffer)) 15 inBuffer (length buffer))
+  buffer-tells =
+      test-tells (BufferSize r buffer) (leb bytesNeeded (length buffer)) 15 inBuffer (length buffer) buffer-free
+      (λ h. buffer-short (leb-false bytesNeeded (length buffer) h)) buffer-only
+
+-- the calls
+
+read-follows : (text : List ℕ) → Follows (readStages text) (readAnswer text)
+unfolding readAnswer
+read-follows text =
+    follows-then (sizeStages text) (treeStages text) (sized text) (λ _. tree text >>= λ t. ok (nodes t)) (size-follows text)
+    (λ _ _. follows-as (treeStages text) (tree text) nodes (tree-follows text))
+
+check-follows : (text list : List ℕ) → Follows (checkStages text list) (checkAnswer text list)
+unfolding checkAnswer
+check-follows text list = follows-as (checkStages text list) (restriction text list) (λ _. tt) (restriction-follows text list)
+
+judge-follows : (text list entry : List ℕ) → Follows (judgeStages text list entry) (judgeAnswer text list entry)
+unfolding judgeAnswer
+judge-follows text list entry =
+    follows-then (checkStages text list) (entryStages list entry) (restriction text list) _ (restriction-follows text list)
+    (λ r passed.
+    follows-as (entryStages list entry) (entryOf (r .keys) entry) (λ e. isTrue (valueOf (r .keys) e (r .root)))
+    (entry-follows list (r .keys) entry (passing text list r passed .listed)))
+
+translate-follows : (text list buffer : List ℕ) → Follows (translateStages text list buffer) (translateAnswer text list buffer)
+unfolding translateAnswer
+translate-follows text list buffer =
+    let size : Restriction → Faults = λ r. BufferSize r buffer in
+    follows-then (checkStages text list) (bufferStages text list buffer) (restriction text list) _ (restriction-follows text list)
+    (λ r passed.
+    let room = require (leb (bytesNeeded r buffer) (length buffer)) 15 inBuffer (length buffer) in
+    follows-as (bufferStages text list buffer) room (λ _. count r buffer)
+    (follows-one inBuffer (Given (restriction text list) size) room
+    (given-tells (restriction text list) r passed size inBuffer room (buffer-tells r buffer))))
+
+run-follows : (list blocks entry : List ℕ) → Follows (runStages list blocks entry) (runAnswer list blocks entry)
+unfolding runAnswer
+run-follows list blocks entry =
+    follows-then (listStages list) (blockStages list blocks ++ entryStages list entry) (keys list) _ (list-follows list)
+    (λ ks listed.
+    follows-then (blockStages list blocks) (entryStages list entry) (loaded ks blocks) _ (blocks-follow list ks blocks listed)
+    (λ _ _.
+    follows-as (entryStages list entry) (entryOf ks entry) (λ e. leftTrue (valuesAlong ks e (program blocks)))
+    (entry-follows list ks entry listed)))
+
+pub table-holds : TableHolds
+table-holds =
+    record {
+      read = λ text. by-table (readStages text) (readAnswer text) (read-follows text);
+      check = λ text list. by-table (checkStages text list) (checkAnswer text list) (check-follows text list);
+      judge = λ text list entry. by-table (judgeStages text list entry) (judgeAnswer text list entry) (judge-follows text list entry);
+      translate = λ text list buffer.
+          by-table (translateStages text list buffer) (translateAnswer text list buffer) (translate-follows text list buffer);
+      load = λ list blocks. by-table (loadStages list blocks) (loadAnswer list blocks) (load-follows list blocks);
+      run = λ list blocks entry. by-table (runStages list blocks entry) (runAnswer list blocks entry) (run-follows list blocks entry);
+    }

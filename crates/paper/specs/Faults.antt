@@ -1,0 +1,138 @@
+-- 01, "Refusal numbers", the table row by row: what each number is given for, and the offset that it stands at.
+use Prim.Native.Nat.{ℕ, suc, _+_, _*_, _-_, _/_, _%_, _^_, _≤_, _<_}
+use mathlib.Core.Path.{_≡_}
+use mathlib.Core.Logic.{_≢_}
+use mathlib.Core.Bool.{false}
+use mathlib.Core.Option.{Option, none, some}
+use mathlib.Core.List.{List, [], _∷_, _++_}
+use lib.ListN.{length, drop, getElem?}
+use Rattle.paper.specs.Answers.{ok}
+use Rattle.paper.specs.Numbers.{byteAt}
+use Rattle.paper.specs.Tokens.{bytes, Prefix, Join, Comparison, Tok, Token, Scan, blank, token, noToken, tooLarge, scan, mostTokens, mostText}
+use Rattle.paper.specs.Keys.{Key, recordSize, mostKeys, recordAt, nameOf, recordOk, find}
+use Rattle.paper.specs.Entry.{headSize, matchSize, matchAt, matchOk, priorityOf}
+use Rattle.paper.specs.Grammar.{Tree, key, field, attribute, prefixed, joined, compared, placeOf}
+use Rattle.paper.specs.Sentences.{Stops, placeFrom}
+use Rattle.paper.specs.Types.{Ty, bool, andThen, fieldNamed, fieldType, prefixType, joinType, comparisonType, typeOf}
+use Rattle.paper.specs.Code.{Instruction, act, ends, typeAction, actionOf}
+use Rattle.paper.specs.Blocks.{blockSize, mostBlocks, blocksNeeded, blockOk}
+use Rattle.paper.specs.Loading.{instructionAt, program, typesAlong}
+use Rattle.paper.specs.Translating.{codeOf}
+use Rattle.paper.specs.Calls.{Restriction}
+
+-- a number, and an offset in the input of its stage
+abbrev pub Faults : Type 1
+Faults = ℕ → ℕ → Type 0
+
+-- 1: "text over 4,096 bytes"; text 4096
+pub data TextSize (text : List ℕ) : ℕ → ℕ → Type 0 where
+  text-over : mostText < length text → TextSize text 1 mostText
+
+-- 2: "key list length not a multiple of 80, or over 2,560"; list, its length
+pub data ListSize (list : List ℕ) : ℕ → ℕ → Type 0 where
+  list-uneven : length list % recordSize ≢ 0 → ListSize list 2 (length list)
+  list-over : mostKeys * recordSize < length list → ListSize list 2 (length list)
+
+abbrev pub recordsIn : List ℕ → ℕ
+recordsIn list = length list / recordSize
+
+-- 3: "a key record breaks its layout"; record's first byte
+-- 4: "a name repeats an earlier one"; later record's first byte
+pub data ListRecords (list : List ℕ) : ℕ → ℕ → Type 0 where
+  record-broken : (k : ℕ) → k < recordsIn list → recordOk (recordAt list k) ≡ false → ListRecords list 3 (k * recordSize)
+  name-repeated : (j k : ℕ) → j < k → k < recordsIn list → nameOf (recordAt list j) ≡ nameOf (recordAt list k)
+      → ListRecords list 4 (k * recordSize)
+
+-- what stands at an offset that no token before it covers
+abbrev pub scanAt : List ℕ → ℕ → Scan
+scanAt text at = scan (byteAt text at) (drop (suc at) text)
+
+-- the bytes before an offset are blanks and these tokens, each "the longest possible from the left"
+pub data Cut (text : List ℕ) : ℕ → List Token → Type 0 where
+  at-start : Cut text 0 []
+  a-blank : {at : ℕ} {ts : List Token} (n : ℕ) → Cut text at ts → at < length text → scanAt text at ≡ blank n
+      → Cut text (suc at + n) ts
+  a-token : {at : ℕ} {ts : List Token} (k : Tok) (n : ℕ) → Cut text at ts → at < length text → scanAt text at ≡ token k n
+      → Cut text (suc at + n) (ts ++ (record { at = at; tok = k } ∷ []))
+
+-- up to the end, into at most 1,024
+abbrev pub Cuts : List ℕ → List Token → Type 0
+Cuts text ts = (end : ℕ) × Cut text end ts × (length text ≤ end) × (length ts ≤ mostTokens)
+
+-- 5: "bytes that form no token"; text, first such byte
+-- 6: "a numeral above 2^128 − 1"; its first byte
+-- 7: "a 1,025th token"; its first byte
+pub data TextTokens (text : List ℕ) : ℕ → ℕ → Type 0 where
+  no-token : {at : ℕ} {ts : List Token} → Cut text at ts → length ts ≤ mostTokens → at < length text → scanAt text at ≡ noToken
+      → TextTokens text 5 at
+  numeral-large : {at : ℕ} {ts : List Token} → Cut text at ts → length ts ≤ mostTokens → at < length text → scanAt text at ≡ tooLarge
+      → TextTokens text 6 at
+  one-more-token : {at : ℕ} {ts : List Token} (k : Tok) (n : ℕ) → Cut text at ts → length ts ≡ mostTokens → at < length text
+      → scanAt text at ≡ token k n → TextTokens text 7 at
+
+-- 8, 9, 10: those of Sentences; the token, or the text's length
+abbrev pub TextGrammar : ℕ → List Token → Faults
+TextGrammar size ts n at = (us : List Token) × Stops ts us n × (at ≡ placeFrom size us)
+
+-- 11: "unknown key"; its token
+-- 12: "unknown field for that kind, or unknown attribute"; the field or attribute name
+-- 13: "operator with wrong operand types"; operator. "An operator is judged only when its operands have types."
+pub data TreeTypes (ks : List Key) : Tree → ℕ → ℕ → Type 0 where
+  key-unknown : {w : List ℕ} (at : ℕ) → find ks w ≡ none → TreeTypes ks (key at w) 11 at
+  key-of-field-unknown : {w f : List ℕ} (at to : ℕ) → find ks w ≡ none → TreeTypes ks (field at w to f) 11 at
+  field-unknown : {w f : List ℕ} (at to k : ℕ) → find ks w ≡ some k → andThen (fieldNamed f) (λ g. fieldType ks g k) ≡ none
+      → TreeTypes ks (field at w to f) 12 to
+  attribute-unknown : {f : List ℕ} (at to : ℕ) → f ≢ bytes "priority" → TreeTypes ks (attribute at to f) 12 to
+  prefix-wrong : {t : Tree} (at : ℕ) (o : Prefix) (a : Ty) → typeOf ks t ≡ ok a → prefixType o a ≡ none
+      → TreeTypes ks (prefixed at o t) 13 at
+  join-wrong : {l r : Tree} (at : ℕ) (o : Join) (a b : Ty) → typeOf ks l ≡ ok a → typeOf ks r ≡ ok b → joinType a b ≡ none
+      → TreeTypes ks (joined at o l r) 13 at
+  comparison-wrong : {l r : Tree} (at : ℕ) (c : Comparison) (a b : Ty) → typeOf ks l ≡ ok a → typeOf ks r ≡ ok b
+      → comparisonType c a b ≡ none → TreeTypes ks (compared at c l r) 13 at
+  in-operand : {t : Tree} {n to : ℕ} (at : ℕ) (o : Prefix) → TreeTypes ks t n to → TreeTypes ks (prefixed at o t) n to
+  join-left : {l r : Tree} {n to : ℕ} (at : ℕ) (o : Join) → TreeTypes ks l n to → TreeTypes ks (joined at o l r) n to
+  join-right : {l r : Tree} {n to : ℕ} (at : ℕ) (o : Join) → TreeTypes ks r n to → TreeTypes ks (joined at o l r) n to
+  comparison-left : {l r : Tree} {n to : ℕ} (at : ℕ) (c : Comparison) → TreeTypes ks l n to → TreeTypes ks (compared at c l r) n to
+  comparison-right : {l r : Tree} {n to : ℕ} (at : ℕ) (c : Comparison) → TreeTypes ks r n to → TreeTypes ks (compared at c l r) n to
+
+-- 14: "whole text not bool"; root's place
+pub data RootType (ks : List Key) (t : Tree) : ℕ → ℕ → Type 0 where
+  not-bool : (a : Ty) → typeOf ks t ≡ ok a → a ≢ bool → RootType ks t 14 (placeOf t)
+
+-- 15: "lent buffer below the bytes needed"; buffer, its length
+pub data BufferSize (r : Restriction) (buffer : List ℕ) : ℕ → ℕ → Type 0 where
+  buffer-short : length buffer < blockSize * blocksNeeded (length (codeOf (r .keys) (r .root)))
+      → BufferSize r buffer 15 (length buffer)
+
+-- 16: "blocks: length 0, no multiple of 512, or over 82 blocks"; blocks, length
+pub data BlocksSize (blocks : List ℕ) : ℕ → ℕ → Type 0 where
+  no-blocks : length blocks ≡ 0 → BlocksSize blocks 16 (length blocks)
+  blocks-uneven : length blocks % blockSize ≢ 0 → BlocksSize blocks 16 (length blocks)
+  blocks-over : mostBlocks * blockSize < length blocks → BlocksSize blocks 16 (length blocks)
+
+abbrev pub blocksIn : List ℕ → ℕ
+blocksIn blocks = length blocks / blockSize
+
+-- 17: "a block breaks its layout"; its first byte
+pub data BlocksLayout (keys : ℕ) (blocks : List ℕ) : ℕ → ℕ → Type 0 where
+  block-broken : (k : ℕ) → k < blocksIn blocks → blockOk keys blocks k (blocksIn blocks - suc k) ≡ false
+      → BlocksLayout keys blocks 17 (k * blockSize)
+
+-- 18: "an instruction fails the load check"; its first byte, or length at the end. The instructions before it pass, and hold types
+-- on which it does not act; or all pass, and what is held at the end is not one bool
+pub data BlocksCode (ks : List Key) (blocks : List ℕ) : ℕ → ℕ → Type 0 where
+  instruction-fails : (front : List (Option Instruction)) (i : Option Instruction) (rest : List (Option Instruction)) (held : List Ty)
+      → program blocks ≡ front ++ (i ∷ rest) → typesAlong ks front ≡ ends held → act (actionOf (typeAction ks) i) held ≡ none
+      → BlocksCode ks blocks 18 (instructionAt (length front))
+  end-not-bool : (held : List Ty) → typesAlong ks (program blocks) ≡ ends held → held ≢ bool ∷ []
+      → BlocksCode ks blocks 18 (length blocks)
+
+-- 19: "entry length wrong"; entry, length
+pub data EntrySize (ks : List Key) (entry : List ℕ) : ℕ → ℕ → Type 0 where
+  entry-wrong : length entry ≢ headSize + matchSize * length ks → EntrySize ks entry 19 (length entry)
+
+-- 20: "priority or a key's entry record breaks its rule"; first byte of it
+pub data EntryRules (ks : List Key) (entry : List ℕ) : ℕ → ℕ → Type 0 where
+  priority-broken : 2 ^ 31 ≤ priorityOf entry → EntryRules ks entry 20 0
+  match-broken : (k : ℕ) (x : Key) → getElem? ks k ≡ some x → matchOk x (matchAt entry k) ≡ false
+      → EntryRules ks entry 20 (headSize + k * matchSize)

@@ -1,0 +1,80 @@
+-- 01, "Holding the promises to account": "Each public function states its result in full for all inputs, and what each lent byte
+-- holds afterwards, refused calls included. .. Show that no second result satisfies it".
+use Prim.Native.Nat.{ℕ}
+use mathlib.Core.Path.{_≡_}
+use mathlib.Core.Bool.{Bool, true, false}
+use mathlib.Core.List.{List}
+use Rattle.paper.specs.declared.Reading.{Reading}
+use Rattle.paper.specs.declared.Checking.{Checking}
+use Rattle.paper.specs.declared.Judgement.{Judgement}
+use Rattle.paper.specs.declared.Judgement.the-variants as J
+use Rattle.paper.specs.declared.Translation.{Translation}
+use Rattle.paper.specs.declared.Loading.{Loading}
+use Rattle.paper.specs.Answers.{readingSays, checkingSays, judgementSays, translationSays, loadingSays}
+use Rattle.paper.specs.Calls.{readAnswer, checkAnswer, judgeAnswer, translateAnswer, translateBuffer, loadAnswer, runAnswer}
+
+-- what is promised of the result of each call, for the bytes that are lent to it
+
+abbrev pub ReadPromised : List ℕ → Reading → Type 0
+ReadPromised text r = readingSays r ≡ readAnswer text
+
+abbrev pub CheckPromised : List ℕ → List ℕ → Checking → Type 0
+CheckPromised text list r = checkingSays r ≡ checkAnswer text list
+
+abbrev pub JudgePromised : List ℕ → List ℕ → List ℕ → Judgement → Type 0
+JudgePromised text list entry r = judgementSays r ≡ judgeAnswer text list entry
+
+-- what `translate` returns, and what the buffer holds at its exit
+pub record TranslateResult : Type 0 where
+  pub answer : Translation
+  pub buffer : List ℕ
+
+pub record TranslatePromised (text list buffer : List ℕ) (r : TranslateResult) : Type 0 where
+  pub says : translationSays (r .answer) ≡ translateAnswer text list buffer
+  pub holds : r .buffer ≡ translateBuffer text list buffer
+
+abbrev pub LoadPromised : List ℕ → List ℕ → Loading → Type 0
+LoadPromised list blocks r = loadingSays r ≡ loadAnswer list blocks
+
+abbrev pub RunPromised : List ℕ → List ℕ → List ℕ → Judgement → Type 0
+RunPromised list blocks entry r = judgementSays r ≡ runAnswer list blocks entry
+
+abbrev pub verdict : Bool → Judgement
+verdict true = J.Accepted
+verdict false = J.Violated
+
+-- one result satisfies it, and no second
+pub record Sole {R : Type 0} (Promised : R → Type 0) : Type 0 where
+  pub result : R
+  pub satisfies : Promised result
+  pub no-second : (r : R) → Promised r → r ≡ result
+
+pub record NoSecondResult : Type 0 where
+  pub read : (text : List ℕ) → Sole (ReadPromised text)
+  pub check : (text list : List ℕ) → Sole (CheckPromised text list)
+  pub judge : (text list entry : List ℕ) → Sole (JudgePromised text list entry)
+  pub translate : (text list buffer : List ℕ) → Sole (TranslatePromised text list buffer)
+  pub load : (list blocks : List ℕ) → Sole (LoadPromised list blocks)
+  pub run : (list blocks entry : List ℕ) → Sole (RunPromised list blocks entry)
+
+-- the six calls as programs: any that return such results, and those that keep their promises on all inputs
+
+pub record Programs : Type 0 where
+  pub read : List ℕ → Reading
+  pub check : List ℕ → List ℕ → Checking
+  pub judge : List ℕ → List ℕ → List ℕ → Judgement
+  pub translate : List ℕ → List ℕ → List ℕ → TranslateResult
+  pub load : List ℕ → List ℕ → Loading
+  pub run : List ℕ → List ℕ → List ℕ → Judgement
+
+pub record Kept (p : Programs) : Type 0 where
+  pub read : (text : List ℕ) → ReadPromised text (p .read text)
+  pub check : (text list : List ℕ) → CheckPromised text list (p .check text list)
+  pub judge : (text list entry : List ℕ) → JudgePromised text list entry (p .judge text list entry)
+  pub translate : (text list buffer : List ℕ) → TranslatePromised text list buffer (p .translate text list buffer)
+  pub load : (list blocks : List ℕ) → LoadPromised list blocks (p .load list blocks)
+  pub run : (list blocks entry : List ℕ) → RunPromised list blocks entry (p .run list blocks entry)
+
+-- there are such programs
+abbrev pub CanBeKept : Type 0
+CanBeKept = (p : Programs) × Kept p

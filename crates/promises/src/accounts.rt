@@ -1,0 +1,29 @@
+// The promises of the six public calls, held to account.
+ghost use Rattle.paper.specs.Promised.{NoSecondResult, CanBeKept};
+ghost use Rattle.paper.specs.WrongPrograms.{WrongProgramsFail, NoWrongProgram, PaddingSeen};
+
+// For all inputs one result keeps the promise of a call, and no second; of `translate`, one answer with one buffer at exit.
+pub fn no_second_result()
+    ensures { λ _. ⌜ NoSecondResult ⌝ }
+{}
+
+// There are programs that keep them all.
+pub fn promises_can_be_kept()
+    ensures { λ _. ⌜ CanBeKept ⌝ }
+{}
+
+// A judge that refuses or accepts everything, a translator that writes nothing or only the first part, a loader that passes nothing or all
+// that is laid out well: each fails a demand, or refusal 18.
+pub fn wrong_programs_fail()
+    ensures { λ _. ⌜ WrongProgramsFail ⌝ }
+{}
+
+// So none of them keeps the promises, nor one that invents its count of instructions.
+pub fn no_wrong_program_keeps_them()
+    ensures { λ _. ⌜ NoWrongProgram ⌝ }
+{}
+
+// The first part of `true; v == 0`, padded with true: its blocks load, and run to another answer than the text has.
+pub fn padding_is_seen()
+    ensures { λ _. ⌜ PaddingSeen ⌝ }
+{}

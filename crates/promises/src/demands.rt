@@ -1,0 +1,21 @@
+// The demands, each as one statement: programs that keep the promises of the six public calls meet it.
+ghost use Rattle.paper.specs.Demands.{DemandOneMet, DemandTwoMet, DemandThreeMet};
+
+// Every input gets an answer. A refusal has a number from 1 to 20 and a place in an input that was lent, or at its length; and it changes
+// no byte of the buffer.
+pub fn every_input_is_answered()
+    ensures { λ _. ⌜ DemandOneMet ⌝ }
+{}
+
+// An entry is refused exactly when the text is over a limit, ill-formed or ill-typed, or the list or the entry does not conform; else it is
+// accepted exactly when the restriction holds of it.
+pub fn judged_as_the_text_means()
+    ensures { λ _. ⌜ DemandTwoMet ⌝ }
+{}
+
+// A text that passes is translated; its blocks load with the count returned, and say of every entry what the text says, refusals included.
+// All blocks that load, whoever made them, run on every conforming entry to accepted or violated, each instruction once, never missing an
+// operand, never holding more than 384 values.
+pub fn blocks_say_what_the_text_says()
+    ensures { λ _. ⌜ DemandThreeMet ⌝ }
+{}

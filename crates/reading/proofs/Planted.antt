@@ -1,7 +1,7 @@
 -- From the answers of `tokenize` and `parse` to the tree of the text.
 use Prim.Native.Nat.{ℕ, _+_, _*_, _-_, _≤_}
 use native.Mathlib.Omega.{arith}
-use mathlib.Core.Path.{_≡_, sym, _∙_, ap, subst}
+use mathlib.Core.Path.{_≡_, refl, sym, _∙_, ap, subst}
 use mathlib.Core.List.{List}
 use lib.ListN.{length, take, drop}
 use lib.Seq.{sets, sets-eq, take-at}
@@ -25,7 +25,11 @@ use Rattle.trees.specs.Standing.{treeAt, Stands}
 use Rattle.trees.specs.Words.{tapeOf}
 use Rattle.trees.proofs.Plans.{words-length, stands, size-pos}
 use Rattle.trees.proofs.Grown.{size-nodes, small-of, same-tree}
-use Rattle.reading.specs.Grown.{Planted}
+use Rattle.reading.specs.Grown.{Room, Planted}
+
+-- scratch of these sizes is room enough
+pub room : Room 1024 1024 1024 4096 7168
+room = record { tokens = record { kinds = refl; starts = refl; ends = refl }; limbs = refl; nodes = refl }
 
 -- the words of a plan, stored from the first on, stand there
 stored-stands : (nodes after : List ℕ) (p : Plan) → size p * 7 ≤ length nodes → after ≡ sets nodes 0 (words 0 p) → Stands after 0 p

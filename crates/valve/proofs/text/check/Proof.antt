@@ -1,3 +1,4 @@
+use Rattle.reading.proofs.Planted.{room}
 use Rattle.valve.proofs.Texts.{not-checked, is-checked}
 use borrow.Author.Needs.{needs}
 use Rattle.valve.proofs.text.check.Statement.{statement}
@@ -22,7 +23,7 @@ check-spec =
     (λ c. search needs)
     (λ c. search needs)
     (λ c. search needs)
-    (λ c κs. search needs)
+    (λ c κs. room)
     (λ c. search needs)
     (λ c. search needs)
     returns

@@ -1,3 +1,4 @@
+use Rattle.reading.proofs.Planted.{room}
 use Rattle.valve.proofs.Texts.{too-long, not-read, is-read}
 use borrow.Author.Needs.{needs}
 use Rattle.valve.proofs.text.read.Statement.{statement}
@@ -27,7 +28,7 @@ read-spec =
     (λ c. search needs)
     (λ c. search needs)
     (λ c. search needs)
-    (λ c κs. search needs)
+    (λ c κs. (c .before .before .before .before .before .if1 .left, room))
     (λ c. search needs)
     (λ c. search needs)
     returns-2

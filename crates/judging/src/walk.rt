@@ -31,20 +31,21 @@ pub fn value_at(
     if kind < 5 {
         return leaf::leaf_value(text, kinds, starts, ends, list, entry, nodes, at);
     }
-    if kind < 7 {
-        if at == 0 {
-            return Cell::truth(false);
-        }
-        return operator::prefix_value(
-            kind,
-            value_at(text, kinds, starts, ends, list, entry, nodes, at - 1),
-        );
-    }
-    let left = n.left;
-    if at <= left {
+    // One call for the first operand of either sort: each call site costs every frame of the walk the slices' pairs again.
+    let first = trees::first_operand(kind, n.left, at);
+    if at <= first {
         return Cell::truth(false);
     }
-    let a = value_at(text, kinds, starts, ends, list, entry, nodes, left);
-    let b = value_at(text, kinds, starts, ends, list, entry, nodes, at - 1);
+    let a = value_at(text, kinds, starts, ends, list, entry, nodes, first);
+    if kind < 7 {
+        return operator::prefix_value(kind, a);
+    }
+    let right = at - 1;
+    // A right operand is mostly a leaf, which needs no frame of the walk.
+    if Node::read(nodes, right).kind < 5 {
+        let leaf = leaf::leaf_value(text, kinds, starts, ends, list, entry, nodes, right);
+        return operator::operator_value(kind, a, leaf);
+    }
+    let b = value_at(text, kinds, starts, ends, list, entry, nodes, right);
     operator::operator_value(kind, a, b)
 }

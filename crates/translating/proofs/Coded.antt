@@ -6,6 +6,8 @@ use mathlib.Core.Option.{Option, none, some}
 use mathlib.Core.List.{List, [], _∷_, _++_, append-nil}
 use lib.ListN.{length, length-append}
 use lib.Dec.{eqb, ltb}
+use native.Mathlib.Omega.{arith}
+use borrow.Author.Tests.{ltb-true, ltb-false, lt-ltb, le-ltb}
 use Rattle.paper.specs.Keys.{Key, find}
 use Rattle.paper.specs.Tokens.{Join, Comparison}
 use Rattle.paper.specs.Grammar as G
@@ -17,12 +19,12 @@ use Rattle.paper.specs.Translating.{hasType, changed, conversion, meeting, oper
 use Rattle.tokens.specs.Tape.{Tape}
 use Rattle.grammar.specs.Plan.{placeOn, wordOn}
 use Rattle.trees.specs.Reading.{NodeOf}
-use Rattle.trees.specs.Standing.{siteAt, prefixOf, joinOf, comparisonOf, leafOn, twoOn, treeAt}
+use Rattle.trees.specs.Standing.{firstOperand, siteAt, prefixOf, joinOf, comparisonOf, leafOn, twoOn, stray, treeAt}
 use Rattle.trees.specs.declared.Node.{Node}
 use Rattle.trees.proofs.Leaves.{is-truth, is-number, is-key, is-field, is-attribute}
 use Rattle.trees.proofs.Walks.{at-leaf, at-one, at-two, at-first, at-stray}
 use Rattle.translating.specs.Writing.{changeMeant}
-use Rattle.translating.specs.Operators.{operator, Changing}
+use Rattle.translating.specs.Operators.{operator, meetingOf, Changing}
 use Rattle.translating.specs.declared.change.Changes.{Changes}
 
 -- operands that meet in no type stay as they are
@@ -53,6 +55,25 @@ module _ (ks : List Key) (w : List ℕ) where
     pub field-known : (k : ℕ) (g : Field) → find ks w ≡ some k → fieldNamed f ≡ some g → pushField g k ∷ [] ≡ codeOf ks (G.field 0 w 0 f)
     unfolding codeOf
     field-known k g h e = rw (h, e)
+
+-- two operands, each with its conversion behind it, and the operator
+
+module _ (ks : List Key) where
+  abbrev between : Tree → Tree → List Instruction → List Instruction → Instruction → List Instruction
+  between l r a b x = codeOf ks l ++ a ++ codeOf ks r ++ b ++ (x ∷ [])
+
+  between-length : (l r : Tree) (a b : List Instruction) (x : Instruction) →
+      length (between l r a b x) ≡ length (codeOf ks l) + length a + length (codeOf ks r) + length b + 1
+  between-length l r a b x = simp length-append
+
+  two-of : (t : Bool) (l r : Tree) (at : ℕ) (o : Join) (c : Comparison) →
+      between l r (conversion ks l (cond t none (meeting ks l r))) (conversion ks r (cond t none (meeting ks l r)))
+      (cond t (connects (connective o)) (compare c))
+      ≡ codeOf ks (cond t (G.joined at o l r) (G.compared at c l r))
+  unfolding codeOf
+  two-of true l r at o c =
+      rw (changed-none (hasType (typeOf ks l)), changed-none (hasType (typeOf ks r)), append-nil (codeOf ks l), append-nil (codeOf ks l ++ codeOf ks r))
+  two-of false l r at o c = refl
 
 module _ (ks : List Key) (T : Tape) (nodes : List ℕ) (i : ℕ) (n : Node) (read : NodeOf nodes i n) where
   -- leaves
@@ -91,57 +112,77 @@ module _ (ks : List Key) (T : Tape) (nodes : List ℕ) (i : ℕ) (n : Node) (rea
   pub leaf-code : n .kind < 5 → codeOf ks (leafOn T (siteAt nodes i)) ≡ codeOf ks (treeAt T nodes i)
   leaf-code h = ap (codeOf ks) (sym (at-leaf T nodes i (rw (← read .kind) h)))
 
-  -- prefix operators
-  module _ (lo : 5 ≤ n .kind) (hi : n .kind < 7) where
-    pub first-code : i ≡ 0 → pushBool false ∷ [] ≡ codeOf ks (treeAt T nodes i)
+  -- operators, by the node of their first operand
+  module _ (first : ℕ) (named : first ≡ firstOperand (n .kind) (n .left) i) (lo : 5 ≤ n .kind) where
+    is-only : n .kind < 7 → first ≡ i - 1
+    is-only h = named ∙ ap (λ (b : Bool). cond b (i - 1) (n .left)) (lt-ltb (n .kind) 7 h)
+
+    is-left : 7 ≤ n .kind → first ≡ siteAt nodes i .left
+    is-left h = named ∙ ap (λ (b : Bool). cond b (i - 1) (n .left)) (le-ltb (n .kind) 7 h) ∙ read .left
+
+    is-stray : i ≤ first → (b : Bool) → ltb (n .kind) 7 ≡ b → treeAt T nodes i ≡ stray
+    is-stray h true p =
+        let hi = ltb-true (n .kind) 7 p in
+        at-first T nodes i (rw (← read .kind) lo) (rw (← read .kind) hi) (omega (arith, h, is-only hi))
+    is-stray h false p =
+        let two = ltb-false (n .kind) 7 p in
+        at-stray T nodes i (rw (← read .kind) two) (rw (← is-left two) h)
+
+    pub stray-code : i ≤ first → pushBool false ∷ [] ≡ codeOf ks (treeAt T nodes i)
     unfolding codeOf
-    first-code e = ap (codeOf ks) (sym (at-first T nodes i (rw (← read .kind) lo) (rw (← read .kind) hi) e))
+    stray-code h = ap (codeOf ks) (sym (is-stray h (ltb (n .kind) 7) refl))
 
-    pub one-code : 0 < i → codeOf ks (treeAt T nodes (i - 1)) ++ (operation (prefixOf (n .kind)) ∷ []) ≡ codeOf ks (treeAt T nodes i)
-    unfolding codeOf
-    one-code p =
-        ap (λ (k : ℕ). codeOf ks (treeAt T nodes (i - 1)) ++ (operation (prefixOf k) ∷ [])) (read .kind)
-        ∙ ap (codeOf ks) (sym (at-one T nodes i (rw (← read .kind) lo) (rw (← read .kind) hi) p))
-
-    pub one-length : 0 < i → length (codeOf ks (treeAt T nodes i)) ≡ length (codeOf ks (treeAt T nodes (i - 1))) + 1
-    one-length p = sym (ap length (one-code p)) ∙ length-append (codeOf ks (treeAt T nodes (i - 1))) (operation (prefixOf (n .kind)) ∷ [])
-
-  -- operators with two operands
-  module _ (lo : 7 ≤ n .kind) where
-    pub stray-code : i ≤ n .left → pushBool false ∷ [] ≡ codeOf ks (treeAt T nodes i)
-    unfolding codeOf
-    stray-code h = ap (codeOf ks) (sym (at-stray T nodes i (rw (← read .kind) lo) (rw (← read .left) h)))
-
-    abbrev between : Tree → Tree → List Instruction → List Instruction → Instruction → List Instruction
-    between l r a b x = codeOf ks l ++ a ++ codeOf ks r ++ b ++ (x ∷ [])
-
-    two-of : (t : Bool) (l r : Tree) (at : ℕ) (o : Join) (c : Comparison) →
-        between l r (conversion ks l (cond t none (meeting ks l r))) (conversion ks r (cond t none (meeting ks l r)))
-        (cond t (connects (connective o)) (compare c))
-        ≡ codeOf ks (cond t (G.joined at o l r) (G.compared at c l r))
-    unfolding codeOf
-    two-of true l r at o c =
-        rw (changed-none (hasType (typeOf ks l)), changed-none (hasType (typeOf ks r)), append-nil (codeOf ks l), append-nil (codeOf ks l ++ codeOf ks r))
-    two-of false l r at o c = refl
-
-    module _ (below : n .left < i) (c : Changes) (h : Changing (n .kind) ks (treeAt T nodes (n .left)) (treeAt T nodes (i - 1)) c) where
+    module _ (below : first < i) where
       abbrev l : Tree
-      l = treeAt T nodes (n .left)
+      l = treeAt T nodes first
 
       abbrev r : Tree
       r = treeAt T nodes (i - 1)
 
-      abbrev over : ℕ → Tree → Tree → Tree
-      over k x y = twoOn T (record { kind = k; token = siteAt nodes i .token; left = 0; number = 0 }) x y
+      -- the only operand
+      module _ (hi : n .kind < 7) where
+        pub one-code : codeOf ks l ++ (operation (prefixOf (n .kind)) ∷ []) ≡ codeOf ks (treeAt T nodes i)
+        unfolding codeOf
+        one-code =
+            ap₂ (λ (k j : ℕ). codeOf ks (treeAt T nodes j) ++ (operation (prefixOf k) ∷ [])) (read .kind) (is-only hi)
+            ∙ ap (codeOf ks) (sym (at-one T nodes i (rw (← read .kind) lo) (rw (← read .kind) hi) (omega (arith, below))))
 
-      pub two-code : codeOf ks l ++ changeMeant (c .left) ++ codeOf ks r ++ changeMeant (c .right) ++ (operator (n .kind) ∷ [])
-          ≡ codeOf ks (treeAt T nodes i)
-      two-code =
-          ap₂ (λ (a b : List Instruction). between l r a b (operator (n .kind))) (h .left) (h .right)
-          ∙ two-of (ltb (n .kind) 11) l r (placeOn T (siteAt nodes i .token)) (joinOf (n .kind)) (comparisonOf (n .kind))
-          ∙ ap₂ (λ (k j : ℕ). codeOf ks (over k (treeAt T nodes j) r)) (read .kind) (read .left)
-          ∙ ap (codeOf ks) (sym (at-two T nodes i (rw (← read .kind) lo) (rw (← read .left) below)))
+        pub one-length : length (codeOf ks (treeAt T nodes i)) ≡ length (codeOf ks l) + 1
+        one-length = sym (ap length one-code) ∙ length-append (codeOf ks l) (operation (prefixOf (n .kind)) ∷ [])
 
-      pub two-length : length (codeOf ks (treeAt T nodes i))
-          ≡ length (codeOf ks l) + length (changeMeant (c .left)) + length (codeOf ks r) + length (changeMeant (c .right)) + 1
-      two-length = sym (ap length two-code) ∙ simp length-append
+      -- the first of two
+      module _ (two : 7 ≤ n .kind) where
+        abbrev over : ℕ → Tree → Tree
+        over k x = twoOn T (record { kind = k; token = siteAt nodes i .token; left = 0; number = 0 }) x r
+
+        converted : between ks l r (conversion ks l (meetingOf (n .kind) ks l r)) (conversion ks r (meetingOf (n .kind) ks l r))
+            (operator (n .kind))
+            ≡ codeOf ks (treeAt T nodes i)
+        converted =
+            two-of ks (ltb (n .kind) 11) l r (placeOn T (siteAt nodes i .token)) (joinOf (n .kind)) (comparisonOf (n .kind))
+            ∙ ap₂ (λ (k j : ℕ). codeOf ks (over k (treeAt T nodes j))) (read .kind) (is-left two)
+            ∙ ap (codeOf ks) (sym (at-two T nodes i (rw (← read .kind) two) (rw (← is-left two) below)))
+
+        module _ (c : Changes) (h : Changing (n .kind) ks l r c) where
+          pub two-code : codeOf ks l ++ changeMeant (c .left) ++ codeOf ks r ++ changeMeant (c .right) ++ (operator (n .kind) ∷ [])
+              ≡ codeOf ks (treeAt T nodes i)
+          two-code = ap₂ (λ (a b : List Instruction). between ks l r a b (operator (n .kind))) (h .left) (h .right) ∙ converted
+
+          pub two-length : length (codeOf ks (treeAt T nodes i))
+              ≡ length (codeOf ks l) + length (changeMeant (c .left)) + length (codeOf ks r) + length (changeMeant (c .right)) + 1
+          two-length =
+              sym (ap length two-code) ∙ between-length ks l r (changeMeant (c .left)) (changeMeant (c .right)) (operator (n .kind))
+
+      shorter : (b : Bool) → ltb (n .kind) 7 ≡ b → length (codeOf ks l) ≤ length (codeOf ks (treeAt T nodes i))
+      shorter true p = omega (arith, one-length (ltb-true (n .kind) 7 p))
+      shorter false p =
+          let meet = meetingOf (n .kind) ks l r in
+          omega (
+            arith,
+            ap length (converted (ltb-false (n .kind) 7 p)),
+            between-length ks l r (conversion ks l meet) (conversion ks r meet) (operator (n .kind)),
+          )
+
+      -- the first operand's code has room where the whole has
+      pub first-length : length (codeOf ks l) ≤ length (codeOf ks (treeAt T nodes i))
+      first-length = shorter (ltb (n .kind) 7) refl

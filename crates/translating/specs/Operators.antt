@@ -1,4 +1,4 @@
--- The code of an operator with two operands, by its node's kind.
+-- Operators by their nodes' kinds: the first operand, and the code of those with two.
 use Prim.Native.Nat.{ℕ}
 use mathlib.Core.Path.{_≡_}
 use mathlib.Core.Bool.{cond}

@@ -32,23 +32,20 @@ pub fn write_code(
     if kind < 5 {
         return leaf::write_leaf(text, kinds, starts, ends, list, nodes, at, i, code);
     }
-    if kind < 7 {
-        if at == 0 {
-            return put::write(put::push_bool(false), i, code);
-        }
-        let after = write_code(text, kinds, starts, ends, list, nodes, at - 1, i, code);
-        return put::write(operator::prefix_parts(kind), after, code);
-    }
-    let left = n.left;
-    if at <= left {
+    let first = trees::first_operand(kind, n.left, at);
+    if at <= first {
         return put::write(put::push_bool(false), i, code);
     }
+    // One call for the left operand and for an only one: each place of such a call takes room in every frame of the walk.
+    let after_first = write_code(text, kinds, starts, ends, list, nodes, first, i, code);
+    if kind < 7 {
+        return put::write(operator::prefix_parts(kind), after_first, code);
+    }
     let right = at - 1;
-    let changes = change::changes_at(text, kinds, starts, ends, list, nodes, kind, left, right);
-    let change_left = changes.left;
+    let changes = change::changes_at(text, kinds, starts, ends, list, nodes, kind, first, right);
+    let change_first = changes.left;
     let change_right = changes.right;
-    let after_left = write_code(text, kinds, starts, ends, list, nodes, left, i, code);
-    let before_right = change::write_change(change_left, after_left, code);
+    let before_right = change::write_change(change_first, after_first, code);
     let after_right = write_code(
         text,
         kinds,

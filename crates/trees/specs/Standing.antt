@@ -39,6 +39,10 @@ comparisonOf k =
     (cond (eqb k 14) atLeast
     (cond (eqb k 15) less atMost))))
 
+-- the node of the first of two operands, or of the only one
+abbrev pub firstOperand : ℕ → ℕ → ℕ → ℕ
+firstOperand kind left i = cond (ltb kind 7) (i - 1) left
+
 -- a node with no operand, with one, with two
 
 abbrev pub leafOn : Tape → Site → Tree

@@ -6,6 +6,7 @@ mod kinds;
 mod words;
 
 pub use kinds::comparison_number;
+pub use kinds::first_operand;
 pub use words::place_on;
 pub use words::word_on;
 ghost use mathlib.Core.Path.{_≡_};

@@ -13,7 +13,7 @@ use Rattle.trees.specs.Standing.{prefixOf}
 use Rattle.trees.specs.Words.{tapeOf}
 use Rattle.translating.specs.Operators.{operator}
 use Rattle.translating.proofs.Rows.{wrote-as, wrote-on}
-use Rattle.translating.proofs.Coded.{leaf-code, first-code, one-code, one-length, stray-code, two-code, two-length}
+use Rattle.translating.proofs.Coded.{leaf-code, stray-code, first-length, one-code, one-length, two-code, two-length}
 use Rattle.translating.proofs.walk.write_code.Reads as write-code
 use Rattle.translating.proofs.walk.write_code.Kinds as write-code-kinds
 use Rattle.translating.proofs.walk.+write_code.Lts-write_code as write-code-lts
@@ -24,6 +24,7 @@ use Rattle.translating.proofs.operator.operator_parts.Reads as operator
 use Rattle.translating.proofs.operator.prefix_parts.Reads as prefix-parts-reads
 use Rattle.translating.proofs.put.push_bool.Reads as push-bool-reads
 use Rattle.translating.proofs.put.write.Reads as write-reads
+use Rattle.trees.proofs.first_operand.Reads as first-operand-reads
 use Rattle.trees.proofs.Node.read.Reads as read-reads
 use Rattle.translating.proofs.walk.+write_code.{statement}
 use Rattle.translating.proofs.walk.+write_code.Tie.{close}
@@ -44,6 +45,8 @@ pub +write-code-spec : {M : Type 1} → statement M
   read-reads.Learnt,
   write-leaf-reads.Asked,
   write-leaf-reads.Learnt,
+  first-operand-reads.Asked,
+  first-operand-reads.Learnt,
   push-bool-reads.Asked,
   push-bool-reads.Learnt,
   write-reads.Asked,
@@ -84,139 +87,100 @@ pub +write-code-spec : {M : Type 1} → statement M
     wrote-as (leaf-code (keysIn (a .list .now)) T (a .nodes .now) (a .at) (read .result) (read .ensures)
     (c .before .before .before .before .if1 .taken)) (c .before .before .write-leaf .ensures))
     (λ c κs. search needs)
+    (λ c κs. search needs)
     (λ c κs.
     let a = c .before .before .before .before .before .before .before .before .before .before .before .before .before .args in
     let T = tapeOf (a .text .now) (a .kinds .now) (a .starts .now) (a .ends .now) in
     let read = c .before .before .before .before .before .read in
+    let first = c .before .before .before .first-operand in
     omega (
       arith,
       c .before .before .before .before .before .before .before .before .before .before .before .before .before .pre .1 .2,
-      ap length
-          (first-code (keysIn (a .list .now)) T (a .nodes .now) (a .at) (read .result) (read .ensures)
-          (c .before .before .before .before .if1 .left) (c .before .before .before .if2 .taken) (c .before .before .if3 .taken)),
+      ap length (stray-code (keysIn (a .list .now)) T (a .nodes .now) (a .at) (read .result) (read .ensures) (first .result) (first .ensures) (c .before .before .before .before .if1 .left)
+          (c .before .before .if2 .taken)),
     ))
     (λ c. search needs)
     (λ c.
     let a = c .before .before .before .before .before .before .before .before .before .before .before .before .before .before .before .before .args in
     let T = tapeOf (a .text .now) (a .kinds .now) (a .starts .now) (a .ends .now) in
     let read = c .before .before .before .before .before .before .before .before .read in
-    wrote-as (first-code (keysIn (a .list .now)) T (a .nodes .now) (a .at) (read .result) (read .ensures)
-    (c .before .before .before .before .before .before .before .if1 .left)
-    (c .before .before .before .before .before .before .if2 .taken) (c .before .before .before .before .before .if3 .taken))
+    let first = c .before .before .before .before .before .before .first-operand in
+    wrote-as (stray-code (keysIn (a .list .now)) T (a .nodes .now) (a .at) (read .result) (read .ensures) (first .result) (first .ensures) (c .before .before .before .before .before .before .before .if1 .left)
+    (c .before .before .before .before .before .if2 .taken))
     (c .before .before .write .ensures (pushBool false) (c .before .before .before .before .push-bool .ensures)))
-    (λ c. omega arith)
     (λ c κs.
     let a = c .before .before .before .before .before .before .before .before .before .before .before .before .args in
     let T = tapeOf (a .text .now) (a .kinds .now) (a .starts .now) (a .ends .now) in
     let pre = c .before .before .before .before .before .before .before .before .before .before .before .before .pre .1 in
-    let read = c .before .before .before .before .read in (
-      omega (arith, c .before .before .before .before .before .before .before .before .before .before .before .before .pre .0),
+    let read = c .before .before .before .before .read in
+    let first = c .before .before .first-operand in (
+      omega (arith, c .before .before .before .before .before .before .before .before .before .before .before .before .pre .0, c .before .if2 .left),
       (
         pre .0,
-        omega arith,
+        omega (arith, pre .1, c .before .if2 .left),
         omega (
           arith,
           pre .2,
-          one-length (keysIn (a .list .now)) T (a .nodes .now) (a .at) (read .result)
-              (read .ensures) (c .before .before .before .if1 .left) (c .before .before .if2 .taken) (omega arith),
+          first-length (keysIn (a .list .now)) T (a .nodes .now) (a .at) (read .result) (read .ensures) (first .result) (first .ensures) (c .before .before .before .if1 .left)
+              (c .before .if2 .left),
         ),
       ),
     ))
     (λ c κs. search needs)
     (λ c κs.
-    let a = c .before .before .before .before .before .before .before .before .before .before .before .before .before .before .before .before .before .args in
+    let a = c .before .before .before .before .before .before .before .before .before .before .before .before .before .before .before .before .before .before .args in
     let T = tapeOf (a .text .now) (a .kinds .now) (a .starts .now) (a .ends .now) in
-    let read = c .before .before .before .before .before .before .before .before .before .read in
+    let read = c .before .before .before .before .before .before .before .before .before .before .read in
+    let first = c .before .before .before .before .before .before .before .before .first-operand in
     omega (
       arith,
-      c .before .before .before .before .before .before .before .before .before .before .before .before .before .before .before .before .before .pre .1 .2,
-      c .before .before .before .before .write-code .ensures .next,
-      c .before .before .before .before .write-code .kept,
-      one-length
-          (keysIn (a .list .now)) T (a .nodes .now) (a .at) (read .result) (read .ensures)
-          (c .before .before .before .before .before .before .before .before .if1 .left)
-          (c .before .before .before .before .before .before .before .if2 .taken) (omega arith),
+      c .before .before .before .before .before .before .before .before .before .before .before .before .before .before .before .before .before .before .pre .1 .2,
+      c .before .before .before .before .before .write-code .ensures .next,
+      c .before .before .before .before .before .write-code .kept,
+      one-length (keysIn (a .list .now)) T (a .nodes .now) (a .at) (read .result) (read .ensures) (first .result) (first .ensures) (c .before .before .before .before .before .before .before .before .before .if1 .left)
+          (c .before .before .before .before .before .before .before .if2 .left) (c .before .before .if3 .taken),
     ))
-    (λ c. omega (arith, c .before .before .before .before .before .before .before .write-code .kept, c .before .before .write2 .kept))
+    (λ c. omega (arith, c .before .before .before .before .before .before .before .before .write-code .kept, c .before .before .write2 .kept))
     (λ c.
-    let a = c .before .before .before .before .before .before .before .before .before .before .before .before .before .before .before .before .before .before .before .before .args in
-    let T = tapeOf (a .text .now) (a .kinds .now) (a .starts .now) (a .ends .now) in
-    let read = c .before .before .before .before .before .before .before .before .before .before .before .before .read in
-    wrote-as (one-code (keysIn (a .list .now)) T (a .nodes .now) (a .at) (read .result) (read .ensures)
-    (c .before .before .before .before .before .before .before .before .before .before .before .if1 .left)
-    (c .before .before .before .before .before .before .before .before .before .before .if2 .taken) (omega arith))
-    (wrote-on (c .before .before .before .before .before .before .before .write-code .ensures)
-    (c .before .before .write2 .ensures (operation (prefixOf (read .result .kind)))
-    (c .before .before .before .before .prefix-parts .ensures))))
-    (λ c κs. search needs)
-    (λ c κs.
-    let a = c .before .before .before .before .before .before .before .before .before .before .before .before .before .args in
-    let T = tapeOf (a .text .now) (a .kinds .now) (a .starts .now) (a .ends .now) in
-    let read = c .before .before .before .before .before .read in
-    omega (
-      arith,
-      c .before .before .before .before .before .before .before .before .before .before .before .before .before .pre .1 .2,
-      ap length
-          (stray-code (keysIn (a .list .now)) T (a .nodes .now) (a .at) (read .result) (read .ensures) (c .before .before .before .if2 .left)
-          (c .before .before .if4 .taken)),
-    ))
-    (λ c. search needs)
-    (λ c.
-    let a = c .before .before .before .before .before .before .before .before .before .before .before .before .before .before .before .before .args in
-    let T = tapeOf (a .text .now) (a .kinds .now) (a .starts .now) (a .ends .now) in
-    let read = c .before .before .before .before .before .before .before .before .read in
-    wrote-as (stray-code (keysIn (a .list .now)) T (a .nodes .now) (a .at) (read .result) (read .ensures)
-    (c .before .before .before .before .before .before .if2 .left) (c .before .before .before .before .before .if4 .taken))
-    (c .before .before .write3 .ensures (pushBool false) (c .before .before .before .before .push-bool2 .ensures)))
-    (λ c. omega arith)
-    (λ c κs. let pre = c .before .before .before .before .before .before .before .before .before .before .before .pre .1 in
-    (pre .0, omega arith, omega arith))
-    (λ c κs.
-    let a = c .before .before .before .before .before .before .before .before .before .before .before .before .before .args in
-    let T = tapeOf (a .text .now) (a .kinds .now) (a .starts .now) (a .ends .now) in
-    let pre = c .before .before .before .before .before .before .before .before .before .before .before .before .before .pre .1 in
-    let read = c .before .before .before .before .before .read in
-    let changes = c .before .changes-at in (
-      omega (arith, c .before .before .before .before .before .before .before .before .before .before .before .before .before .pre .0),
-      (
-        pre .0,
-        omega arith,
-        omega (
-          arith,
-          pre .2,
-          two-length (keysIn (a .list .now)) T (a .nodes .now) (a .at) (read .result)
-              (read .ensures) (c .before .before .before .if2 .left) (c .before .before .if4 .left) (changes .result) (changes .ensures),
-        ),
-      ),
-    ))
-    (λ c κs.
-    let a = c .before .before .before .before .before .before .before .before .before .before .before .before .before .before .before .before .before .args in
-    let T = tapeOf (a .text .now) (a .kinds .now) (a .starts .now) (a .ends .now) in
-    let read = c .before .before .before .before .before .before .before .before .before .read in
-    let changes = c .before .before .before .before .before .changes-at in
-    let one = c .before .before .before .write-code2 in
-    omega (
-      arith,
-      c .before .before .before .before .before .before .before .before .before .before .before .before .before .before .before .before .before .pre .1 .2,
-      one .ensures .next,
-      one .kept,
-      two-length
-          (keysIn (a .list .now)) T (a .nodes .now) (a .at) (read .result) (read .ensures)
-          (c .before .before .before .before .before .before .before .if2 .left)
-          (c .before .before .before .before .before .before .if4 .left) (changes .result) (changes .ensures),
-    ))
-    (λ c κs.
     let a = c .before .before .before .before .before .before .before .before .before .before .before .before .before .before .before .before .before .before .before .before .before .args in
     let T = tapeOf (a .text .now) (a .kinds .now) (a .starts .now) (a .ends .now) in
-    let pre = c .before .before .before .before .before .before .before .before .before .before .before .before .before .before .before .before .before .before .before .before .before .pre .1 in
     let read = c .before .before .before .before .before .before .before .before .before .before .before .before .before .read in
-    let changes = c .before .before .before .before .before .before .before .before .before .changes-at in
-    let one = c .before .before .before .before .before .before .before .write-code2 in
+    let first = c .before .before .before .before .before .before .before .before .before .before .before .first-operand in
+    wrote-as (one-code (keysIn (a .list .now)) T (a .nodes .now) (a .at) (read .result) (read .ensures) (first .result) (first .ensures) (c .before .before .before .before .before .before .before .before .before .before .before .before .if1 .left)
+    (c .before .before .before .before .before .before .before .before .before .before .if2 .left) (c .before .before .before .before .before .if3 .taken))
+    (wrote-on (c .before .before .before .before .before .before .before .before .write-code .ensures)
+    (c .before .before .write2 .ensures (operation (prefixOf (read .result .kind))) (c .before .before .before .before .prefix-parts .ensures))))
+    (λ c. omega (arith, c .before .before .before .before .before .if2 .left))
+    (λ c κs. let pre = c .before .before .before .before .before .before .before .before .before .before .before .before .before .before .before .before .pre .1 in
+    (pre .0, omega (arith, pre .1, c .before .before .before .before .before .if2 .left), omega (arith, pre .1, c .before .before .before .before .before .if2 .left)))
+    (λ c κs.
+    let a = c .before .before .before .before .before .before .before .before .before .before .before .before .before .before .before .before .before .before .args in
+    let T = tapeOf (a .text .now) (a .kinds .now) (a .starts .now) (a .ends .now) in
+    let read = c .before .before .before .before .before .before .before .before .before .before .read in
+    let first = c .before .before .before .before .before .before .before .before .first-operand in
+    let changes = c .before .changes-at in
+    let one = c .before .before .before .before .before .write-code in
+    omega (
+      arith,
+      c .before .before .before .before .before .before .before .before .before .before .before .before .before .before .before .before .before .before .pre .1 .2,
+      one .ensures .next,
+      one .kept,
+      two-length (keysIn (a .list .now)) T (a .nodes .now) (a .at) (read .result) (read .ensures) (first .result) (first .ensures) (c .before .before .before .before .before .before .before .before .before .if1 .left)
+          (c .before .before .before .before .before .before .before .if2 .left) (c .before .before .if3 .left) (changes .result) (changes .ensures),
+    ))
+    (λ c κs.
+    let a = c .before .before .before .before .before .before .before .before .before .before .before .before .before .before .before .before .before .before .before .before .before .before .args in
+    let T = tapeOf (a .text .now) (a .kinds .now) (a .starts .now) (a .ends .now) in
+    let pre = c .before .before .before .before .before .before .before .before .before .before .before .before .before .before .before .before .before .before .before .before .before .before .pre .1 in
+    let read = c .before .before .before .before .before .before .before .before .before .before .before .before .before .before .read in
+    let first = c .before .before .before .before .before .before .before .before .before .before .before .before .first-operand in
+    let changes = c .before .before .before .before .before .changes-at in
+    let one = c .before .before .before .before .before .before .before .before .before .write-code in
     let two = c .before .before .before .write-change in (
-      omega (arith, c .before .before .before .before .before .before .before .before .before .before .before .before .before .before .before .before .before .before .before .before .before .pre .0, c .before .before .before .before .before .before .before .before .before .before .if4 .left),
+      omega (arith, c .before .before .before .before .before .before .before .before .before .before .before .before .before .before .before .before .before .before .before .before .before .before .pre .0, c .before .before .before .before .before .before .before .before .before .before .before .if2 .left),
       (
         pre .0,
-        omega (arith, pre .1, c .before .before .before .before .before .before .before .before .before .before .if4 .left),
+        omega (arith, pre .1, c .before .before .before .before .before .before .before .before .before .before .before .if2 .left),
         omega (
           arith,
           pre .2,
@@ -224,50 +188,46 @@ pub +write-code-spec : {M : Type 1} → statement M
           one .kept,
           two .ensures .next,
           two .kept,
-          two-length (keysIn (a .list .now)) T (a .nodes .now)
-              (a .at) (read .result) (read .ensures)
-              (c .before .before .before .before .before .before .before .before .before .before .before .if2 .left)
-              (c .before .before .before .before .before .before .before .before .before .before .if4 .left) (changes .result)
-              (changes .ensures),
+          two-length (keysIn (a .list .now)) T (a .nodes .now) (a .at) (read .result) (read .ensures) (first .result) (first .ensures) (c .before .before .before .before .before .before .before .before .before .before .before .before .before .if1 .left)
+              (c .before .before .before .before .before .before .before .before .before .before .before .if2 .left) (c .before .before .before .before .before .before .if3 .left) (changes .result) (changes .ensures),
         ),
       ),
     ))
     (λ c κs.
-    let a = c .before .before .before .before .before .before .before .before .before .before .before .before .before .before .before .before .before .before .before .before .before .before .before .before .before .args in
+    let a = c .before .before .before .before .before .before .before .before .before .before .before .before .before .before .before .before .before .before .before .before .before .before .before .before .before .before .args in
     let T = tapeOf (a .text .now) (a .kinds .now) (a .starts .now) (a .ends .now) in
-    let read = c .before .before .before .before .before .before .before .before .before .before .before .before .before .before .before .before .before .read in
-    let changes = c .before .before .before .before .before .before .before .before .before .before .before .before .before .changes-at in
-    let one = c .before .before .before .before .before .before .before .before .before .before .before .write-code2 in
+    let read = c .before .before .before .before .before .before .before .before .before .before .before .before .before .before .before .before .before .before .read in
+    let first = c .before .before .before .before .before .before .before .before .before .before .before .before .before .before .before .before .first-operand in
+    let changes = c .before .before .before .before .before .before .before .before .before .changes-at in
+    let one = c .before .before .before .before .before .before .before .before .before .before .before .before .before .write-code in
     let two = c .before .before .before .before .before .before .before .write-change in
-    let three = c .before .before .before .write-code3 in
+    let three = c .before .before .before .write-code2 in
     omega (
       arith,
-      c .before .before .before .before .before .before .before .before .before .before .before .before .before .before .before .before .before .before .before .before .before .before .before .before .before .pre .1 .2,
+      c .before .before .before .before .before .before .before .before .before .before .before .before .before .before .before .before .before .before .before .before .before .before .before .before .before .before .pre .1 .2,
       one .ensures .next,
       one .kept,
       two .ensures .next,
       two .kept,
       three .ensures .next,
       three .kept,
-      two-length
-          (keysIn (a .list .now)) T (a .nodes .now) (a .at) (read .result) (read .ensures)
-          (c .before .before .before .before .before .before .before .before .before .before .before .before .before .before .before .if2 .left)
-          (c .before .before .before .before .before .before .before .before .before .before .before .before .before .before .if4 .left)
-          (changes .result) (changes .ensures),
+      two-length (keysIn (a .list .now)) T (a .nodes .now) (a .at) (read .result) (read .ensures) (first .result) (first .ensures) (c .before .before .before .before .before .before .before .before .before .before .before .before .before .before .before .before .before .if1 .left)
+          (c .before .before .before .before .before .before .before .before .before .before .before .before .before .before .before .if2 .left) (c .before .before .before .before .before .before .before .before .before .before .if3 .left) (changes .result) (changes .ensures),
     ))
     (λ c κs. search needs)
     (λ c κs.
-    let a = c .before .before .before .before .before .before .before .before .before .before .before .before .before .before .before .before .before .before .before .before .before .before .before .before .before .before .before .before .before .before .args in
+    let a = c .before .before .before .before .before .before .before .before .before .before .before .before .before .before .before .before .before .before .before .before .before .before .before .before .before .before .before .before .before .before .before .args in
     let T = tapeOf (a .text .now) (a .kinds .now) (a .starts .now) (a .ends .now) in
-    let read = c .before .before .before .before .before .before .before .before .before .before .before .before .before .before .before .before .before .before .before .before .before .before .read in
-    let changes = c .before .before .before .before .before .before .before .before .before .before .before .before .before .before .before .before .before .before .changes-at in
-    let one = c .before .before .before .before .before .before .before .before .before .before .before .before .before .before .before .before .write-code2 in
+    let read = c .before .before .before .before .before .before .before .before .before .before .before .before .before .before .before .before .before .before .before .before .before .before .before .read in
+    let first = c .before .before .before .before .before .before .before .before .before .before .before .before .before .before .before .before .before .before .before .before .before .first-operand in
+    let changes = c .before .before .before .before .before .before .before .before .before .before .before .before .before .before .changes-at in
+    let one = c .before .before .before .before .before .before .before .before .before .before .before .before .before .before .before .before .before .before .write-code in
     let two = c .before .before .before .before .before .before .before .before .before .before .before .before .write-change in
-    let three = c .before .before .before .before .before .before .before .before .write-code3 in
+    let three = c .before .before .before .before .before .before .before .before .write-code2 in
     let four = c .before .before .before .before .write-change2 in
     omega (
       arith,
-      c .before .before .before .before .before .before .before .before .before .before .before .before .before .before .before .before .before .before .before .before .before .before .before .before .before .before .before .before .before .before .pre .1 .2,
+      c .before .before .before .before .before .before .before .before .before .before .before .before .before .before .before .before .before .before .before .before .before .before .before .before .before .before .before .before .before .before .before .pre .1 .2,
       one .ensures .next,
       one .kept,
       two .ensures .next,
@@ -276,25 +236,21 @@ pub +write-code-spec : {M : Type 1} → statement M
       three .kept,
       four .ensures .next,
       four .kept,
-      two-length
-          (keysIn (a .list .now)) T (a .nodes .now) (a .at) (read .result) (read .ensures)
-          (c .before .before .before .before .before .before .before .before .before .before .before .before .before .before .before .before .before .before .before .before .if2 .left)
-          (c .before .before .before .before .before .before .before .before .before .before .before .before .before .before .before .before .before .before .before .if4 .left)
-          (changes .result) (changes .ensures),
+      two-length (keysIn (a .list .now)) T (a .nodes .now) (a .at) (read .result) (read .ensures) (first .result) (first .ensures) (c .before .before .before .before .before .before .before .before .before .before .before .before .before .before .before .before .before .before .before .before .before .before .if1 .left)
+          (c .before .before .before .before .before .before .before .before .before .before .before .before .before .before .before .before .before .before .before .before .if2 .left) (c .before .before .before .before .before .before .before .before .before .before .before .before .before .before .before .if3 .left) (changes .result) (changes .ensures),
     ))
-    (λ c. omega (arith, c .before .before .before .before .before .before .before .before .before .before .before .before .before .before .before .before .before .before .before .write-code2 .kept, c .before .before .before .before .before .before .before .before .before .before .before .before .before .before .before .write-change .kept, c .before .before .before .before .before .before .before .before .before .before .before .write-code3 .kept, c .before .before .before .before .before .before .before .write-change2 .kept, c .before .before .write4 .kept))
+    (λ c. omega (arith, c .before .before .before .before .before .before .before .before .before .before .before .before .before .before .before .before .before .before .before .before .before .write-code .kept, c .before .before .before .before .before .before .before .before .before .before .before .before .before .before .before .write-change .kept, c .before .before .before .before .before .before .before .before .before .before .before .write-code2 .kept, c .before .before .before .before .before .before .before .write-change2 .kept, c .before .before .write3 .kept))
     (λ c.
-    let a = c .before .before .before .before .before .before .before .before .before .before .before .before .before .before .before .before .before .before .before .before .before .before .before .before .before .before .before .before .before .before .before .before .before .args in
+    let a = c .before .before .before .before .before .before .before .before .before .before .before .before .before .before .before .before .before .before .before .before .before .before .before .before .before .before .before .before .before .before .before .before .before .before .args in
     let T = tapeOf (a .text .now) (a .kinds .now) (a .starts .now) (a .ends .now) in
-    let read = c .before .before .before .before .before .before .before .before .before .before .before .before .before .before .before .before .before .before .before .before .before .before .before .before .before .read in
-    let changes = c .before .before .before .before .before .before .before .before .before .before .before .before .before .before .before .before .before .before .before .before .before .changes-at in
-    wrote-as (two-code (keysIn (a .list .now)) T (a .nodes .now) (a .at) (read .result) (read .ensures)
-    (c .before .before .before .before .before .before .before .before .before .before .before .before .before .before .before .before .before .before .before .before .before .before .before .if2 .left)
-    (c .before .before .before .before .before .before .before .before .before .before .before .before .before .before .before .before .before .before .before .before .before .before .if4 .left)
-    (changes .result) (changes .ensures))
+    let read = c .before .before .before .before .before .before .before .before .before .before .before .before .before .before .before .before .before .before .before .before .before .before .before .before .before .before .read in
+    let first = c .before .before .before .before .before .before .before .before .before .before .before .before .before .before .before .before .before .before .before .before .before .before .before .before .first-operand in
+    let changes = c .before .before .before .before .before .before .before .before .before .before .before .before .before .before .before .before .before .changes-at in
+    wrote-as (two-code (keysIn (a .list .now)) T (a .nodes .now) (a .at) (read .result) (read .ensures) (first .result) (first .ensures) (c .before .before .before .before .before .before .before .before .before .before .before .before .before .before .before .before .before .before .before .before .before .before .before .before .before .if1 .left)
+    (c .before .before .before .before .before .before .before .before .before .before .before .before .before .before .before .before .before .before .before .before .before .before .before .if2 .left) (c .before .before .before .before .before .before .before .before .before .before .before .before .before .before .before .before .before .before .if3 .left) (changes .result) (changes .ensures))
     (wrote-on (wrote-on (wrote-on (wrote-on
-    (c .before .before .before .before .before .before .before .before .before .before .before .before .before .before .before .before .before .before .before .write-code2 .ensures)
+    (c .before .before .before .before .before .before .before .before .before .before .before .before .before .before .before .before .before .before .before .before .before .write-code .ensures)
     (c .before .before .before .before .before .before .before .before .before .before .before .before .before .before .before .write-change .ensures))
-    (c .before .before .before .before .before .before .before .before .before .before .before .write-code3 .ensures))
+    (c .before .before .before .before .before .before .before .before .before .before .before .write-code2 .ensures))
     (c .before .before .before .before .before .before .before .write-change2 .ensures))
-    (c .before .before .write4 .ensures (operator (read .result .kind)) (c .before .before .before .before .operator-parts .ensures))))
+    (c .before .before .write3 .ensures (operator (read .result .kind)) (c .before .before .before .before .operator-parts .ensures))))

@@ -1,0 +1,25 @@
+use borrow.Author.Needs.{needs}
+use Rattle.abi.proofs.answer.of_checking.Statement.{statement}
+use Rattle.abi.proofs.answer.of_checking.Tie as tie
+
+enum-told : tie.Need-enum-told
+enum-told c = search needs
+
+answer-requires : tie.Need-answer-requires
+answer-requires c κs = search needs
+
+enum-known-r : tie.Need-enum-known-r
+enum-known-r c = search needs
+
+refusal-requires : tie.Need-refusal-requires
+refusal-requires c κs = search needs
+
+returns : tie.Need-returns
+returns c = rw (c .before .enum-told .given .1) (c .answer .ensures)
+
+returns-2 : tie.Need-returns-2
+returns-2 c = rw (c .before .before .r .given .1) (c .refusal .ensures)
+
+pub of-checking-spec : {M : Type 1} → statement M
+of-checking-spec =
+    tie.close (tie.spec enum-told answer-requires enum-known-r refusal-requires returns returns-2)

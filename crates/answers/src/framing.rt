@@ -1,0 +1,80 @@
+// One input of a request: its length in four bytes, then its bytes.
+ghost use Prim.Native.Nat.{_≤_, _<_};
+ghost use mathlib.Core.Path.{_≡_};
+ghost use lib.ListN.{length};
+use libc::STDIN_FILENO;
+
+pub enum Taken {
+    Whole(usize),
+    TooLong,
+    Cut,
+}
+
+pub fn is_cut(t: Taken) -> bool {
+    match t {
+        Taken::Whole(_) => false,
+        Taken::TooLong => false,
+        Taken::Cut => true,
+    }
+}
+
+pub fn too_long() -> bool {
+    lines::say(b"too long\n");
+    true
+}
+
+fn wide(x: u8) -> usize
+    ensures { λ r. ⌜ (r ≡ x) × (r < 256) ⌝ }
+{
+    x as usize
+}
+
+fn size_of(head: [u8; 4]) -> usize {
+    ((wide(head[0]) * 256 + wide(head[1])) * 256 + wide(head[2])) * 256 + wide(head[3])
+}
+
+// Fills all of a part, or says that the input ended before.
+fn fill(part: &mut [u8]) -> bool {
+    io::read_full(STDIN_FILENO, part) == part.len()
+}
+
+// The same of a room's first bytes.
+fn fill_start(room: &mut [u8], n: usize) -> bool
+    requires { ⌜ n ≤ length (now room) ⌝ }
+{
+    fill(&mut room[..n])
+}
+
+// Passes over a number of bytes, or says that the input ended before.
+fn pass_over(size: usize, room: &mut [u8]) -> bool
+    requires { ⌜ 0 < length (now room) ⌝ }
+{
+    let mut left = size;
+    while room.len() < left {
+        if !fill(room) {
+            return false;
+        }
+        left -= room.len();
+    }
+    fill_start(room, left)
+}
+
+pub fn take_input(room: &mut [u8]) -> Taken
+    requires { ⌜ 0 < length (now room) ⌝ }
+{
+    let mut head = [0u8; 4];
+    if io::read_full(STDIN_FILENO, &mut head) < 4 {
+        return Taken::Cut;
+    }
+    let size = size_of(head);
+    if size <= room.len() {
+        if fill_start(room, size) {
+            return Taken::Whole(size);
+        }
+        return Taken::Cut;
+    }
+    if pass_over(size, room) {
+        return Taken::TooLong;
+    }
+    Taken::Cut
+}

@@ -1,0 +1,57 @@
+// Requests on standard input, and for each a line on standard output: for pipes, and for the comparison with the reference.
+//
+// A request is a byte for the call (1 read, 2 check, 3 judge, 4 translate, 5 load, 6 run) and three inputs, each a length of four
+// bytes, big-endian, and its bytes. An input over 65,536 bytes gives `too long`, and its bytes are passed over; a request that the
+// input's end cuts gives `cut`; an unknown call gives `unknown`. Behind a translation stands the Adler-32 sum of the whole buffer.
+mod adler;
+mod calls;
+mod framing;
+
+ghost use Prim.Native.Nat.{_<_};
+ghost use lib.ListN.{length};
+use crate::framing::Taken;
+use libc::STDIN_FILENO;
+
+// Whether another request may follow.
+fn request(first: &mut [u8], second: &mut [u8], third: &mut [u8]) -> bool
+    requires { ⌜ (0 < length (now first)) × (0 < length (now second)) × (0 < length (now third)) ⌝ }
+{
+    let mut call = [0u8; 1];
+    if io::read_full(STDIN_FILENO, &mut call) == 0 {
+        return false;
+    }
+    let a = framing::take_input(first);
+    let b = framing::take_input(second);
+    let c = framing::take_input(third);
+    if framing::is_cut(c) {
+        lines::say(b"cut\n");
+        return false;
+    }
+    let Taken::Whole(x) = a else {
+        return framing::too_long();
+    };
+    let Taken::Whole(y) = b else {
+        return framing::too_long();
+    };
+    let Taken::Whole(z) = c else {
+        return framing::too_long();
+    };
+    calls::answer(
+        call[0],
+        lines::start(first, x),
+        lines::start(second, y),
+        third,
+        z,
+    );
+    true
+}
+
+fn main() {
+    let mut first = io::large_buffer();
+    let mut second = io::large_buffer();
+    let mut third = io::large_buffer();
+    let mut turns = u64::MAX;
+    while 0 < turns && request(&mut first, &mut second, &mut third) {
+        turns -= 1;
+    }
+}

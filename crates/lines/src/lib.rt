@@ -1,0 +1,82 @@
+// What the calls answer, in the words of a line on standard output: `read N`, `passed`, `accepted`, `violated`, `translated N`,
+// `loaded N`, or `refused NUMBER INPUT OFFSET` with INPUT one of text, list, entry, blocks, buffer. The programs share these words.
+//
+// These only write, and a line's end is written by the caller. `start` is for programs that fill a room and use as much of it as they
+// filled.
+ghost use mathlib.Core.Path.{_≡_};
+ghost use lib.ListN.{take};
+use libc::STDOUT_FILENO;
+use paper::Checking;
+use paper::Judgement;
+use paper::Loading;
+use paper::Place;
+use paper::Reading;
+use paper::Translation;
+
+pub fn say(s: &[u8]) {
+    io::write_all(STDOUT_FILENO, s);
+}
+
+pub fn say_number(n: u64) {
+    io::print_decimal(STDOUT_FILENO, n);
+}
+
+fn say_count(what: &[u8], n: usize) {
+    say(what);
+    say_number(n as u64);
+}
+
+fn say_refused(number: u8, place: Place) {
+    say(b"refused ");
+    say_number(number as u64);
+    match place {
+        Place::Text(at) => say_count(b" text ", at),
+        Place::List(at) => say_count(b" list ", at),
+        Place::Entry(at) => say_count(b" entry ", at),
+        Place::Blocks(at) => say_count(b" blocks ", at),
+        Place::Buffer(at) => say_count(b" buffer ", at),
+    }
+}
+
+pub fn say_reading(reading: Reading) {
+    match reading {
+        Reading::Read(n) => say_count(b"read ", n),
+        Reading::Refused(number, place) => say_refused(number, place),
+    }
+}
+
+pub fn say_checking(checking: Checking) {
+    match checking {
+        Checking::Passed => say(b"passed"),
+        Checking::Refused(number, place) => say_refused(number, place),
+    }
+}
+
+pub fn say_judgement(judgement: Judgement) {
+    match judgement {
+        Judgement::Accepted => say(b"accepted"),
+        Judgement::Violated => say(b"violated"),
+        Judgement::Refused(number, place) => say_refused(number, place),
+    }
+}
+
+pub fn say_translation(translation: Translation) {
+    match translation {
+        Translation::Written(n) => say_count(b"translated ", n),
+        Translation::Refused(number, place) => say_refused(number, place),
+    }
+}
+
+pub fn say_loading(loading: Loading) {
+    match loading {
+        Loading::Loaded(n) => say_count(b"loaded ", n),
+        Loading::Refused(number, place) => say_refused(number, place),
+    }
+}
+
+// The first n bytes of a room, as far as there are any.
+pub fn start(room: &[u8], n: usize) -> &[u8]
+    ensures { λ r. ⌜ now r ≡ take n (now (room .entry)) ⌝ }
+{
+    if n <= room.len() { &room[..n] } else { room }
+}

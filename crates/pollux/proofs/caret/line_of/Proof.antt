@@ -1,0 +1,52 @@
+use Prim.Native.Nat.{_+_, _-_, _≤_}
+use mathlib.Core.Path.{_≡_, refl}
+use mathlib.Core.Logic.{_⊎_, inl, inr}
+use native.Mathlib.Omega.{arith}
+use lib.ListN.{length, getD, drop}
+use borrow.Author.Needs.{needs}
+use Rattle.paper.specs.Tokens.{span}
+use Rattle.spelling.specs.Runs.{inRun, EndsAt}
+use Rattle.spelling.specs.declared.runs.Run.the-variants.{Line}
+use Rattle.pollux.proofs.Lines.{line-closed}
+use Rattle.pollux.proofs.caret.line_of.Statement.{statement}
+use Rattle.pollux.proofs.caret.line_of.Tie as tie
+
+abbrev Inv-loop : tie.InvT-loop
+Inv-loop text at from₀ to₀ from to =
+    (from ≤ at)
+    × ((from ≡ 0) ⊎ (getD text (from - 1) 0 ≡ 10))
+    × EndsAt text from (span (inRun Line) (drop from text)) to
+
+abbrev μ-loop : tie.MeasureT-loop
+μ-loop text at from₀ to₀ from to = at - to
+
+loop-holds : tie.Need-loop-holds Inv-loop μ-loop
+loop-holds c = (search needs, inl refl, c .run-end .ensures)
+
+loop-less : tie.Need-loop-less Inv-loop μ-loop
+loop-less c = omega (arith, c .run-end2 .ensures .far)
+
+loop-again : tie.Need-loop-again Inv-loop μ-loop
+loop-again c =
+    let l = c .before .before .loop in
+    let text = c .before .before .before .before .before .args .text .now in
+    (search needs, inr (line-closed text (l .from) (l .to) (l .inv .2) (search needs)), c .run-end2 .ensures)
+
+returns : tie.Need-returns Inv-loop μ-loop
+returns c =
+    let i = c .before .loop .inv in
+    record { starts = i .1; ends = i .2; before = i .0; behind = search needs }
+
+pub line-of-spec : {M : Type 1} → statement M
+line-of-spec =
+    tie.close
+    (tie.spec
+    Inv-loop
+    μ-loop
+    (λ c κs. search needs)
+    loop-holds
+    (λ c. search needs)
+    (λ c κs. search needs)
+    loop-less
+    loop-again
+    returns)

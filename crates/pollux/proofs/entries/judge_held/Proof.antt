@@ -1,0 +1,30 @@
+use Prim.Native.Nat.{_+_, _-_, _≤_}
+use Rattle.pollux.specs.Tallies.{total}
+use borrow.Author.Needs.{needs}
+use Rattle.pollux.proofs.entries.judge_held.Statement.{statement}
+use Rattle.pollux.proofs.entries.judge_held.Tie as tie
+
+abbrev Inv-loop : tie.InvT-loop
+Inv-loop form rule list size part got tally₀ at₀ tally at = (at ≤ got) × (total tally ≤ total tally₀ + at)
+
+abbrev μ-loop : tie.MeasureT-loop
+μ-loop form rule list size part got tally₀ at₀ tally at = got - at
+
+pub judge-held-spec : {M : Type 1} → statement M
+judge-held-spec =
+    tie.close
+    (tie.spec
+    Inv-loop
+    μ-loop
+    (λ c. search needs)
+    (λ c κs. search needs)
+    (λ c. search needs)
+    (λ c. search needs)
+    (λ c. search needs)
+    (λ c κs. search needs)
+    (λ c κs. search needs)
+    (λ c κs. search needs)
+    (λ c κs. search needs)
+    (λ c. search needs)
+    (λ c. search needs)
+    (λ c. search needs))

@@ -1,0 +1,44 @@
+-- The line of a place in a text, and how it is shown.
+use Prim.Native.Nat.{ℕ, suc, _+_, _-_, _≤_}
+use mathlib.Core.Path.{_≡_}
+use mathlib.Core.Logic.{_⊎_}
+use mathlib.Core.Bool.{cond, _&&_}
+use mathlib.Core.List.{List, [], _∷_}
+use lib.ListN.{length, getD, drop}
+use lib.Dec.{eqb, ltb, leb}
+use Rattle.paper.specs.Tokens.{span}
+use Rattle.spelling.specs.Runs.{inRun, EndsAt}
+use Rattle.spelling.specs.declared.runs.Run.the-variants.{Line}
+use Rattle.pollux.specs.declared.caret.Stretch.{Stretch}
+
+-- an LF closes a line
+abbrev pub breaksAt : ℕ → ℕ
+breaksAt b = cond (eqb b 10) 1 0
+
+-- how many lines are closed in these bytes
+unfoldable pub breaks : List ℕ → ℕ
+breaks [] = 0
+breaks (b ∷ s) = breaksAt b + breaks s
+
+-- a place at the text's end is one past the last byte of the last line, which an LF may close
+abbrev pub seenAt : List ℕ → ℕ → ℕ
+seenAt text at = cond (ltb at (length text)) at (length text - breaksAt (getD text (length text - 1) 0))
+
+-- a line starts with the text or behind an LF, and goes on to the next LF or to the text's end
+pub record LineOf (text : List ℕ) (at : ℕ) (line : Stretch) : Type 0 where
+  pub starts : (line .from ≡ 0) ⊎ (getD text (line .from - 1) 0 ≡ 10)
+  pub ends : EndsAt text (line .from) (span (inRun Line) (drop (line .from) text)) (line .to)
+  pub before : line .from ≤ at
+  pub behind : at ≤ line .to
+
+-- at most 100 columns of a line, the place among them or directly behind them
+pub record Window (line : Stretch) (at : ℕ) (shown : Stretch) : Type 0 where
+  pub inside : line .from ≤ shown .from
+  pub before : shown .from ≤ at
+  pub behind : at ≤ shown .to
+  pub within : shown .to ≤ line .to
+  pub narrow : shown .to ≤ shown .from + 100
+
+-- a tab as a blank, and a byte that does not print as '?'
+abbrev pub shownAs : ℕ → ℕ
+shownAs b = cond (eqb b 9) 32 (cond (leb 32 b && leb b 126) b 63)

@@ -1,0 +1,147 @@
+// The line that a place of a text stands in, with a caret under the place.
+ghost use Prim.Native.Nat.{suc, _+_, _≤_};
+ghost use mathlib.Core.Path.{_≡_};
+ghost use lib.ListN.{length};
+ghost use Rattle.pollux.specs.Lines.{breaksAt, breaks, seenAt, LineOf, Window, shownAs};
+use crate::say::say;
+use crate::say::say_number;
+use crate::sizes::start;
+use spelling::runs::Run;
+use spelling::runs::run_end;
+
+// Bytes from one offset up to another.
+struct Stretch {
+    from: usize,
+    to: usize,
+}
+
+// How many lines a byte closes.
+fn breaks_at(byte: u8) -> usize
+    ensures { λ r. ⌜ (r ≡ breaksAt byte) × (r ≤ 1) ⌝ }
+{
+    if byte == b'\n' { 1 } else { 0 }
+}
+
+// Where the caret of a place stands: at the text's end it is behind the last line, and not on an empty line below it.
+fn seen_at(text: &[u8], at: usize) -> usize
+    ensures { λ r. ⌜ (r ≡ seenAt (now (text .entry)) at) × (r ≤ length (now (text .entry))) ⌝ }
+{
+    let n = text.len();
+    if at < n {
+        return at;
+    }
+    if n == 0 {
+        return n;
+    }
+    n - breaks_at(text[n - 1])
+}
+
+fn line_of(text: &[u8], at: usize) -> Stretch
+    requires { ⌜ at ≤ length (now text) ⌝ }
+    ensures { λ r. ⌜ LineOf (now (text .entry)) at r ⌝ }
+{
+    let mut from = 0;
+    let mut to = run_end(text, 0, Run::Line);
+    while to < at {
+        from = to + 1;
+        to = run_end(text, from, Run::Line);
+    }
+    Stretch { from: from, to: to }
+}
+
+fn line_number(before: &[u8]) -> usize
+    ensures { λ r. ⌜ r ≡ suc (breaks (now (before .entry))) ⌝ }
+{
+    let mut n = 1;
+    let mut i = 0;
+    while i < before.len() {
+        n += breaks_at(before[i]);
+        i += 1;
+    }
+    n
+}
+
+fn window_start(line: Stretch, at: usize) -> usize
+    requires { ⌜ (line .from ≤ at) × (at ≤ line .to) ⌝ }
+    ensures { λ r. ⌜ (line .from ≤ r) × (r ≤ at) × (at ≤ r + 100) ⌝ }
+{
+    if line.to - line.from <= 100 {
+        return line.from;
+    }
+    if at - line.from <= 50 {
+        line.from
+    } else {
+        at - 50
+    }
+}
+
+// What is shown of a line: all of it, or 100 columns about the place.
+fn window(line: Stretch, at: usize) -> Stretch
+    requires { ⌜ (line .from ≤ at) × (at ≤ line .to) ⌝ }
+    ensures { λ r. ⌜ Window line at r ⌝ }
+{
+    let from = window_start(line, at);
+    if line.to - from <= 100 {
+        return Stretch {
+            from: from,
+            to: line.to,
+        };
+    }
+    Stretch {
+        from: from,
+        to: from + 100,
+    }
+}
+
+// One column for each byte, so that the caret stands right.
+fn shown_as(byte: u8) -> u8
+    ensures { λ r. ⌜ r ≡ shownAs byte ⌝ }
+{
+    if byte == b'\t' {
+        return b' ';
+    }
+    if byte < b' ' {
+        return b'?';
+    }
+    if byte < 127 { byte } else { b'?' }
+}
+
+fn say_bytes(text: &[u8], from: usize, to: usize)
+    requires { ⌜ to ≤ length (now text) ⌝ }
+{
+    let mut i = from;
+    while i < to {
+        let column = [shown_as(text[i])];
+        say(&column);
+        i += 1;
+    }
+}
+
+fn say_line(text: &[u8], line: Stretch, shown: Stretch)
+    requires { ⌜ shown .to ≤ length (now text) ⌝ }
+{
+    if line.from < shown.from {
+        say(b"... ")
+    } else {
+        say(b"    ")
+    }
+    say_bytes(text, shown.from, shown.to);
+    if shown.to < line.to {
+        say(b" ...\n")
+    } else {
+        say(b"\n")
+    }
+}
+
+pub fn show(text: &[u8], at: usize) {
+    let seen = seen_at(text, at);
+    let line = line_of(text, seen);
+    let shown = window(line, seen);
+    say(b"line ");
+    say_number(line_number(start(text, line.from)));
+    say(b":\n");
+    say_line(text, line, shown);
+    let blanks = [b' '; 104];
+    say(start(&blanks, 4 + (seen - shown.from)));
+    say(b"^\n")
+}

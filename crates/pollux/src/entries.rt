@@ -1,0 +1,208 @@
+// Entries that stand end to end in a file: each is judged as it comes, through one buffer.
+ghost use Prim.Native.Nat.{_+_, _≤_, _<_};
+ghost use mathlib.Core.Path.{_≡_};
+ghost use lib.ListN.{length};
+ghost use Rattle.pollux.specs.Tallies.{total, counted, mostCounted};
+use crate::refusals::entry_refused;
+use crate::say::cannot;
+use crate::say::say;
+use crate::say::say_count;
+use crate::say::say_number;
+use crate::sizes::entry_end;
+use crate::sizes::entry_size;
+use crate::sizes::whole_entries;
+use paper::Judgement;
+
+// What a restriction is given as.
+pub enum Form {
+    Text,
+    Blocks,
+}
+
+struct Tally {
+    accepted: usize,
+    violated: usize,
+    refused: usize,
+}
+
+impl Tally {
+    fn none() -> Tally
+        ensures { λ r. ⌜ total r ≡ 0 ⌝ }
+    {
+        Tally {
+            accepted: 0,
+            violated: 0,
+            refused: 0,
+        }
+    }
+
+    fn count(mut self, judgement: Judgement) -> Tally
+        requires { ⌜ total self < mostCounted ⌝ }
+        ensures { λ r. ⌜ r ≡ counted judgement self ⌝ }
+        ensures { λ r. ⌜ total r ≡ total self + 1 ⌝ }
+    {
+        match judgement {
+            Judgement::Accepted => self.accepted += 1,
+            Judgement::Violated => self.violated += 1,
+            Judgement::Refused(_, _) => self.refused += 1,
+        }
+        self
+    }
+
+    fn entries(self) -> usize
+        requires { ⌜ total self ≤ mostCounted ⌝ }
+        ensures { λ r. ⌜ r ≡ total self ⌝ }
+    {
+        self.accepted + self.violated + self.refused
+    }
+}
+
+fn judged(form: Form, rule: &[u8], list: &[u8], entry: &[u8]) -> Judgement {
+    match form {
+        Form::Text => valve::judge(rule, list, entry),
+        Form::Blocks => valve::run(list, rule, entry),
+    }
+}
+
+fn say_judged(judgement: Judgement, n: usize) {
+    match judgement {
+        Judgement::Accepted => say(b"accepted entry "),
+        Judgement::Violated => say(b"violated entry "),
+        Judgement::Refused(_, _) => say(b"refused entry "),
+    }
+    say_number(n);
+    match judgement {
+        Judgement::Accepted => say(b"\n"),
+        Judgement::Violated => say(b"\n"),
+        Judgement::Refused(number, place) => entry_refused(number, place),
+    }
+}
+
+// An entry has at least one byte, so there are no more entries than bytes.
+fn judge_held(
+    form: Form,
+    rule: &[u8],
+    list: &[u8],
+    size: usize,
+    part: &[u8],
+    got: usize,
+    before: Tally,
+) -> Tally
+    requires { ⌜ 0 < size ⌝ }
+    requires { ⌜ got ≤ length (now part) ⌝ }
+    requires { ⌜ total before + got < mostCounted ⌝ }
+    ensures { λ r. ⌜ total r ≤ total before + got ⌝ }
+{
+    let mut tally = before;
+    let mut at = 0;
+    while at < got {
+        let to = entry_end(at, size, got);
+        let judgement = judged(form, rule, list, &part[at..to]);
+        tally = tally.count(judgement);
+        say_judged(judgement, tally.entries());
+        at = to;
+    }
+    tally
+}
+
+struct Turn {
+    tally: Tally,
+    full: bool,
+}
+
+fn judge_part(
+    form: Form,
+    rule: &[u8],
+    list: &[u8],
+    size: usize,
+    fd: i32,
+    part: &mut [u8],
+    before: Tally,
+) -> Turn
+    requires { ⌜ 0 < size ⌝ }
+    requires { ⌜ total before + length (now part) < mostCounted ⌝ }
+    ensures { λ r. ⌜ total (r .tally) ≤ total before + length (now (part .entry)) ⌝ }
+{
+    let got = io::read_full(fd, part);
+    let tally = judge_held(form, rule, list, size, part, got, before);
+    Turn {
+        tally: tally,
+        full: (0 < got) & (got == part.len()),
+    }
+}
+
+// As many whole entries as the buffer holds, so that none stands across two turns.
+fn judge_some(
+    form: Form,
+    rule: &[u8],
+    list: &[u8],
+    size: usize,
+    fd: i32,
+    buffer: &mut [u8],
+    before: Tally,
+) -> Turn
+    requires { ⌜ 0 < size ⌝ }
+    requires { ⌜ length (now buffer) ≡ 65536 ⌝ }
+    requires { ⌜ total before + 65536 < mostCounted ⌝ }
+    ensures { λ r. ⌜ total (r .tally) ≤ total before + 65536 ⌝ }
+{
+    let want = whole_entries(size);
+    judge_part(form, rule, list, size, fd, &mut buffer[..want], before)
+}
+
+// A file has fewer than 2^63 bytes, so the turns are enough.
+fn judge_all(form: Form, rule: &[u8], list: &[u8], fd: i32) -> Tally
+    ensures { λ r. ⌜ total r ≤ mostCounted ⌝ }
+{
+    let size = entry_size(list);
+    let mut buffer = io::large_buffer();
+    let mut tally = Tally::none();
+    let mut turns: usize = 1 << 47;
+    while 0 < turns {
+        let turn = judge_some(form, rule, list, size, fd, &mut buffer, tally);
+        tally = turn.tally;
+        let full = turn.full;
+        if full {
+            turns -= 1;
+        } else {
+            turns = 0;
+        }
+    }
+    tally
+}
+
+// A read that failed and the file's end both end the turns. Only the end is told by one more read that gives nothing.
+fn at_end(fd: i32) -> bool {
+    let mut byte = [0u8; 1];
+    libc::read(fd, &mut byte) == 0
+}
+
+fn say_tally(tally: Tally)
+    requires { ⌜ total tally ≤ mostCounted ⌝ }
+{
+    say_count(tally.entries(), b" entry: ", b" entries: ");
+    say_number(tally.accepted);
+    say(b" accepted, ");
+    say_number(tally.violated);
+    say(b" violated, ");
+    say_number(tally.refused);
+    say(b" refused\n")
+}
+
+// The entries in the file that argument 4 names, against a text or blocks that are not refused.
+pub fn judge_file(form: Form, rule: &[u8], list: &[u8]) {
+    let mut path = io::buffer();
+    let n = os::arg(4, &mut path);
+    if os::errno() != 0 {
+        return cannot(b"read ", b"a path that is too long");
+    }
+    let fd = os::open_read(&path[..n]);
+    if fd < 0 {
+        return cannot(b"read ", &path[..n]);
+    }
+    let tally = judge_all(form, rule, list, fd);
+    if !at_end(fd) {
+        return cannot(b"read ", &path[..n]);
+    }
+    say_tally(tally)
+}

@@ -1,0 +1,77 @@
+// Sizes and lengths.
+ghost use Prim.Native.Nat.{_≤_, _<_};
+ghost use mathlib.Core.Path.{_≡_};
+ghost use lib.ListN.{length};
+ghost use Rattle.paper.specs.Blocks.{blocksNeeded};
+ghost use Rattle.pollux.specs.Sizes.{entrySize, wholeEntries, trueOffset, EndsIn};
+use blocks::Block;
+use keys::Entry;
+use keys::KeyRecord;
+use keys::Matched;
+
+// One byte more than a call takes, so that what is too long is seen to be.
+pub const TEXT: usize = 4097;
+
+pub const LIST: usize = 2561;
+
+pub const BLOCKS: usize = 41985;
+
+// A file of which the first bytes are held.
+pub struct Sized {
+    pub held: usize,
+    pub length: usize,
+}
+
+// An offset in a file, of one in the bytes that are held of it: their end stands for the file's.
+pub fn true_offset(at: usize, file: Sized) -> usize
+    ensures { λ r. ⌜ r ≡ trueOffset (file .held) (file .length) at ⌝ }
+{
+    if at == file.held { file.length } else { at }
+}
+
+pub fn entry_size(list: &[u8]) -> usize
+    ensures { λ r. ⌜ r ≡ entrySize (length (now (list .entry))) ⌝ }
+{
+    Entry::HEAD + Matched::SIZE * (list.len() / KeyRecord::SIZE)
+}
+
+// How much of a buffer of 65,536 bytes whole entries can fill.
+pub fn whole_entries(size: usize) -> usize
+    requires { ⌜ 0 < size ⌝ }
+    ensures { λ r. ⌜ (r ≡ wholeEntries size) × (r ≤ 65536) ⌝ }
+{
+    65536 - 65536 % size
+}
+
+// Where the entry at an offset ends: behind its size, or where the bytes do.
+pub fn entry_end(at: usize, size: usize, end: usize) -> usize
+    requires { ⌜ at < end ⌝ }
+    requires { ⌜ 0 < size ⌝ }
+    ensures { λ r. ⌜ EndsIn at size end r ⌝ }
+{
+    if size < end - at { at + size } else { end }
+}
+
+pub fn blocks_needed(instructions: usize) -> usize
+    ensures { λ r. ⌜ r ≡ blocksNeeded instructions ⌝ }
+{
+    let full = instructions / Block::INSTRUCTIONS;
+    if instructions % Block::INSTRUCTIONS == 0 {
+        full
+    } else {
+        full + 1
+    }
+}
+
+// The first n bytes of a room, as far as there are any.
+pub fn start(room: &[u8], n: usize) -> &[u8] {
+    if n <= room.len() { &room[..n] } else { room }
+}
+
+// The blocks at a buffer's start, as far as there are any.
+pub fn first_blocks(buffer: &[u8], blocks: usize) -> &[u8] {
+    if blocks <= Block::MOST {
+        return start(buffer, blocks * Block::SIZE);
+    }
+    buffer
+}

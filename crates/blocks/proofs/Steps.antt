@@ -1,6 +1,6 @@
 -- How the check's sums and a two-byte number go on along a slice.
 use Prim.Native.Nat.{ℕ, zero, suc, _+_, _*_, _-_, _%_, _≤_, _<_}
-use native.Mathlib.Nat.{add-zero, zero-add, zero-mul}
+use native.Mathlib.Nat.{add-zero, zero-add, zero-mul, add-mod, mod-add-mod}
 use native.Mathlib.Numerals.{add-one}
 use native.Mathlib.Omega.{arith}
 use mathlib.Core.Path.{_≡_, refl, sym, _∙_, ap}
@@ -22,11 +22,17 @@ two-off s i h =
     ∙ ap (λ (l : List ℕ). getD s i 0 ∷ l) (drop-cons s (i + 1) 0 (omega arith) ∙ ap (λ (n : ℕ). getD s (i + 1) 0 ∷ drop n s) e)
 
 module _ (s : List ℕ) (i a b : ℕ) where
+  abbrev word : ℕ
+  word = getD s i 0 * 256 + getD s (i + 1) 0
+
+  -- a word may be added to sums that are not reduced
   pub sums-on : 2 ≤ length s - i →
-      sumsFrom a b (drop i s)
-      ≡ sumsFrom ((a + (getD s i 0 * 256 + getD s (i + 1) 0)) % 65535)
-      ((b + (a + (getD s i 0 * 256 + getD s (i + 1) 0)) % 65535) % 65535) (drop (i + 2) s)
-  sums-on h = ap (sumsFrom a b) (two-off s i h)
+      sumsFrom (a % 65535) (b % 65535) (drop i s) ≡ sumsFrom ((a + word) % 65535) ((b + (a + word)) % 65535) (drop (i + 2) s)
+  sums-on h =
+      let rest = drop (i + 2) s in
+      ap (sumsFrom (a % 65535) (b % 65535)) (two-off s i h)
+      ∙ ap (λ (x : ℕ). sumsFrom x ((b % 65535 + x) % 65535) rest) (mod-add-mod a 65535 word)
+      ∙ ap (λ (y : ℕ). sumsFrom ((a + word) % 65535) y rest) (sym (add-mod b (a + word) 65535))
 
   pub sums-end : length s - i < 2 → sumsFrom a b (drop i s) ≡ record { first = a; second = b }
   sums-end h = short (drop i s) (omega (arith, length-drop i s))

@@ -16,18 +16,23 @@ fn wide(x: u8) -> u32
     x as u32
 }
 
+// They are reduced once, at the end: unreduced sums of 508 bytes stay below 2^32.
 pub fn sums_of(s: &[u8]) -> Sums
+    requires { ⌜ length (now s) ≤ 508 ⌝ }
     ensures { λ r. ⌜ (sumsMeant r ≡ sumsOf (now (s .entry))) × (r .first < 65535) × (r .second < 65535) ⌝ }
 {
     let mut first: u32 = 0;
     let mut second: u32 = 0;
     let mut i = 0;
     while 2 <= s.len() - i {
-        first = (first + (wide(s[i]) * 256 + wide(s[i + 1]))) % 65535;
-        second = (second + first) % 65535;
+        first += wide(s[i]) * 256 + wide(s[i + 1]);
+        second += first;
         i += 2;
     }
-    Sums { first, second }
+    Sums {
+        first: first % 65535,
+        second: second % 65535,
+    }
 }
 
 // Stores the check of a block's first 508 bytes behind them.

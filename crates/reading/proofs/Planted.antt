@@ -28,8 +28,8 @@ use Rattle.trees.proofs.Grown.{size-nodes, small-of, same-tree}
 use Rattle.reading.specs.Grown.{Room, Planted}
 
 -- scratch of these sizes is room enough
-pub room : Room 1024 1024 1024 4096 7168
-room = record { tokens = record { kinds = refl; starts = refl; ends = refl }; limbs = refl; nodes = refl }
+pub room : Room 1024 1024 1024 7168
+room = record { tokens = record { kinds = refl; starts = refl; ends = refl }; nodes = refl }
 
 -- the words of a plan, stored from the first on, stand there
 stored-stands : (nodes after : List ℕ) (p : Plan) → size p * 7 ≤ length nodes → after ≡ sets nodes 0 (words 0 p) → Stands after 0 p

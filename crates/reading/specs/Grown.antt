@@ -11,10 +11,9 @@ use Rattle.trees.specs.Words.{Scratch, tapeOf}
 use Rattle.reading.specs.declared.Grown.{Grown}
 use Rattle.reading.specs.declared.Grown.the-variants.{Tree, Refused}
 
--- the slices' lengths: 1,024 tokens with four limbs each, and as many nodes of seven words
-pub record Room (k s e l n : ℕ) : Type 0 where
+-- the slices' lengths: 1,024 tokens, and as many nodes of seven words
+pub record Room (k s e n : ℕ) : Type 0 where
   pub tokens : Scratch k s e
-  pub limbs : l ≡ 4 * mostTokens
   pub nodes : n ≡ 7 * mostTokens
 
 -- a text's tree stands at the last of m nodes

@@ -9,6 +9,7 @@ ghost use Rattle.paper.specs.Tokens.{mostText};
 ghost use Rattle.reading.specs.Grown.{Room, Grows};
 use grammar::Parsed;
 use paper::Place;
+use tokens::MOST_TOKENS;
 use tokens::Tokenized;
 
 // No text is longer: document 01's refusal 1, which is given before a text comes here.
@@ -25,18 +26,18 @@ pub fn read_tree(
     kinds: &mut [u8],
     starts: &mut [u16],
     ends: &mut [u16],
-    limbs: &mut [u32],
     nodes: &mut [u32],
 ) -> Grown
     requires { ⌜ length (now text) ≤ mostText ⌝ }
-    requires { ⌜ Room (length (now kinds)) (length (now starts)) (length (now ends)) (length (now limbs)) (length (now nodes)) ⌝ }
+    requires { ⌜ Room (length (now kinds)) (length (now starts)) (length (now ends)) (length (now nodes)) ⌝ }
     ensures { λ r. ⌜ Grows (now (text .entry)) (now (kinds .exit)) (now (starts .exit)) (now (ends .exit)) (now (nodes .exit)) r ⌝ }
 {
-    let tokenized = tokens::tokenize(text, kinds, starts, ends, limbs);
+    let mut limbs = [0u32; 4 * MOST_TOKENS];
+    let tokenized = tokens::tokenize(text, kinds, starts, ends, &mut limbs);
     match tokenized {
         Tokenized::Refused(number, place) => Grown::Refused(number, place),
         Tokenized::Count(count) => {
-            let parsed = grammar::parse(text, kinds, starts, ends, limbs, count, nodes);
+            let parsed = grammar::parse(text, kinds, starts, ends, &limbs, count, nodes);
             match parsed {
                 Parsed::Refused(number, place) => Grown::Refused(number, place),
                 Parsed::Tree(size) => Grown::Tree(size),

@@ -25,14 +25,13 @@ fn typed_root(
     kinds: &mut [u8],
     starts: &mut [u16],
     ends: &mut [u16],
-    limbs: &mut [u32],
     nodes: &mut [u32],
 ) -> Restricted
     requires { ⌜ length (now text) ≤ mostText ⌝ }
-    requires { ⌜ Room (length (now kinds)) (length (now starts)) (length (now ends)) (length (now limbs)) (length (now nodes)) ⌝ }
+    requires { ⌜ Room (length (now kinds)) (length (now starts)) (length (now ends)) (length (now nodes)) ⌝ }
     ensures { λ r. ⌜ Types (now (text .entry)) (now (list .entry)) (now (kinds .exit)) (now (starts .exit)) (now (ends .exit)) (now (nodes .exit)) r ⌝ }
 {
-    let grown = reading::read_tree(text, kinds, starts, ends, limbs, nodes);
+    let grown = reading::read_tree(text, kinds, starts, ends, nodes);
     match grown {
         Grown::Refused(number, place) => Restricted::Refused(number, place),
         Grown::Tree(size) => {
@@ -52,10 +51,9 @@ pub fn restrict(
     kinds: &mut [u8],
     starts: &mut [u16],
     ends: &mut [u16],
-    limbs: &mut [u32],
     nodes: &mut [u32],
 ) -> Restricted
-    requires { ⌜ Room (length (now kinds)) (length (now starts)) (length (now ends)) (length (now limbs)) (length (now nodes)) ⌝ }
+    requires { ⌜ Room (length (now kinds)) (length (now starts)) (length (now ends)) (length (now nodes)) ⌝ }
     ensures { λ r. ⌜ Restricts (now (text .entry)) (now (list .entry)) (now (kinds .exit)) (now (starts .exit)) (now (ends .exit)) (now (nodes .exit)) r ⌝ }
 {
     if reading::MOST_TEXT < text.len() {
@@ -64,6 +62,6 @@ pub fn restrict(
     let listed = keys::check_list(list);
     match listed {
         Listed::Refused(number, place) => Restricted::Refused(number, place),
-        Listed::Keys(_) => typed_root(text, list, kinds, starts, ends, limbs, nodes),
+        Listed::Keys(_) => typed_root(text, list, kinds, starts, ends, nodes),
     }
 }

@@ -46,9 +46,9 @@ module _ (text list entry : List ℕ) where
         conforming = record { listed = r .listed; entered = K.entered (keysIn list) entry (sym says ∙ ap enteredSays e) }
 
         -- the tree has a value, and that is a truth
-        pub verdict : (v : Value) (b : Bool) → Is (valueOf (keysIn list) (entryIn list entry) root) v → b ≡ isTrue (some v)
+        pub judged-by : (v : Value) (b : Bool) → Is (valueOf (keysIn list) (entryIn list entry) root) v → b ≡ isTrue (some v)
             → ok b ≡ judgeAnswer text list entry
-        verdict v b i t =
+        judged-by v b i t =
             let w = judged (keysIn list) (entryIn list entry) (matches-length entry 0 (keysIn list)) root (r .typed .checked) in
             let h : v ≡ truth (w .0) = subst (λ (o : Option Value). Is o v) (w .1) i in
             let f : b ≡ isTrue (valueOf (keysIn list) (entryIn list entry) root) = rw (t, h, w .1) in

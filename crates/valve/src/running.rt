@@ -1,20 +1,12 @@
 // An entry against blocks: the refusals of a load, then 19 and 20.
 ghost use mathlib.Core.Path.{_≡_};
-ghost use Rattle.paper.specs.Answers.{ok, judgementSays};
+ghost use Rattle.paper.specs.Answers.{judgementSays};
 ghost use Rattle.paper.specs.Calls.{runAnswer};
 use crate::loading;
+use crate::verdict::verdict;
 use keys::Entered;
 use paper::Judgement;
 use paper::Loading;
-
-fn verdict(accepted: bool) -> Judgement
-    ensures { λ r. ⌜ judgementSays r ≡ ok accepted ⌝ }
-{
-    if accepted {
-        return Judgement::Accepted;
-    }
-    Judgement::Violated
-}
 
 // The blocks are loaded here, whoever loaded them before.
 pub fn run(list: &[u8], blocks: &[u8], entry: &[u8]) -> Judgement

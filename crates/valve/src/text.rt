@@ -19,16 +19,8 @@ pub fn read(text: &[u8]) -> Reading
     let mut kinds = [0u8; MOST_TOKENS];
     let mut starts = [0u16; MOST_TOKENS];
     let mut ends = [0u16; MOST_TOKENS];
-    let mut limbs = [0u32; 4 * MOST_TOKENS];
     let mut nodes = [0u32; Node::WORDS * MOST_TOKENS];
-    let grown = reading::read_tree(
-        text,
-        &mut kinds,
-        &mut starts,
-        &mut ends,
-        &mut limbs,
-        &mut nodes,
-    );
+    let grown = reading::read_tree(text, &mut kinds, &mut starts, &mut ends, &mut nodes);
     match grown {
         Grown::Refused(number, place) => Reading::Refused(number, place),
         Grown::Tree(size) => Reading::Read(size),
@@ -41,7 +33,6 @@ pub fn check(text: &[u8], list: &[u8]) -> Checking
     let mut kinds = [0u8; MOST_TOKENS];
     let mut starts = [0u16; MOST_TOKENS];
     let mut ends = [0u16; MOST_TOKENS];
-    let mut limbs = [0u32; 4 * MOST_TOKENS];
     let mut nodes = [0u32; Node::WORDS * MOST_TOKENS];
     let restricted = restricting::restrict(
         text,
@@ -49,7 +40,6 @@ pub fn check(text: &[u8], list: &[u8]) -> Checking
         &mut kinds,
         &mut starts,
         &mut ends,
-        &mut limbs,
         &mut nodes,
     );
     match restricted {

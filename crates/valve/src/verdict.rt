@@ -1,7 +1,7 @@
 // An entry against a text.
 ghost use mathlib.Core.Path.{_≡_};
 ghost use lib.ListN.{length};
-ghost use Rattle.paper.specs.Answers.{judgementSays};
+ghost use Rattle.paper.specs.Answers.{ok, judgementSays};
 ghost use Rattle.paper.specs.Calls.{judgeAnswer};
 ghost use Rattle.trees.specs.Words.{Scratch};
 ghost use Rattle.restricting.specs.Restricted.{Rooted};
@@ -10,6 +10,15 @@ use paper::Judgement;
 use restricting::Restricted;
 use tokens::MOST_TOKENS;
 use trees::Node;
+
+pub fn verdict(accepted: bool) -> Judgement
+    ensures { λ r. ⌜ judgementSays r ≡ ok accepted ⌝ }
+{
+    if accepted {
+        return Judgement::Accepted;
+    }
+    Judgement::Violated
+}
 
 // By the tree at node `root`, of a text that passed: 19; 20; and what it is worth on the entry.
 fn judge_by(
@@ -32,10 +41,7 @@ fn judge_by(
         Entered::Refused(number, place) => Judgement::Refused(number, place),
         Entered::Conforms => {
             let worth = judging::value_at(text, kinds, starts, ends, list, entry, nodes, root);
-            if worth.is_true() {
-                return Judgement::Accepted;
-            }
-            Judgement::Violated
+            verdict(worth.is_true())
         }
     }
 }
@@ -46,7 +52,6 @@ pub fn judge(text: &[u8], list: &[u8], entry: &[u8]) -> Judgement
     let mut kinds = [0u8; MOST_TOKENS];
     let mut starts = [0u16; MOST_TOKENS];
     let mut ends = [0u16; MOST_TOKENS];
-    let mut limbs = [0u32; 4 * MOST_TOKENS];
     let mut nodes = [0u32; Node::WORDS * MOST_TOKENS];
     let restricted = restricting::restrict(
         text,
@@ -54,7 +59,6 @@ pub fn judge(text: &[u8], list: &[u8], entry: &[u8]) -> Judgement
         &mut kinds,
         &mut starts,
         &mut ends,
-        &mut limbs,
         &mut nodes,
     );
     match restricted {

@@ -60,7 +60,6 @@ pub fn translate(text: &[u8], list: &[u8], buffer: &mut [u8]) -> Translation
     let mut kinds = [0u8; MOST_TOKENS];
     let mut starts = [0u16; MOST_TOKENS];
     let mut ends = [0u16; MOST_TOKENS];
-    let mut limbs = [0u32; 4 * MOST_TOKENS];
     let mut nodes = [0u32; Node::WORDS * MOST_TOKENS];
     let restricted = restricting::restrict(
         text,
@@ -68,7 +67,6 @@ pub fn translate(text: &[u8], list: &[u8], buffer: &mut [u8]) -> Translation
         &mut kinds,
         &mut starts,
         &mut ends,
-        &mut limbs,
         &mut nodes,
     );
     match restricted {

@@ -15,14 +15,14 @@ returns-2 c =
 
 returns-3 : tie.Need-returns-3
 returns-3 c =
-    let a = c .before .before .before .before .before .before .before .before .before .before .before .before .before .before .before .before .before .before .before .before .before .before .before .before .before .before .before .args in
-    let short = c .before .before .before .before .before .before .before .before .before .before .before .before .before .before .before .before .before .before .before .if1 .left in
-    let l = c .before .before .before .before .before .before .before .before .before .before .before .before .before .before .before .before .before .before .check-list in
-    let e = c .before .before .before .before .before .before .before .before .before .before .before .before .before .before .before .before .enum-told .given .1 in
-    let t = c .before .before .before .before .before .before .before .before .before .before .typed-root in
+    let a = c .before .before .before .before .before .before .before .before .before .before .before .before .before .before .before .before .before .before .before .before .before .before .before .args in
+    let short = c .before .before .before .before .before .before .before .before .before .before .before .before .before .before .before .before .if1 .left in
+    let l = c .before .before .before .before .before .before .before .before .before .before .before .before .before .before .before .check-list in
+    let e = c .before .before .before .before .before .before .before .before .before .before .before .before .before .enum-told .given .1 in
+    let t = c .before .before .before .before .before .before .before .before .typed-root in
     let kinds = t .last .1 .1 in
     let ends = kinds .1 .1 in
-    restricts (now (a .text)) (now (a .list)) short (l .result) (l .ensures) e (kinds .0) (kinds .1 .0) (ends .0) (ends .1 .1 .0) (t .result) (t .ensures)
+    restricts (now (a .text)) (now (a .list)) short (l .result) (l .ensures) e (kinds .0) (kinds .1 .0) (ends .0) (ends .1 .0) (t .result) (t .ensures)
 
 pub restrict-spec : {M : Type 1} → statement M
 restrict-spec =
@@ -34,9 +34,8 @@ restrict-spec =
     (λ c. search needs)
     (λ c κs. search needs)
     returns-2
-    (λ c. c .before .before .before .before .before .before .before .before .before .before .typed-root .kept .1 .1 .0)
-    (λ c. c .before .before .before .before .before .before .before .before .before .before .typed-root .kept .1 .1 .1 .0)
-    (λ c. c .before .before .before .before .before .before .before .before .before .before .typed-root .kept .1 .1 .1 .1 .0)
-    (λ c. c .before .before .before .before .before .before .before .before .before .before .typed-root .kept .1 .1 .1 .1 .1 .0)
-    (λ c. c .before .before .before .before .before .before .before .before .before .before .typed-root .kept .1 .1 .1 .1 .1 .1 .0)
+    (λ c. c .before .before .before .before .before .before .before .before .typed-root .kept .1 .1 .0)
+    (λ c. c .before .before .before .before .before .before .before .before .typed-root .kept .1 .1 .1 .0)
+    (λ c. c .before .before .before .before .before .before .before .before .typed-root .kept .1 .1 .1 .1 .0)
+    (λ c. c .before .before .before .before .before .before .before .before .typed-root .kept .1 .1 .1 .1 .1 .0)
     returns-3)

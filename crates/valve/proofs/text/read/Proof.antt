@@ -10,13 +10,13 @@ returns c =
 
 returns-2 : tie.Need-returns-2
 returns-2 c =
-    let t = c .before .before .before .before .before .before .before .before .read-tree in
-    not-read _ (c .before .before .before .before .before .before .before .before .before .before .before .before .before .before .if1 .left) _ _ _ _ (t .result) (t .ensures) (c .before .grown .given .1)
+    let t = c .before .before .before .before .before .before .before .read-tree in
+    not-read _ (c .before .before .before .before .before .before .before .before .before .before .before .before .if1 .left) _ _ _ _ (t .result) (t .ensures) (c .before .grown .given .1)
 
 returns-3 : tie.Need-returns-3
 returns-3 c =
-    let t = c .before .before .before .before .before .before .before .before .read-tree in
-    is-read _ (c .before .before .before .before .before .before .before .before .before .before .before .before .before .before .if1 .left) _ _ _ _ (t .result) (t .ensures) (c .before .grown2 .given .1)
+    let t = c .before .before .before .before .before .before .before .read-tree in
+    is-read _ (c .before .before .before .before .before .before .before .before .before .before .before .before .if1 .left) _ _ _ _ (t .result) (t .ensures) (c .before .grown2 .given .1)
 
 pub read-spec : {M : Type 1} → statement M
 read-spec =
@@ -27,8 +27,7 @@ read-spec =
     (λ c. search needs)
     (λ c. search needs)
     (λ c. search needs)
-    (λ c. search needs)
-    (λ c κs. (c .before .before .before .before .before .if1 .left, room))
+    (λ c κs. (c .before .before .before .before .if1 .left, room))
     (λ c. search needs)
     (λ c. search needs)
     returns-2

@@ -1,6 +1,6 @@
 use native.Mathlib.Omega.{arith}
-use mathlib.Core.Path.{sym, _∙_}
-use Rattle.valve.proofs.Verdicts.{conforming, not-entered, verdict}
+use mathlib.Core.Path.{_∙_}
+use Rattle.valve.proofs.Verdicts.{conforming, not-entered, judged-by}
 use borrow.Author.Needs.{needs}
 use Rattle.valve.proofs.verdict.judge_by.Statement.{statement}
 use Rattle.valve.proofs.verdict.judge_by.Tie as tie
@@ -14,25 +14,15 @@ value-at-requires c κs =
 
 returns : tie.Need-returns
 returns c =
-    let r = c .before .before .before .before .before .before .before .before .before .before .before .before .before .pre .1 .1 in
-    let x = c .before .before .before .before .before .check-entry in
-    let e = c .before .before .before .enum-told .given .1 in
-    let t = sym (c .if1 .taken) ∙ c .before .is-true .ensures in
-    verdict _ _ _ _ _ _ _ _ r (x .result) (x .ensures) e _ _ (c .before .before .value-at .ensures) t
+    let x = c .before .before .before .check-entry in
+    not-entered _ _ _ _ _ _ _ _ (c .before .before .before .before .before .before .before .before .before .before .before .pre .1 .1) (x .result) (x .ensures) (c .before .entered .given .1)
 
 returns-2 : tie.Need-returns-2
 returns-2 c =
-    let r = c .before .before .before .before .before .before .before .before .before .before .before .pre .1 .1 in
-    let x = c .before .before .before .check-entry in
-    not-entered _ _ _ _ _ _ _ _ r (x .result) (x .ensures) (c .before .entered .given .1)
-
-returns-3 : tie.Need-returns-3
-returns-3 c =
-    let r = c .before .before .before .before .before .before .before .before .before .before .before .before .before .pre .1 .1 in
     let x = c .before .before .before .before .before .check-entry in
     let e = c .before .before .before .enum-told .given .1 in
-    let t = sym (c .if1 .left) ∙ c .before .is-true .ensures in
-    verdict _ _ _ _ _ _ _ _ r (x .result) (x .ensures) e _ _ (c .before .before .value-at .ensures) t
+    c .verdict .ensures
+    ∙ judged-by _ _ _ _ _ _ _ _ (c .before .before .before .before .before .before .before .before .before .before .before .before .before .pre .1 .1) (x .result) (x .ensures) e _ _ (c .before .before .value-at .ensures) (c .before .is-true .ensures)
 
 pub judge-by-spec : {M : Type 1} → statement M
 judge-by-spec =
@@ -43,6 +33,6 @@ judge-by-spec =
     (λ c. search needs)
     value-at-requires
     (λ c κs. search needs)
+    (λ c κs. search needs)
     returns
-    returns-2
-    returns-3)
+    returns-2)

@@ -3,6 +3,7 @@
 // Each takes every input as a pointer and a length, and answers four numbers by value. Each promises, for all inputs, what the call
 // of `valve` below it promises; `translate` also what each byte of the buffer holds afterwards.
 mod answer;
+mod told;
 
 ghost use mathlib.Core.Path.{_≡_};
 ghost use Rattle.paper.specs.Calls.{readAnswer, checkAnswer, judgeAnswer, translateAnswer, translateBuffer, loadAnswer, runAnswer};

@@ -1,0 +1,7 @@
+// What C is told leaves no doubt.
+ghost use Rattle.abi.specs.Told.{TellsAll};
+
+// From the four numbers of a call its answer can be read back, so no two answers are told by the same.
+pub fn four_numbers_tell_all()
+    ensures { λ _. ⌜ TellsAll ⌝ }
+{}

@@ -1,21 +1,16 @@
-// Document 01's judgements and both sides of every limit, through the public calls. Each line is a case's name and what it got; what
-// it must get is stored in crates/cases/stdout.
-mod build;
-mod entries;
-mod lists;
-mod marked;
-mod programs;
-mod tables;
-mod tell;
-mod texts;
-mod translations;
+// Document 01's judgements and both sides of every limit, through the public calls. The cases stand in crates/cases/stdin, whose head
+// says how they are written; each prints its name and what it got. What it must get stands in crates/cases/stdout.
+mod calls;
+mod commands;
+mod inputs;
+mod names;
+mod scan;
+mod words;
+
+use libc::STDIN_FILENO;
 
 fn main() {
-    let mut room = io::large_buffer();
-    marked::run();
-    texts::run();
-    lists::run(&mut room);
-    entries::run();
-    translations::run();
-    programs::run();
+    let mut file = io::large_buffer();
+    let n = io::read_full(STDIN_FILENO, &mut file);
+    commands::run(lines::start(&file, n));
 }

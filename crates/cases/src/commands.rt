@@ -1,0 +1,86 @@
+// What each line does.
+ghost use Prim.Native.Nat.{_≤_};
+ghost use lib.ListN.{length};
+use crate::calls::call;
+use crate::calls::write_code;
+use crate::inputs::last;
+use crate::names::BLOCKS;
+use crate::names::CHANGE;
+use crate::names::CODE;
+use crate::names::ENTRY;
+use crate::names::READ;
+use crate::names::ROOM;
+use crate::names::RUN;
+use crate::names::TEXT;
+use crate::names::TITLE;
+use crate::names::command_at;
+use crate::scan::byte_at;
+use crate::scan::not_understood;
+use crate::scan::rest_of;
+use crate::scan::scan;
+use crate::words::number;
+use crate::words::put_words;
+
+fn title(name: &[u8]) {
+    lines::say(name);
+    lines::say(b"\n")
+}
+
+// Changes bytes of the room: their offset, and words.
+fn change(rest: &[u8], room: &mut [u8]) {
+    put_words(rest, scan(rest, 0, b' '), room, number(rest, 0));
+}
+
+fn case(command: usize, file: &[u8], at: usize, room: &mut [u8])
+    requires { ⌜ at ≤ length (now file) ⌝ }
+{
+    lines::say(rest_of(file, at));
+    lines::say(b": ");
+    call(command, file, at, room);
+    lines::say(b"\n")
+}
+
+// A line that is no comment, and does not go on with the line above.
+fn unknown(file: &[u8], at: usize)
+    requires { ⌜ at ≤ length (now file) ⌝ }
+{
+    match byte_at(file, at) {
+        b'\n' | b' ' | b'#' => {}
+        _ => not_understood(file, at),
+    }
+}
+
+fn act(command: usize, file: &[u8], at: usize, room: &mut [u8])
+    requires { ⌜ at ≤ length (now file) ⌝ }
+{
+    match command {
+        TEXT..=ENTRY | ROOM => {}
+        CODE => write_code(file, at, room),
+        TITLE => title(rest_of(file, at)),
+        CHANGE => change(rest_of(file, at), room),
+        BLOCKS => call(command, file, at, room),
+        READ..=RUN => case(command, file, at, room),
+        _ => unknown(file, at),
+    }
+}
+
+// A step is lent the first bytes of the room.
+fn step(file: &[u8], at: usize, room: &mut [u8])
+    requires { ⌜ at ≤ length (now file) ⌝ }
+{
+    let command = command_at(file, at);
+    let n = number(rest_of(file, last(file, at, ROOM)), 0);
+    if n <= room.len() {
+        return act(command, file, at, &mut room[..n]);
+    }
+    not_understood(file, at)
+}
+
+pub fn run(file: &[u8]) {
+    let mut room = io::large_buffer();
+    let mut at = 0;
+    while at < file.len() {
+        step(file, at, &mut room);
+        at = scan(file, at, b'\n') + 1;
+    }
+}

@@ -1,0 +1,59 @@
+// The commands: the places of their names in a list. The first four are inputs too.
+ghost use Prim.Native.Nat.{_≤_};
+ghost use lib.ListN.{length};
+use crate::scan::part;
+use crate::scan::scan;
+use keys::bytes::same_bytes;
+
+pub const TEXT: usize = 0;
+
+pub const LIST: usize = 1;
+
+pub const ENTRY: usize = 2;
+
+pub const CODE: usize = 3;
+
+pub const ROOM: usize = 4;
+
+pub const TITLE: usize = 5;
+
+pub const CHANGE: usize = 6;
+
+pub const BLOCKS: usize = 7;
+
+pub const READ: usize = 8;
+
+pub const CHECK: usize = 9;
+
+pub const JUDGE: usize = 10;
+
+pub const TRANSLATE: usize = 11;
+
+pub const LOAD: usize = 12;
+
+pub const RUN: usize = 13;
+
+// Which of some words a word is, counted from 0; their count for none of them.
+fn place_in(words: &[u8], word: &[u8]) -> usize {
+    let mut place = 0;
+    let mut at = 0;
+    while at < words.len() {
+        let end = scan(words, at, b' ');
+        if same_bytes(&words[at..end], word) {
+            return place;
+        }
+        place += 1;
+        at = end + 1;
+    }
+    place
+}
+
+// The command of the line at an offset.
+pub fn command_at(file: &[u8], at: usize) -> usize
+    requires { ⌜ at ≤ length (now file) ⌝ }
+{
+    place_in(
+        b"text list entry code room title change blocks read check judge translate load run",
+        part(file, at, scan(file, at, b':')),
+    )
+}

@@ -1,0 +1,123 @@
+// Bytes, written as words between blanks: pairs of hexadecimal digits (`00ff`), or behind a quote as they stand (`'true`); either may
+// stand behind a count (`13*00`).
+ghost use Prim.Native.Nat.{_+_, _≤_, _<_};
+ghost use lib.ListN.{length};
+use crate::scan::byte_at;
+use crate::scan::not_understood;
+use crate::scan::scan;
+use spelling::bytes::digit_of;
+
+fn digit(s: &[u8], at: usize, base: u8) -> u8
+    requires { ⌜ at ≤ length (now s) ⌝ }
+{
+    let d = digit_of(byte_at(s, at));
+    if base <= d {
+        not_understood(s, at);
+    }
+    d
+}
+
+fn wide(x: u8) -> usize
+    ensures { λ r. ⌜ r < 256 ⌝ }
+{
+    x as usize
+}
+
+// The decimal number of at most six digits that stands at an offset, before a blank or a star.
+pub fn number(s: &[u8], at: usize) -> usize
+    requires { ⌜ at ≤ length (now s) ⌝ }
+{
+    let to = scan(s, at, b'*');
+    let mut n = 0;
+    let mut i = at;
+    while i < to {
+        n = n % 100000 * 10 + wide(digit(s, i, 10));
+        i += 1;
+    }
+    n
+}
+
+// The byte at an offset: as it stands, or two hexadecimal digits.
+fn value(s: &[u8], at: usize, width: usize) -> u8
+    requires { ⌜ at < length (now s) ⌝ }
+{
+    if width == 1 {
+        return s[at];
+    }
+    (digit(s, at, 16) << 4) | digit(s, at + 1, 16)
+}
+
+// Puts bytes of a width of 1 or 2 each into a room from an offset on, and answers the offset behind them.
+pub fn put(s: &[u8], from: usize, to: usize, width: usize, room: &mut [u8], at: usize) -> usize
+    requires { ⌜ (0 < width) × (width ≤ 2) × (to ≤ length (now s)) ⌝ }
+{
+    let mut end = at;
+    let mut i = from;
+    while i < to {
+        if room.len() <= end {
+            not_understood(s, i);
+            return end;
+        }
+        room[end] = value(s, i, width);
+        end += 1;
+        i += width;
+    }
+    end
+}
+
+// How wide the bytes of a word are.
+fn width_at(s: &[u8], at: usize) -> usize
+    ensures { λ r. ⌜ (0 < r) × (r ≤ 2) ⌝ }
+{
+    if byte_at(s, at) == b'\'' { 1 } else { 2 }
+}
+
+fn put_times(s: &[u8], from: usize, to: usize, times: usize, room: &mut [u8], at: usize) -> usize
+    requires { ⌜ (from ≤ length (now s) + 1) × (to ≤ length (now s)) ⌝ }
+{
+    let width = width_at(s, from);
+    let begin = from + (2 - width);
+    let mut end = at;
+    let mut left = times;
+    while 0 < left {
+        end = put(s, begin, to, width, room, end);
+        left -= 1;
+    }
+    end
+}
+
+fn put_word(s: &[u8], from: usize, to: usize, room: &mut [u8], at: usize) -> usize
+    requires { ⌜ (from ≤ to) × (to ≤ length (now s)) ⌝ }
+{
+    let star = scan(s, from, b'*');
+    if byte_at(s, star) != b'*' {
+        return put_times(s, from, to, 1, room, at);
+    }
+    put_times(s, star + 1, to, number(s, from), room, at)
+}
+
+// Where the next word may stand: behind a blank, or in a line that begins with a blank, and else nowhere.
+fn next_word(s: &[u8], end: usize) -> usize
+    requires { ⌜ end ≤ length (now s) ⌝ }
+    ensures { λ r. ⌜ end < r ⌝ }
+{
+    if byte_at(s, end) != b'\n' {
+        return end + 1;
+    }
+    if byte_at(s, end + 1) == b' ' {
+        return end + 1;
+    }
+    s.len() + 1
+}
+
+// Puts the bytes of all words of a line and of the lines that go on with it.
+pub fn put_words(s: &[u8], from: usize, room: &mut [u8], at: usize) -> usize {
+    let mut end = at;
+    let mut i = from;
+    while i < s.len() {
+        let to = scan(s, i, b' ');
+        end = put_word(s, i, to, room, end);
+        i = next_word(s, to);
+    }
+    end
+}

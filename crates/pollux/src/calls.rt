@@ -4,43 +4,41 @@ use crate::entries::judge_file;
 use crate::files::Contents;
 use crate::files::read_argument;
 use crate::refusals::refused;
-use crate::say::cannot;
-use crate::say::say;
+use crate::say::cannot_write;
 use crate::say::say_count;
 use crate::sizes;
-use crate::sizes::start;
+use crate::sizes::Sized;
 use blocks::Block;
+use lines::say;
+use lines::start;
 use paper::Checking;
 use paper::Loading;
 use paper::Translation;
 
-pub fn check() {
-    let mut text = [0u8; sizes::TEXT];
-    let mut list = [0u8; sizes::LIST];
-    let Contents::Held(t) = read_argument(2, &mut text) else {
-        return;
-    };
-    let Contents::Held(k) = read_argument(3, &mut list) else {
-        return;
-    };
-    match valve::check(start(&text, t.held), start(&list, k.held)) {
+// The calls that take a text and a key list.
+pub enum OfText {
+    Check,
+    Translate,
+    Judge,
+}
+
+// The calls that take a key list and blocks.
+pub enum OfBlocks {
+    Load,
+    Run,
+}
+
+fn check(text: &[u8], list: &[u8], t: Sized, k: Sized) {
+    match valve::check(text, list) {
         Checking::Passed => say(b"passed\n"),
-        Checking::Refused(number, place) => refused(number, place, start(&text, t.held), t, k),
+        Checking::Refused(number, place) => refused(number, place, text, t, k),
     }
 }
 
-pub fn judge() {
-    let mut text = [0u8; sizes::TEXT];
-    let mut list = [0u8; sizes::LIST];
-    let Contents::Held(t) = read_argument(2, &mut text) else {
-        return;
-    };
-    let Contents::Held(k) = read_argument(3, &mut list) else {
-        return;
-    };
-    match valve::check(start(&text, t.held), start(&list, k.held)) {
-        Checking::Passed => judge_file(Form::Text, start(&text, t.held), start(&list, k.held)),
-        Checking::Refused(number, place) => refused(number, place, start(&text, t.held), t, k),
+fn judge(text: &[u8], list: &[u8], t: Sized, k: Sized) {
+    match valve::check(text, list) {
+        Checking::Passed => judge_file(Form::Text, text, list),
+        Checking::Refused(number, place) => refused(number, place, text, t, k),
     }
 }
 
@@ -56,25 +54,45 @@ fn write_file(path: &[u8], bytes: &[u8]) -> bool {
     done
 }
 
-// The blocks of a translation that passed, into the file that argument 4 names.
-fn write_blocks(instructions: usize, buffer: &[u8]) {
-    let mut path = io::buffer();
-    let n = os::arg(4, &mut path);
-    if os::errno() != 0 {
-        return cannot(b"write ", b"a path that is too long");
-    }
-    let blocks = sizes::blocks_needed(instructions);
-    if !write_file(&path[..n], sizes::first_blocks(buffer, blocks)) {
-        return cannot(b"write ", &path[..n]);
+fn write_blocks(path: &[u8], instructions: usize, buffer: &[u8]) {
+    let blocks = Block::needed(instructions);
+    if !write_file(path, sizes::first_blocks(buffer, blocks)) {
+        return cannot_write(path);
     }
     say(b"translated ");
     say_count(instructions, b" instruction into ", b" instructions into ");
     say_count(blocks, b" block: ", b" blocks: ");
-    say(&path[..n]);
+    say(path);
     say(b"\n")
 }
 
-pub fn translate() {
+// The blocks of a translation that passed, into the file that argument 4 names.
+fn translated(instructions: usize, buffer: &[u8]) {
+    let mut path = io::buffer();
+    let n = os::arg(4, &mut path);
+    if os::errno() != 0 {
+        return cannot_write(b"a path that is too long");
+    }
+    write_blocks(&path[..n], instructions, buffer)
+}
+
+fn translate(text: &[u8], list: &[u8], t: Sized, k: Sized) {
+    let mut buffer = [0u8; Block::MOST * Block::SIZE];
+    match valve::translate(text, list, &mut buffer) {
+        Translation::Written(n) => translated(n, &buffer),
+        Translation::Refused(number, place) => refused(number, place, text, t, k),
+    }
+}
+
+fn call_of_text(call: OfText, text: &[u8], list: &[u8], t: Sized, k: Sized) {
+    match call {
+        OfText::Check => check(text, list, t, k),
+        OfText::Translate => translate(text, list, t, k),
+        OfText::Judge => judge(text, list, t, k),
+    }
+}
+
+pub fn of_text(call: OfText) {
     let mut text = [0u8; sizes::TEXT];
     let mut list = [0u8; sizes::LIST];
     let Contents::Held(t) = read_argument(2, &mut text) else {
@@ -83,32 +101,27 @@ pub fn translate() {
     let Contents::Held(k) = read_argument(3, &mut list) else {
         return;
     };
-    let mut buffer = [0u8; Block::MOST * Block::SIZE];
-    match valve::translate(start(&text, t.held), start(&list, k.held), &mut buffer) {
-        Translation::Written(n) => write_blocks(n, &buffer),
-        Translation::Refused(number, place) => refused(number, place, start(&text, t.held), t, k),
-    }
+    call_of_text(call, start(&text, t.held), start(&list, k.held), t, k)
 }
 
-pub fn load() {
-    let mut list = [0u8; sizes::LIST];
-    let mut blocks = [0u8; sizes::BLOCKS];
-    let Contents::Held(k) = read_argument(2, &mut list) else {
-        return;
-    };
-    let Contents::Held(b) = read_argument(3, &mut blocks) else {
-        return;
-    };
-    match valve::load(start(&list, k.held), start(&blocks, b.held)) {
-        Loading::Loaded(n) => {
+fn loaded(call: OfBlocks, instructions: usize, list: &[u8], blocks: &[u8]) {
+    match call {
+        OfBlocks::Load => {
             say(b"loaded ");
-            say_count(n, b" instruction\n", b" instructions\n")
+            say_count(instructions, b" instruction\n", b" instructions\n")
         }
-        Loading::Refused(number, place) => refused(number, place, start(&blocks, b.held), b, k),
+        OfBlocks::Run => judge_file(Form::Blocks, blocks, list),
     }
 }
 
-pub fn run() {
+fn load(call: OfBlocks, list: &[u8], blocks: &[u8], k: Sized, b: Sized) {
+    match valve::load(list, blocks) {
+        Loading::Loaded(n) => loaded(call, n, list, blocks),
+        Loading::Refused(number, place) => refused(number, place, blocks, b, k),
+    }
+}
+
+pub fn of_blocks(call: OfBlocks) {
     let mut list = [0u8; sizes::LIST];
     let mut blocks = [0u8; sizes::BLOCKS];
     let Contents::Held(k) = read_argument(2, &mut list) else {
@@ -117,12 +130,5 @@ pub fn run() {
     let Contents::Held(b) = read_argument(3, &mut blocks) else {
         return;
     };
-    match valve::load(start(&list, k.held), start(&blocks, b.held)) {
-        Loading::Loaded(_) => judge_file(
-            Form::Blocks,
-            start(&blocks, b.held),
-            start(&list, k.held),
-        ),
-        Loading::Refused(number, place) => refused(number, place, start(&blocks, b.held), b, k),
-    }
+    load(call, start(&list, k.held), start(&blocks, b.held), k, b)
 }

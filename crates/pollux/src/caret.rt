@@ -3,9 +3,9 @@ ghost use Prim.Native.Nat.{suc, _+_, _≤_};
 ghost use mathlib.Core.Path.{_≡_};
 ghost use lib.ListN.{length};
 ghost use Rattle.pollux.specs.Lines.{breaksAt, breaks, seenAt, LineOf, Window, shownAs};
-use crate::say::say;
 use crate::say::say_number;
-use crate::sizes::start;
+use lines::say;
+use lines::start;
 use spelling::runs::Run;
 use spelling::runs::run_end;
 
@@ -137,9 +137,7 @@ pub fn show(text: &[u8], at: usize) {
     let seen = seen_at(text, at);
     let line = line_of(text, seen);
     let shown = window(line, seen);
-    say(b"line ");
-    say_number(line_number(start(text, line.from)));
-    say(b":\n");
+    say_number(b"line ", line_number(start(text, line.from)), b":\n");
     say_line(text, line, shown);
     let blanks = [b' '; 104];
     say(start(&blanks, 4 + (seen - shown.from)));

@@ -4,8 +4,7 @@ ghost use mathlib.Core.Path.{_≡_};
 ghost use lib.ListN.{length};
 ghost use Rattle.pollux.specs.Tallies.{total, counted, mostCounted};
 use crate::refusals::entry_refused;
-use crate::say::cannot;
-use crate::say::say;
+use crate::say::cannot_read;
 use crate::say::say_count;
 use crate::say::say_number;
 use crate::sizes::entry_end;
@@ -66,15 +65,9 @@ fn judged(form: Form, rule: &[u8], list: &[u8], entry: &[u8]) -> Judgement {
 
 fn say_judged(judgement: Judgement, n: usize) {
     match judgement {
-        Judgement::Accepted => say(b"accepted entry "),
-        Judgement::Violated => say(b"violated entry "),
-        Judgement::Refused(_, _) => say(b"refused entry "),
-    }
-    say_number(n);
-    match judgement {
-        Judgement::Accepted => say(b"\n"),
-        Judgement::Violated => say(b"\n"),
-        Judgement::Refused(number, place) => entry_refused(number, place),
+        Judgement::Accepted => say_number(b"accepted entry ", n, b"\n"),
+        Judgement::Violated => say_number(b"violated entry ", n, b"\n"),
+        Judgement::Refused(number, place) => entry_refused(n, number, place),
     }
 }
 
@@ -180,13 +173,22 @@ fn at_end(fd: i32) -> bool {
 fn say_tally(tally: Tally)
     requires { ⌜ total tally ≤ mostCounted ⌝ }
 {
-    say_count(tally.entries(), b" entry: ", b" entries: ");
-    say_number(tally.accepted);
-    say(b" accepted, ");
-    say_number(tally.violated);
-    say(b" violated, ");
-    say_number(tally.refused);
-    say(b" refused\n")
+    say_count(tally.entries(), b" entry", b" entries");
+    say_number(b": ", tally.accepted, b" accepted");
+    say_number(b", ", tally.violated, b" violated");
+    say_number(b", ", tally.refused, b" refused\n")
+}
+
+fn judge_entries(form: Form, rule: &[u8], list: &[u8], path: &[u8]) {
+    let fd = os::open_read(path);
+    if fd < 0 {
+        return cannot_read(path);
+    }
+    let tally = judge_all(form, rule, list, fd);
+    if !at_end(fd) {
+        return cannot_read(path);
+    }
+    say_tally(tally)
 }
 
 // The entries in the file that argument 4 names, against a text or blocks that are not refused.
@@ -194,15 +196,7 @@ pub fn judge_file(form: Form, rule: &[u8], list: &[u8]) {
     let mut path = io::buffer();
     let n = os::arg(4, &mut path);
     if os::errno() != 0 {
-        return cannot(b"read ", b"a path that is too long");
+        return cannot_read(b"a path that is too long");
     }
-    let fd = os::open_read(&path[..n]);
-    if fd < 0 {
-        return cannot(b"read ", &path[..n]);
-    }
-    let tally = judge_all(form, rule, list, fd);
-    if !at_end(fd) {
-        return cannot(b"read ", &path[..n]);
-    }
-    say_tally(tally)
+    judge_entries(form, rule, list, &path[..n])
 }

@@ -1,7 +1,7 @@
 // Files that arguments name.
 ghost use Prim.Native.Nat.{_≤_};
 ghost use lib.ListN.{length};
-use crate::say::cannot;
+use crate::say::cannot_read;
 use crate::sizes::Sized;
 
 pub enum Contents {
@@ -36,7 +36,7 @@ fn length_from(fd: i32, held: usize) -> Rest
 }
 
 fn unread(path: &[u8]) -> Contents {
-    cannot(b"read ", path);
+    cannot_read(path);
     Contents::Unread
 }
 

@@ -8,28 +8,33 @@ mod calls;
 mod caret;
 mod entries;
 mod files;
+mod reasons;
 mod refusals;
 mod say;
 mod sizes;
 
+use calls::OfBlocks;
+use calls::OfText;
 use keys::bytes::same_bytes;
-use say::say;
 
 fn usage() {
-    say(b"usage: pollux check TEXT KEYS\n");
-    say(b"       pollux translate TEXT KEYS OUT\n");
-    say(b"       pollux load KEYS BLOCKS\n");
-    say(b"       pollux judge TEXT KEYS ENTRIES\n");
-    say(b"       pollux run KEYS BLOCKS ENTRIES\n");
+    lines::say(
+        b"usage: pollux check TEXT KEYS
+       pollux translate TEXT KEYS OUT
+       pollux load KEYS BLOCKS
+       pollux judge TEXT KEYS ENTRIES
+       pollux run KEYS BLOCKS ENTRIES
+",
+    )
 }
 
 // A call of two files.
 fn with_two(call: &[u8]) {
     if same_bytes(call, b"check") {
-        return calls::check();
+        return calls::of_text(OfText::Check);
     }
     if same_bytes(call, b"load") {
-        return calls::load();
+        return calls::of_blocks(OfBlocks::Load);
     }
     usage()
 }
@@ -37,13 +42,13 @@ fn with_two(call: &[u8]) {
 // A call of three.
 fn with_three(call: &[u8]) {
     if same_bytes(call, b"translate") {
-        return calls::translate();
+        return calls::of_text(OfText::Translate);
     }
     if same_bytes(call, b"judge") {
-        return calls::judge();
+        return calls::of_text(OfText::Judge);
     }
     if same_bytes(call, b"run") {
-        return calls::run();
+        return calls::of_blocks(OfBlocks::Run);
     }
     usage()
 }

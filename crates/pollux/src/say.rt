@@ -1,25 +1,30 @@
-// Standard output, in parts of a line.
-use libc::STDOUT_FILENO;
+// Parts of a line on standard output, and what is said of a file that cannot be read or written.
+use lines::say;
 
-pub fn say(s: &[u8]) {
-    io::write_all(STDOUT_FILENO, s);
-}
-
-pub fn say_number(n: usize) {
-    io::print_decimal(STDOUT_FILENO, n as u64);
+pub fn say_number(before: &[u8], n: usize, after: &[u8]) {
+    say(before);
+    lines::say_number(n as u64);
+    say(after);
 }
 
 // A number of things, by the word for one and the word for more.
 pub fn say_count(n: usize, one: &[u8], more: &[u8]) {
-    say_number(n);
+    lines::say_number(n as u64);
     if n == 1 { say(one) } else { say(more) }
 }
 
 // The system's reason goes to standard error, before anything else can change it.
-pub fn cannot(what: &[u8], path: &[u8]) {
+fn cannot(what: &[u8], path: &[u8]) {
     os::fail(path);
-    say(b"cannot ");
     say(what);
     say(path);
     say(b"\n");
+}
+
+pub fn cannot_read(path: &[u8]) {
+    cannot(b"cannot read ", path)
+}
+
+pub fn cannot_write(path: &[u8]) {
+    cannot(b"cannot write ", path)
 }

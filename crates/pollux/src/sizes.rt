@@ -2,7 +2,6 @@
 ghost use Prim.Native.Nat.{_≤_, _<_};
 ghost use mathlib.Core.Path.{_≡_};
 ghost use lib.ListN.{length};
-ghost use Rattle.paper.specs.Blocks.{blocksNeeded};
 ghost use Rattle.pollux.specs.Sizes.{entrySize, wholeEntries, trueOffset, EndsIn};
 use blocks::Block;
 use keys::Entry;
@@ -52,26 +51,10 @@ pub fn entry_end(at: usize, size: usize, end: usize) -> usize
     if size < end - at { at + size } else { end }
 }
 
-pub fn blocks_needed(instructions: usize) -> usize
-    ensures { λ r. ⌜ r ≡ blocksNeeded instructions ⌝ }
-{
-    let full = instructions / Block::INSTRUCTIONS;
-    if instructions % Block::INSTRUCTIONS == 0 {
-        full
-    } else {
-        full + 1
-    }
-}
-
-// The first n bytes of a room, as far as there are any.
-pub fn start(room: &[u8], n: usize) -> &[u8] {
-    if n <= room.len() { &room[..n] } else { room }
-}
-
 // The blocks at a buffer's start, as far as there are any.
 pub fn first_blocks(buffer: &[u8], blocks: usize) -> &[u8] {
     if blocks <= Block::MOST {
-        return start(buffer, blocks * Block::SIZE);
+        return lines::start(buffer, blocks * Block::SIZE);
     }
     buffer
 }

@@ -4,11 +4,12 @@ use mathlib.Core.Path.{_≡_}
 use mathlib.Core.Logic.{_⊎_}
 use mathlib.Core.Bool.{cond, _&&_}
 use mathlib.Core.List.{List, [], _∷_}
-use lib.ListN.{length, getD, drop}
+use lib.ListN.{length, getD, take, drop}
 use lib.Dec.{eqb, ltb, leb}
 use Rattle.paper.specs.Tokens.{span}
 use Rattle.spelling.specs.Runs.{inRun, EndsAt}
-use Rattle.spelling.specs.declared.runs.Run.the-variants.{Line}
+use Rattle.spelling.specs.declared.runs.Run.the-variants.{Line as LineRun}
+use Rattle.pollux.specs.declared.caret.Line.{Line}
 use Rattle.pollux.specs.declared.caret.Stretch.{Stretch}
 
 -- an LF closes a line
@@ -24,15 +25,16 @@ breaks (b ∷ s) = breaksAt b + breaks s
 abbrev pub seenAt : List ℕ → ℕ → ℕ
 seenAt text at = cond (ltb at (length text)) at (length text - breaksAt (getD text (length text - 1) 0))
 
--- a line starts with the text or behind an LF, and goes on to the next LF or to the text's end
-pub record LineOf (text : List ℕ) (at : ℕ) (line : Stretch) : Type 0 where
+-- a line starts with the text or behind an LF, goes on to the next LF or to the text's end, and is counted from 1
+pub record LineOf (text : List ℕ) (at : ℕ) (line : Line) : Type 0 where
   pub starts : (line .from ≡ 0) ⊎ (getD text (line .from - 1) 0 ≡ 10)
-  pub ends : EndsAt text (line .from) (span (inRun Line) (drop (line .from) text)) (line .to)
+  pub ends : EndsAt text (line .from) (span (inRun LineRun) (drop (line .from) text)) (line .to)
   pub before : line .from ≤ at
   pub behind : at ≤ line .to
+  pub counted : line .number ≡ suc (breaks (take (line .from) text))
 
 -- at most 100 columns of a line, the place among them or directly behind them
-pub record Window (line : Stretch) (at : ℕ) (shown : Stretch) : Type 0 where
+pub record Window (line : Line) (at : ℕ) (shown : Stretch) : Type 0 where
   pub inside : line .from ≤ shown .from
   pub before : shown .from ≤ at
   pub behind : at ≤ shown .to

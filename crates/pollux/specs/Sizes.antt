@@ -14,9 +14,9 @@ entrySize list = headSize + matchSize * (list / recordSize)
 abbrev pub wholeEntries : ℕ → ℕ
 wholeEntries size = 65536 - 65536 % size
 
--- a place that is the length of the bytes that are held of a file is the file's length
+-- a place that is the end of the bytes that are held of a file is the file's end
 abbrev pub trueOffset : ℕ → ℕ → ℕ → ℕ
-trueOffset held length at = cond (eqb at held) length at
+trueOffset held size at = cond (eqb at held) size at
 
 -- an entry at an offset ends behind its size, or with the bytes that there are; it is never empty
 pub record EndsIn (at size end r : ℕ) : Type 0 where

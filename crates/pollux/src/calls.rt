@@ -1,13 +1,11 @@
 // The five calls, on the files that arguments 2 to 4 name.
 use crate::entries::Form;
 use crate::entries::judge_file;
-use crate::files::Contents;
 use crate::files::read_argument;
 use crate::refusals::refused;
 use crate::say::cannot_write;
 use crate::say::say_count;
 use crate::sizes;
-use crate::sizes::Sized;
 use blocks::Block;
 use lines::say;
 use lines::start;
@@ -15,30 +13,29 @@ use paper::Checking;
 use paper::Loading;
 use paper::Translation;
 
-// The calls that take a text and a key list.
-pub enum OfText {
+pub enum Call {
     Check,
     Translate,
-    Judge,
-}
-
-// The calls that take a key list and blocks.
-pub enum OfBlocks {
     Load,
+    Judge,
     Run,
 }
 
-fn check(text: &[u8], list: &[u8], t: Sized, k: Sized) {
-    match valve::check(text, list) {
-        Checking::Passed => say(b"passed\n"),
-        Checking::Refused(number, place) => refused(number, place, text, t, k),
+// What a text that passed is for.
+fn passed(call: Call, text: &[u8], list: &[u8]) {
+    if let Call::Judge = call {
+        return judge_file(Form::Text, text, list);
     }
+    say(b"passed\n")
 }
 
-fn judge(text: &[u8], list: &[u8], t: Sized, k: Sized) {
+// Each call is given the first bytes of its first two files, and how many these files have.
+fn check(call: Call, text: &[u8], list: &[u8], text_size: usize, list_size: usize) {
     match valve::check(text, list) {
-        Checking::Passed => judge_file(Form::Text, text, list),
-        Checking::Refused(number, place) => refused(number, place, text, t, k),
+        Checking::Passed => passed(call, text, list),
+        Checking::Refused(number, place) => {
+            refused(number, place, text, list, text_size, list_size)
+        }
     }
 }
 
@@ -59,9 +56,12 @@ fn write_blocks(path: &[u8], instructions: usize, buffer: &[u8]) {
     if !write_file(path, sizes::first_blocks(buffer, blocks)) {
         return cannot_write(path);
     }
-    say(b"translated ");
-    say_count(instructions, b" instruction into ", b" instructions into ");
-    say_count(blocks, b" block: ", b" blocks: ");
+    say_count(
+        b"translated # instruction into ",
+        b"translated # instructions into ",
+        instructions,
+    );
+    say_count(b"# block: ", b"# blocks: ", blocks);
     say(path);
     say(b"\n")
 }
@@ -76,59 +76,63 @@ fn translated(instructions: usize, buffer: &[u8]) {
     write_blocks(&path[..n], instructions, buffer)
 }
 
-fn translate(text: &[u8], list: &[u8], t: Sized, k: Sized) {
-    let mut buffer = [0u8; Block::MOST * Block::SIZE];
+fn translate(text: &[u8], list: &[u8], text_size: usize, list_size: usize) {
+    let mut buffer = io::large_buffer();
     match valve::translate(text, list, &mut buffer) {
         Translation::Written(n) => translated(n, &buffer),
-        Translation::Refused(number, place) => refused(number, place, text, t, k),
-    }
-}
-
-fn call_of_text(call: OfText, text: &[u8], list: &[u8], t: Sized, k: Sized) {
-    match call {
-        OfText::Check => check(text, list, t, k),
-        OfText::Translate => translate(text, list, t, k),
-        OfText::Judge => judge(text, list, t, k),
-    }
-}
-
-pub fn of_text(call: OfText) {
-    let mut text = [0u8; sizes::TEXT];
-    let mut list = [0u8; sizes::LIST];
-    let Contents::Held(t) = read_argument(2, &mut text) else {
-        return;
-    };
-    let Contents::Held(k) = read_argument(3, &mut list) else {
-        return;
-    };
-    call_of_text(call, start(&text, t.held), start(&list, k.held), t, k)
-}
-
-fn loaded(call: OfBlocks, instructions: usize, list: &[u8], blocks: &[u8]) {
-    match call {
-        OfBlocks::Load => {
-            say(b"loaded ");
-            say_count(instructions, b" instruction\n", b" instructions\n")
+        Translation::Refused(number, place) => {
+            refused(number, place, text, list, text_size, list_size)
         }
-        OfBlocks::Run => judge_file(Form::Blocks, blocks, list),
     }
 }
 
-fn load(call: OfBlocks, list: &[u8], blocks: &[u8], k: Sized, b: Sized) {
+// What blocks that loaded are for.
+fn loaded(call: Call, instructions: usize, list: &[u8], blocks: &[u8]) {
+    if let Call::Run = call {
+        return judge_file(Form::Blocks, blocks, list);
+    }
+    say_count(
+        b"loaded # instruction\n",
+        b"loaded # instructions\n",
+        instructions,
+    )
+}
+
+fn load(call: Call, list: &[u8], blocks: &[u8], list_size: usize, blocks_size: usize) {
     match valve::load(list, blocks) {
         Loading::Loaded(n) => loaded(call, n, list, blocks),
-        Loading::Refused(number, place) => refused(number, place, blocks, b, k),
+        Loading::Refused(number, place) => {
+            refused(number, place, blocks, list, blocks_size, list_size)
+        }
     }
 }
 
-pub fn of_blocks(call: OfBlocks) {
-    let mut list = [0u8; sizes::LIST];
-    let mut blocks = [0u8; sizes::BLOCKS];
-    let Contents::Held(k) = read_argument(2, &mut list) else {
+fn answer_on(call: Call, first: &[u8], second: &[u8], first_size: usize, second_size: usize) {
+    match call {
+        Call::Check | Call::Judge => check(call, first, second, first_size, second_size),
+        Call::Translate => translate(first, second, first_size, second_size),
+        Call::Load | Call::Run => load(call, first, second, first_size, second_size),
+    }
+}
+
+// Reads the first two files, TEXT and KEYS or KEYS and BLOCKS, and answers the call. A room has at least one byte more than a call
+// takes, so that what is too long is seen to be.
+pub fn answer(call: Call) {
+    let mut first = [0u8; 4097];
+    let mut second = io::large_buffer();
+    let a = read_argument(2, &mut first);
+    if !a.read {
         return;
-    };
-    let Contents::Held(b) = read_argument(3, &mut blocks) else {
+    }
+    let b = read_argument(3, &mut second);
+    if !b.read {
         return;
-    };
-    load(call, start(&list, k.held), start(&blocks, b.held), k, b)
+    }
+    answer_on(
+        call,
+        start(&first, a.held),
+        start(&second, b.held),
+        a.size,
+        b.size,
+    )
 }

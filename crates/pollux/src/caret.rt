@@ -1,25 +1,25 @@
 // The line that a place of a text stands in, with a caret under the place.
-ghost use Prim.Native.Nat.{suc, _+_, _≤_};
+ghost use Prim.Native.Nat.{_+_, _≤_};
 ghost use mathlib.Core.Path.{_≡_};
 ghost use lib.ListN.{length};
-ghost use Rattle.pollux.specs.Lines.{breaksAt, breaks, seenAt, LineOf, Window, shownAs};
+ghost use Rattle.pollux.specs.Lines.{seenAt, LineOf, Window, shownAs};
 use crate::say::say_number;
 use lines::say;
 use lines::start;
 use spelling::runs::Run;
 use spelling::runs::run_end;
 
-// Bytes from one offset up to another.
-struct Stretch {
+// A line of a text: its number, counted from 1, and its bytes, from one offset up to another.
+struct Line {
+    number: usize,
     from: usize,
     to: usize,
 }
 
-// How many lines a byte closes.
-fn breaks_at(byte: u8) -> usize
-    ensures { λ r. ⌜ (r ≡ breaksAt byte) × (r ≤ 1) ⌝ }
-{
-    if byte == b'\n' { 1 } else { 0 }
+// What is shown of a line.
+struct Stretch {
+    from: usize,
+    to: usize,
 }
 
 // Where the caret of a place stands: at the text's end it is behind the last line, and not on an empty line below it.
@@ -33,35 +33,29 @@ fn seen_at(text: &[u8], at: usize) -> usize
     if n == 0 {
         return n;
     }
-    n - breaks_at(text[n - 1])
+    if text[n - 1] == b'\n' { n - 1 } else { n }
 }
 
-fn line_of(text: &[u8], at: usize) -> Stretch
+fn line_of(text: &[u8], at: usize) -> Line
     requires { ⌜ at ≤ length (now text) ⌝ }
     ensures { λ r. ⌜ LineOf (now (text .entry)) at r ⌝ }
 {
+    let mut number = 1;
     let mut from = 0;
     let mut to = run_end(text, 0, Run::Line);
     while to < at {
+        number += 1;
         from = to + 1;
         to = run_end(text, from, Run::Line);
     }
-    Stretch { from: from, to: to }
-}
-
-fn line_number(before: &[u8]) -> usize
-    ensures { λ r. ⌜ r ≡ suc (breaks (now (before .entry))) ⌝ }
-{
-    let mut n = 1;
-    let mut i = 0;
-    while i < before.len() {
-        n += breaks_at(before[i]);
-        i += 1;
+    Line {
+        number: number,
+        from: from,
+        to: to,
     }
-    n
 }
 
-fn window_start(line: Stretch, at: usize) -> usize
+fn window_start(line: Line, at: usize) -> usize
     requires { ⌜ (line .from ≤ at) × (at ≤ line .to) ⌝ }
     ensures { λ r. ⌜ (line .from ≤ r) × (r ≤ at) × (at ≤ r + 100) ⌝ }
 {
@@ -76,7 +70,7 @@ fn window_start(line: Stretch, at: usize) -> usize
 }
 
 // What is shown of a line: all of it, or 100 columns about the place.
-fn window(line: Stretch, at: usize) -> Stretch
+fn window(line: Line, at: usize) -> Stretch
     requires { ⌜ (line .from ≤ at) × (at ≤ line .to) ⌝ }
     ensures { λ r. ⌜ Window line at r ⌝ }
 {
@@ -117,7 +111,7 @@ fn say_bytes(text: &[u8], from: usize, to: usize)
     }
 }
 
-fn say_line(text: &[u8], line: Stretch, shown: Stretch)
+fn say_line(text: &[u8], line: Line, shown: Stretch)
     requires { ⌜ shown .to ≤ length (now text) ⌝ }
 {
     if line.from < shown.from {
@@ -137,7 +131,7 @@ pub fn show(text: &[u8], at: usize) {
     let seen = seen_at(text, at);
     let line = line_of(text, seen);
     let shown = window(line, seen);
-    say_number(b"line ", line_number(start(text, line.from)), b":\n");
+    say_number(b"line #:\n", line.number);
     say_line(text, line, shown);
     let blanks = [b' '; 104];
     say(start(&blanks, 4 + (seen - shown.from)));

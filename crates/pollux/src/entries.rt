@@ -3,10 +3,12 @@ ghost use Prim.Native.Nat.{_+_, _≤_, _<_};
 ghost use mathlib.Core.Path.{_≡_};
 ghost use lib.ListN.{length};
 ghost use Rattle.pollux.specs.Tallies.{total, counted, mostCounted};
+use crate::files::at_end;
 use crate::refusals::entry_refused;
 use crate::say::cannot_read;
 use crate::say::say_count;
 use crate::say::say_number;
+use crate::say::say_three;
 use crate::sizes::entry_end;
 use crate::sizes::entry_size;
 use crate::sizes::whole_entries;
@@ -25,16 +27,6 @@ struct Tally {
 }
 
 impl Tally {
-    fn none() -> Tally
-        ensures { λ r. ⌜ total r ≡ 0 ⌝ }
-    {
-        Tally {
-            accepted: 0,
-            violated: 0,
-            refused: 0,
-        }
-    }
-
     fn count(mut self, judgement: Judgement) -> Tally
         requires { ⌜ total self < mostCounted ⌝ }
         ensures { λ r. ⌜ r ≡ counted judgement self ⌝ }
@@ -65,27 +57,19 @@ fn judged(form: Form, rule: &[u8], list: &[u8], entry: &[u8]) -> Judgement {
 
 fn say_judged(judgement: Judgement, n: usize) {
     match judgement {
-        Judgement::Accepted => say_number(b"accepted entry ", n, b"\n"),
-        Judgement::Violated => say_number(b"violated entry ", n, b"\n"),
+        Judgement::Accepted => say_number(b"accepted entry #\n", n),
+        Judgement::Violated => say_number(b"violated entry #\n", n),
         Judgement::Refused(number, place) => entry_refused(n, number, place),
     }
 }
 
 // An entry has at least one byte, so there are no more entries than bytes.
-fn judge_held(
-    form: Form,
-    rule: &[u8],
-    list: &[u8],
-    size: usize,
-    part: &[u8],
-    got: usize,
-    before: Tally,
-) -> Tally
-    requires { ⌜ 0 < size ⌝ }
+fn judge_held(form: Form, rule: &[u8], list: &[u8], part: &[u8], got: usize, before: Tally) -> Tally
     requires { ⌜ got ≤ length (now part) ⌝ }
     requires { ⌜ total before + got < mostCounted ⌝ }
     ensures { λ r. ⌜ total r ≤ total before + got ⌝ }
 {
+    let size = entry_size(list);
     let mut tally = before;
     let mut at = 0;
     while at < got {
@@ -98,64 +82,21 @@ fn judge_held(
     tally
 }
 
-struct Turn {
-    tally: Tally,
-    full: bool,
-}
-
-fn judge_part(
-    form: Form,
-    rule: &[u8],
-    list: &[u8],
-    size: usize,
-    fd: i32,
-    part: &mut [u8],
-    before: Tally,
-) -> Turn
-    requires { ⌜ 0 < size ⌝ }
-    requires { ⌜ total before + length (now part) < mostCounted ⌝ }
-    ensures { λ r. ⌜ total (r .tally) ≤ total before + length (now (part .entry)) ⌝ }
-{
-    let got = io::read_full(fd, part);
-    let tally = judge_held(form, rule, list, size, part, got, before);
-    Turn {
-        tally: tally,
-        full: (0 < got) & (got == part.len()),
-    }
-}
-
-// As many whole entries as the buffer holds, so that none stands across two turns.
-fn judge_some(
-    form: Form,
-    rule: &[u8],
-    list: &[u8],
-    size: usize,
-    fd: i32,
-    buffer: &mut [u8],
-    before: Tally,
-) -> Turn
-    requires { ⌜ 0 < size ⌝ }
-    requires { ⌜ length (now buffer) ≡ 65536 ⌝ }
-    requires { ⌜ total before + 65536 < mostCounted ⌝ }
-    ensures { λ r. ⌜ total (r .tally) ≤ total before + 65536 ⌝ }
-{
-    let want = whole_entries(size);
-    judge_part(form, rule, list, size, fd, &mut buffer[..want], before)
-}
-
-// A file has fewer than 2^63 bytes, so the turns are enough.
-fn judge_all(form: Form, rule: &[u8], list: &[u8], fd: i32) -> Tally
+// Judges what a file has left, a part full at a time. A file has fewer than 2^63 bytes, so the turns are enough.
+fn judge_turns(form: Form, rule: &[u8], list: &[u8], fd: i32, part: &mut [u8]) -> Tally
+    requires { ⌜ length (now part) ≤ 65536 ⌝ }
     ensures { λ r. ⌜ total r ≤ mostCounted ⌝ }
 {
-    let size = entry_size(list);
-    let mut buffer = io::large_buffer();
-    let mut tally = Tally::none();
+    let mut tally = Tally {
+        accepted: 0,
+        violated: 0,
+        refused: 0,
+    };
     let mut turns: usize = 1 << 47;
     while 0 < turns {
-        let turn = judge_some(form, rule, list, size, fd, &mut buffer, tally);
-        tally = turn.tally;
-        let full = turn.full;
-        if full {
+        let got = io::read_full(fd, part);
+        tally = judge_held(form, rule, list, part, got, tally);
+        if (0 < got) & (got == part.len()) {
             turns -= 1;
         } else {
             turns = 0;
@@ -164,27 +105,27 @@ fn judge_all(form: Form, rule: &[u8], list: &[u8], fd: i32) -> Tally
     tally
 }
 
-// A read that failed and the file's end both end the turns. Only the end is told by one more read that gives nothing.
-fn at_end(fd: i32) -> bool {
-    let mut byte = [0u8; 1];
-    libc::read(fd, &mut byte) == 0
-}
-
 fn say_tally(tally: Tally)
     requires { ⌜ total tally ≤ mostCounted ⌝ }
 {
-    say_count(tally.entries(), b" entry", b" entries");
-    say_number(b": ", tally.accepted, b" accepted");
-    say_number(b", ", tally.violated, b" violated");
-    say_number(b", ", tally.refused, b" refused\n")
+    say_count(b"# entry: ", b"# entries: ", tally.entries());
+    say_three(
+        b"# accepted, # violated, # refused\n",
+        tally.accepted,
+        tally.violated,
+        tally.refused,
+    )
 }
 
+// As many whole entries at a time as the buffer holds, so that none stands across two turns.
 fn judge_entries(form: Form, rule: &[u8], list: &[u8], path: &[u8]) {
     let fd = os::open_read(path);
     if fd < 0 {
         return cannot_read(path);
     }
-    let tally = judge_all(form, rule, list, fd);
+    let want = whole_entries(entry_size(list));
+    let mut buffer = io::large_buffer();
+    let tally = judge_turns(form, rule, list, fd, &mut buffer[..want]);
     if !at_end(fd) {
         return cannot_read(path);
     }

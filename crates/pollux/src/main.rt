@@ -13,8 +13,8 @@ mod refusals;
 mod say;
 mod sizes;
 
-use calls::OfBlocks;
-use calls::OfText;
+use calls::Call;
+use calls::answer;
 use keys::bytes::same_bytes;
 
 fn usage() {
@@ -31,10 +31,10 @@ fn usage() {
 // A call of two files.
 fn with_two(call: &[u8]) {
     if same_bytes(call, b"check") {
-        return calls::of_text(OfText::Check);
+        return answer(Call::Check);
     }
     if same_bytes(call, b"load") {
-        return calls::of_blocks(OfBlocks::Load);
+        return answer(Call::Load);
     }
     usage()
 }
@@ -42,13 +42,13 @@ fn with_two(call: &[u8]) {
 // A call of three.
 fn with_three(call: &[u8]) {
     if same_bytes(call, b"translate") {
-        return calls::of_text(OfText::Translate);
+        return answer(Call::Translate);
     }
     if same_bytes(call, b"judge") {
-        return calls::of_text(OfText::Judge);
+        return answer(Call::Judge);
     }
     if same_bytes(call, b"run") {
-        return calls::of_blocks(OfBlocks::Run);
+        return answer(Call::Run);
     }
     usage()
 }

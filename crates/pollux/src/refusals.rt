@@ -2,34 +2,12 @@
 use crate::caret;
 use crate::reasons::say_reason;
 use crate::say::say_number;
-use crate::sizes::Sized;
+use crate::say::say_three;
+use crate::say::say_two;
 use crate::sizes::true_offset;
 use keys::Entry;
 use keys::Matched;
-use lines::say;
 use paper::Place;
-
-fn say_refused(number: u8, input: &[u8], at: usize, file: Sized) {
-    let place = true_offset(at, file);
-    say_number(b"refused ", number as usize, b": ");
-    say(input);
-    say_number(b", byte ", place, b": ");
-    say_reason(number, place == file.length)
-}
-
-// Refused before any entry is judged. A text or blocks stand in `held`, the first bytes of `file`.
-pub fn refused(number: u8, place: Place, held: &[u8], file: Sized, list: Sized) {
-    match place {
-        Place::Text(at) => {
-            say_refused(number, b"text", at, file);
-            caret::show(held, at)
-        }
-        Place::List(at) => say_refused(number, b"key list", at, list),
-        Place::Blocks(at) => say_refused(number, b"blocks", at, file),
-        Place::Entry(at) => say_refused(number, b"entry", at, file),
-        Place::Buffer(at) => say_refused(number, b"buffer", at, file),
-    }
-}
 
 fn offset(place: Place) -> usize {
     match place {
@@ -41,26 +19,68 @@ fn offset(place: Place) -> usize {
     }
 }
 
+// By the form that names the input, the offset in the bytes that are held of it, how many these are, and how many it has.
+fn say_refused(form: &[u8], number: u8, at: usize, held: usize, size: usize) {
+    let place = true_offset(at, held, size);
+    say_two(form, number as usize, place);
+    say_reason(number, place == size)
+}
+
+// Refused before any entry is judged, so in the text, the key list or the blocks: the buffer has room for the blocks of every text.
+// `rule` is the text or the blocks.
+pub fn refused(
+    number: u8,
+    place: Place,
+    rule: &[u8],
+    list: &[u8],
+    rule_size: usize,
+    list_size: usize,
+) {
+    let at = offset(place);
+    match place {
+        Place::Text(_) => {
+            say_refused(
+                b"refused #: text, byte #: ",
+                number,
+                at,
+                rule.len(),
+                rule_size,
+            );
+            caret::show(rule, at)
+        }
+        Place::List(_) => say_refused(
+            b"refused #: key list, byte #: ",
+            number,
+            at,
+            list.len(),
+            list_size,
+        ),
+        _ => say_refused(
+            b"refused #: blocks, byte #: ",
+            number,
+            at,
+            rule.len(),
+            rule_size,
+        ),
+    }
+}
+
 // What is wrong with an entry.
 fn say_of_entry(number: u8, at: usize) {
-    if number != 20 {
-        return say_reason(number, false);
+    if number == 20 {
+        if Entry::HEAD <= at {
+            return say_number(
+                b"the record of key # breaks its rule\n",
+                (at - Entry::HEAD) / Matched::SIZE + 1,
+            );
+        }
     }
-    if at < Entry::HEAD {
-        return say_reason(number, false);
-    }
-    say_number(
-        b"the record of key ",
-        (at - Entry::HEAD) / Matched::SIZE + 1,
-        b" breaks its rule\n",
-    )
+    say_reason(number, false)
 }
 
 // Entry n is refused.
 pub fn entry_refused(n: usize, number: u8, place: Place) {
     let at = offset(place);
-    say_number(b"refused entry ", n, b": ");
-    lines::say_number(number as u64);
-    say_number(b" at byte ", at, b": ");
+    say_three(b"refused entry #: # at byte #: ", n, number as usize, at);
     say_of_entry(number, at)
 }

@@ -1,16 +1,55 @@
-// Parts of a line on standard output, and what is said of a file that cannot be read or written.
+// Lines on standard output with numbers in them, and what is said of a file that cannot be read or written.
+ghost use Prim.Native.Nat.{_≤_};
+ghost use lib.ListN.{length};
 use lines::say;
+use lines::start;
 
-pub fn say_number(before: &[u8], n: usize, after: &[u8]) {
-    say(before);
-    lines::say_number(n as u64);
-    say(after);
+// Where the # of a form stands; its end where it has none.
+fn mark(form: &[u8]) -> usize
+    ensures { λ r. ⌜ r ≤ length (now (form .entry)) ⌝ }
+{
+    let mut i = 0;
+    while i < form.len() {
+        if form[i] == b'#' {
+            return i;
+        }
+        i += 1;
+    }
+    i
 }
 
-// A number of things, by the word for one and the word for more.
-pub fn say_count(n: usize, one: &[u8], more: &[u8]) {
+// Says a form up to its #, and a number in its place; answers what stands behind it.
+fn say_up_to(form: &[u8], n: usize) -> &[u8] {
+    let at = mark(form);
+    say(start(form, at));
     lines::say_number(n as u64);
-    if n == 1 { say(one) } else { say(more) }
+    if at < form.len() {
+        &form[at + 1..]
+    } else {
+        &form[at..]
+    }
+}
+
+// Says a form with a number for its #.
+pub fn say_number(form: &[u8], n: usize) {
+    say(say_up_to(form, n))
+}
+
+pub fn say_two(form: &[u8], a: usize, b: usize) {
+    say_number(say_up_to(form, a), b)
+}
+
+pub fn say_three(form: &[u8], a: usize, b: usize, c: usize) {
+    say_two(say_up_to(form, a), b, c)
+}
+
+// A number of things, by the form for one and the form for more.
+pub fn say_count(one: &[u8], more: &[u8], n: usize) {
+    if n == 1 {
+        say_number(one, n)
+    } else {
+        say_number(more, n)
+    }
 }
 
 // The system's reason goes to standard error, before anything else can change it.

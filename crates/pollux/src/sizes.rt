@@ -8,24 +8,11 @@ use keys::Entry;
 use keys::KeyRecord;
 use keys::Matched;
 
-// One byte more than a call takes, so that what is too long is seen to be.
-pub const TEXT: usize = 4097;
-
-pub const LIST: usize = 2561;
-
-pub const BLOCKS: usize = 41985;
-
-// A file of which the first bytes are held.
-pub struct Sized {
-    pub held: usize,
-    pub length: usize,
-}
-
 // An offset in a file, of one in the bytes that are held of it: their end stands for the file's.
-pub fn true_offset(at: usize, file: Sized) -> usize
-    ensures { λ r. ⌜ r ≡ trueOffset (file .held) (file .length) at ⌝ }
+pub fn true_offset(at: usize, held: usize, size: usize) -> usize
+    ensures { λ r. ⌜ r ≡ trueOffset held size at ⌝ }
 {
-    if at == file.held { file.length } else { at }
+    if at == held { size } else { at }
 }
 
 pub fn entry_size(list: &[u8]) -> usize

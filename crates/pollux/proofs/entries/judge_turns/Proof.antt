@@ -3,29 +3,27 @@ use mathlib.Core.Path.{_≡_}
 use lib.ListN.{length}
 use borrow.Author.Needs.{needs}
 use Rattle.pollux.specs.Tallies.{total}
-use Rattle.pollux.proofs.entries.judge_all.Statement.{statement}
-use Rattle.pollux.proofs.entries.judge_all.Tie as tie
+use Rattle.pollux.proofs.entries.judge_turns.Statement.{statement}
+use Rattle.pollux.proofs.entries.judge_turns.Tie as tie
 
 -- one number ends the turns and bounds the entries
 abbrev Inv-loop : tie.InvT-loop
-Inv-loop form rule list fd size buffer₀ tally₀ turns₀ buffer tally turns =
-    (length buffer ≡ 65536) × (0 < size) × (total tally + 65536 * turns ≤ 9223372036854775808)
+Inv-loop form rule list fd part₀ tally₀ turns₀ part tally turns =
+    (length part ≡ length part₀) × (total tally + 65536 * turns ≤ 9223372036854775808)
 
 abbrev μ-loop : tie.MeasureT-loop
-μ-loop form rule list fd size buffer₀ tally₀ turns₀ buffer tally turns = turns
+μ-loop form rule list fd part₀ tally₀ turns₀ part tally turns = turns
 
-pub judge-all-spec : {M : Type 1} → statement M
-judge-all-spec =
+pub judge-turns-spec : {M : Type 1} → statement M
+judge-turns-spec =
     tie.close
     (tie.spec
     Inv-loop
     μ-loop
-    (λ c κs. search needs)
+    (λ c. search needs)
     (λ c κs. search needs)
     (λ c κs. search needs)
     (λ c. search needs)
-    (λ c. search needs)
-    (λ c κs. search needs)
     (λ c. search needs)
     (λ c. search needs)
     (λ c. search needs)

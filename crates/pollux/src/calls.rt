@@ -24,9 +24,10 @@ pub enum Call {
 // What a text that passed is for.
 fn passed(call: Call, text: &[u8], list: &[u8]) {
     if let Call::Judge = call {
-        return judge_file(Form::Text, text, list);
+        judge_file(Form::Text, text, list)
+    } else {
+        say(b"passed\n")
     }
-    say(b"passed\n")
 }
 
 // Each call is given the first bytes of its first two files, and how many these files have.
@@ -45,10 +46,7 @@ fn write_file(path: &[u8], bytes: &[u8]) -> bool {
         return false;
     }
     let done = io::write_all(fd, bytes);
-    if libc::close(fd) < 0 {
-        return false;
-    }
-    done
+    (0 <= libc::close(fd)) & done
 }
 
 fn write_blocks(path: &[u8], instructions: usize, buffer: &[u8]) {
@@ -70,10 +68,11 @@ fn write_blocks(path: &[u8], instructions: usize, buffer: &[u8]) {
 fn translated(instructions: usize, buffer: &[u8]) {
     let mut path = io::buffer();
     let n = os::arg(4, &mut path);
-    if os::errno() != 0 {
-        return cannot_write(b"a path that is too long");
+    if os::errno() == 0 {
+        write_blocks(&path[..n], instructions, buffer)
+    } else {
+        cannot_write(b"a path that is too long")
     }
-    write_blocks(&path[..n], instructions, buffer)
 }
 
 fn translate(text: &[u8], list: &[u8], text_size: usize, list_size: usize) {
@@ -89,13 +88,14 @@ fn translate(text: &[u8], list: &[u8], text_size: usize, list_size: usize) {
 // What blocks that loaded are for.
 fn loaded(call: Call, instructions: usize, list: &[u8], blocks: &[u8]) {
     if let Call::Run = call {
-        return judge_file(Form::Blocks, blocks, list);
+        judge_file(Form::Blocks, blocks, list)
+    } else {
+        say_count(
+            b"loaded # instruction\n",
+            b"loaded # instructions\n",
+            instructions,
+        )
     }
-    say_count(
-        b"loaded # instruction\n",
-        b"loaded # instructions\n",
-        instructions,
-    )
 }
 
 fn load(call: Call, list: &[u8], blocks: &[u8], list_size: usize, blocks_size: usize) {
@@ -121,18 +121,16 @@ pub fn answer(call: Call) {
     let mut first = [0u8; 4097];
     let mut second = io::large_buffer();
     let a = read_argument(2, &mut first);
-    if !a.read {
-        return;
+    if a.read {
+        let b = read_argument(3, &mut second);
+        if b.read {
+            answer_on(
+                call,
+                start(&first, a.held),
+                start(&second, b.held),
+                a.size,
+                b.size,
+            )
+        }
     }
-    let b = read_argument(3, &mut second);
-    if !b.read {
-        return;
-    }
-    answer_on(
-        call,
-        start(&first, a.held),
-        start(&second, b.held),
-        a.size,
-        b.size,
-    )
 }

@@ -121,23 +121,26 @@ fn say_tally(tally: Tally)
 fn judge_entries(form: Form, rule: &[u8], list: &[u8], path: &[u8]) {
     let fd = os::open_read(path);
     if fd < 0 {
-        return cannot_read(path);
+        cannot_read(path)
+    } else {
+        let want = whole_entries(entry_size(list));
+        let mut buffer = io::large_buffer();
+        let tally = judge_turns(form, rule, list, fd, &mut buffer[..want]);
+        if at_end(fd) {
+            say_tally(tally)
+        } else {
+            cannot_read(path)
+        }
     }
-    let want = whole_entries(entry_size(list));
-    let mut buffer = io::large_buffer();
-    let tally = judge_turns(form, rule, list, fd, &mut buffer[..want]);
-    if !at_end(fd) {
-        return cannot_read(path);
-    }
-    say_tally(tally)
 }
 
 // The entries in the file that argument 4 names, against a text or blocks that are not refused.
 pub fn judge_file(form: Form, rule: &[u8], list: &[u8]) {
     let mut path = io::buffer();
     let n = os::arg(4, &mut path);
-    if os::errno() != 0 {
-        return cannot_read(b"a path that is too long");
+    if os::errno() == 0 {
+        judge_entries(form, rule, list, &path[..n])
+    } else {
+        cannot_read(b"a path that is too long")
     }
-    judge_entries(form, rule, list, &path[..n])
 }

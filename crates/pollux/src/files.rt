@@ -54,14 +54,15 @@ fn read_file(path: &[u8], room: &mut [u8]) -> File
     }
     let held = io::read_full(fd, room);
     let size = size_from(fd, held);
-    if !at_end(fd) {
-        return unread(path);
-    }
-    libc::close(fd);
-    File {
-        read: true,
-        held: held,
-        size: size,
+    if at_end(fd) {
+        libc::close(fd);
+        File {
+            read: true,
+            held: held,
+            size: size,
+        }
+    } else {
+        unread(path)
     }
 }
 
@@ -71,8 +72,9 @@ pub fn read_argument(i: usize, room: &mut [u8]) -> File
 {
     let mut path = io::buffer();
     let n = os::arg(i, &mut path);
-    if os::errno() != 0 {
-        return unread(b"a path that is too long");
+    if os::errno() == 0 {
+        read_file(&path[..n], room)
+    } else {
+        unread(b"a path that is too long")
     }
-    read_file(&path[..n], room)
 }

@@ -31,26 +31,25 @@ fn usage() {
 // A call of two files.
 fn with_two(call: &[u8]) {
     if same_bytes(call, b"check") {
-        return answer(Call::Check);
+        answer(Call::Check)
+    } else if same_bytes(call, b"load") {
+        answer(Call::Load)
+    } else {
+        usage()
     }
-    if same_bytes(call, b"load") {
-        return answer(Call::Load);
-    }
-    usage()
 }
 
 // A call of three.
 fn with_three(call: &[u8]) {
     if same_bytes(call, b"translate") {
-        return answer(Call::Translate);
+        answer(Call::Translate)
+    } else if same_bytes(call, b"judge") {
+        answer(Call::Judge)
+    } else if same_bytes(call, b"run") {
+        answer(Call::Run)
+    } else {
+        usage()
     }
-    if same_bytes(call, b"judge") {
-        return answer(Call::Judge);
-    }
-    if same_bytes(call, b"run") {
-        return answer(Call::Run);
-    }
-    usage()
 }
 
 fn main() {

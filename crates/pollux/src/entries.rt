@@ -82,7 +82,7 @@ fn judge_held(form: Form, rule: &[u8], list: &[u8], part: &[u8], got: usize, bef
     tally
 }
 
-// Judges what a file has left, a part full at a time. A file has fewer than 2^63 bytes, so the turns are enough.
+// Judges what a file has left, as much at a time as the part holds. A file has fewer than 2^63 bytes, so the turns are enough.
 fn judge_turns(form: Form, rule: &[u8], list: &[u8], fd: i32, part: &mut [u8]) -> Tally
     requires { ⌜ length (now part) ≤ 65536 ⌝ }
     ensures { λ r. ⌜ total r ≤ mostCounted ⌝ }

@@ -29,8 +29,7 @@ fn size_from(fd: i32, held: usize) -> usize
     size
 }
 
-// A read that failed and the file's end look the same to who reads all there is. Only the end is told by one more read that gives
-// nothing.
+// A read that failed and the file's end both end the reading. Only the end is told by one more read that gives nothing.
 pub fn at_end(fd: i32) -> bool {
     let mut byte = [0u8; 1];
     libc::read(fd, &mut byte) == 0

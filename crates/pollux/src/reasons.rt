@@ -5,7 +5,7 @@ use lines::say;
 use spelling::runs::Run;
 use spelling::runs::run_end;
 
-// Where the line at an offset ends, with its line feed.
+// The offset behind the line that starts at an offset, and behind its line feed.
 fn behind_line(s: &[u8], at: usize) -> usize
     requires { ⌜ at ≤ length (now s) ⌝ }
     ensures { λ r. ⌜ (at ≤ r) × (r ≤ length (now (s .entry))) ⌝ }
@@ -26,7 +26,7 @@ fn say_line(table: &[u8], n: u8) {
     say(&table[from..to])
 }
 
-// The line of a refusal in the table of reasons: two say something else where they stand at the input's end.
+// The line of a refusal in the table below: two say something else where they stand at the input's end.
 fn reason(number: u8, at_end: bool) -> u8 {
     if !at_end {
         return number;
@@ -38,7 +38,7 @@ fn reason(number: u8, at_end: bool) -> u8 {
     }
 }
 
-// Lines 1 to 20 are the reasons of the refusals of these numbers; 20 here is that of the priority.
+// Line N is the reason of refusal N, line 20 that of a wrong priority; 21 and 22 are those of 8 and 18 at the input's end.
 pub fn say_reason(number: u8, at_end: bool) {
     say_line(
         b"the text has more than 4,096 bytes

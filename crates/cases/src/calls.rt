@@ -1,10 +1,7 @@
 // The calls, on what is given.
-ghost use Prim.Native.Nat.{_≤_};
-ghost use lib.ListN.{length};
 use crate::inputs::put_input;
-use crate::inputs::put_last;
-use crate::names::BLOCKS;
 use crate::names::CHECK;
+use crate::names::CODE;
 use crate::names::ENTRY;
 use crate::names::JUDGE;
 use crate::names::LIST;
@@ -12,11 +9,20 @@ use crate::names::LOAD;
 use crate::names::READ;
 use crate::names::TEXT;
 use crate::names::TRANSLATE;
+use crate::scan::not_understood;
 use crate::scan::part;
 use blocks::Block;
 use paper::Translation;
 
-// A text is translated without a word for its blocks alone, unless it is refused.
+// The blocks of instructions, for a list without keys.
+fn write_code(code: &[u8], room: &mut [u8]) {
+    if room.len() / Block::SIZE < Block::needed(code.len() / Block::INSTRUCTION) {
+        return not_understood();
+    }
+    blocks::write_blocks(code, 0, room)
+}
+
+// For its blocks alone a text is translated without a word, unless it is refused.
 fn say_translation(call: usize, translation: Translation) {
     if call == TRANSLATE {
         return lines::say_translation(translation);
@@ -26,9 +32,17 @@ fn say_translation(call: usize, translation: Translation) {
     }
 }
 
-fn answer(call: usize, text: &[u8], list: &[u8], entry: &[u8], room: &mut [u8]) {
+// The calls that write into the room.
+fn write(call: usize, text: &[u8], list: &[u8], room: &mut [u8]) {
+    if call == CODE {
+        return write_code(text, room);
+    }
+    say_translation(call, valve::translate(text, list, room))
+}
+
+// Those that only read.
+fn answer(call: usize, text: &[u8], list: &[u8], entry: &[u8], room: &[u8]) {
     match call {
-        BLOCKS | TRANSLATE => say_translation(call, valve::translate(text, list, room)),
         READ => lines::say_reading(valve::read(text)),
         CHECK => lines::say_checking(valve::check(text, list)),
         JUDGE => lines::say_judgement(valve::judge(text, list, entry)),
@@ -37,32 +51,21 @@ fn answer(call: usize, text: &[u8], list: &[u8], entry: &[u8], room: &mut [u8]) 
     }
 }
 
-pub fn call(command: usize, file: &[u8], at: usize, room: &mut [u8]) {
+// The text, or the instructions of `code`.
+fn first_input(call: usize) -> usize {
+    if call == CODE { CODE } else { TEXT }
+}
+
+// Makes the call of the line at an offset, on the inputs that are given there.
+pub fn make(call: usize, file: &[u8], at: usize, room: &mut [u8]) {
     let mut all = io::large_buffer();
-    let t = put_last(file, at, TEXT, &mut all, 0);
-    let l = put_last(file, at, LIST, &mut all, t);
-    let e = put_last(file, at, ENTRY, &mut all, l);
-    answer(
-        command,
-        part(&all, 0, t),
-        part(&all, t, l),
-        part(&all, l, e),
-        room,
-    )
-}
-
-// The blocks of instructions, for a list without keys.
-fn write_blocks(code: &[u8], room: &mut [u8]) {
-    if room.len() / Block::SIZE < Block::needed(code.len() / Block::INSTRUCTION) {
-        return lines::say(b"no room\n");
+    let t = put_input(file, at, first_input(call), &mut all, 0);
+    let l = put_input(file, at, LIST, &mut all, t);
+    let e = put_input(file, at, ENTRY, &mut all, l);
+    let text = part(&all, 0, t);
+    let list = part(&all, t, l);
+    if call <= TRANSLATE {
+        return write(call, text, list, room);
     }
-    blocks::write_blocks(code, 0, room)
-}
-
-pub fn write_code(file: &[u8], at: usize, room: &mut [u8])
-    requires { ⌜ at ≤ length (now file) ⌝ }
-{
-    let mut code = io::large_buffer();
-    let n = put_input(file, at, &mut code, 0);
-    write_blocks(lines::start(&code, n), room)
+    answer(call, text, list, part(&all, l, e), room)
 }

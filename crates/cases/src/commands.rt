@@ -1,21 +1,20 @@
 // What each line does.
 ghost use Prim.Native.Nat.{_≤_};
 ghost use lib.ListN.{length};
-use crate::calls::call;
-use crate::calls::write_code;
+use crate::calls;
 use crate::inputs::last;
 use crate::names::BLOCKS;
 use crate::names::CHANGE;
 use crate::names::CODE;
-use crate::names::ENTRY;
-use crate::names::READ;
 use crate::names::ROOM;
 use crate::names::RUN;
 use crate::names::TEXT;
 use crate::names::TITLE;
+use crate::names::TRANSLATE;
 use crate::names::command_at;
 use crate::scan::byte_at;
 use crate::scan::not_understood;
+use crate::scan::part;
 use crate::scan::rest_of;
 use crate::scan::scan;
 use crate::words::number;
@@ -36,7 +35,7 @@ fn case(command: usize, file: &[u8], at: usize, room: &mut [u8])
 {
     lines::say(rest_of(file, at));
     lines::say(b": ");
-    call(command, file, at, room);
+    calls::make(command, file, at, room);
     lines::say(b"\n")
 }
 
@@ -46,7 +45,10 @@ fn unknown(file: &[u8], at: usize)
 {
     match byte_at(file, at) {
         b'\n' | b' ' | b'#' => {}
-        _ => not_understood(file, at),
+        _ => {
+            lines::say(part(file, at, scan(file, at, b'\n')));
+            not_understood()
+        }
     }
 }
 
@@ -54,12 +56,11 @@ fn act(command: usize, file: &[u8], at: usize, room: &mut [u8])
     requires { ⌜ at ≤ length (now file) ⌝ }
 {
     match command {
-        TEXT..=ENTRY | ROOM => {}
-        CODE => write_code(file, at, room),
+        TEXT..=ROOM => {}
         TITLE => title(rest_of(file, at)),
         CHANGE => change(rest_of(file, at), room),
-        BLOCKS => call(command, file, at, room),
-        READ..=RUN => case(command, file, at, room),
+        CODE..=BLOCKS => calls::make(command, file, at, room),
+        TRANSLATE..=RUN => case(command, file, at, room),
         _ => unknown(file, at),
     }
 }
@@ -73,7 +74,7 @@ fn step(file: &[u8], at: usize, room: &mut [u8])
     if n <= room.len() {
         return act(command, file, at, &mut room[..n]);
     }
-    not_understood(file, at)
+    not_understood()
 }
 
 pub fn run(file: &[u8]) {

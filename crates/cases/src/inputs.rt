@@ -36,18 +36,11 @@ pub fn last(file: &[u8], to: usize, input: usize) -> usize
     found
 }
 
-// Puts what a line gives: what stands behind a colon as it is, or the bytes of words.
-pub fn put_input(file: &[u8], at: usize, room: &mut [u8], to: usize) -> usize
-    requires { ⌜ at ≤ length (now file) ⌝ }
-{
-    let end = scan(file, at, b':');
+// Puts an input: what stands behind a colon as it is, or the bytes of words.
+pub fn put_input(file: &[u8], at: usize, input: usize, room: &mut [u8], to: usize) -> usize {
+    let end = scan(file, last(file, at, input), b':');
     if byte_at(file, end) == b':' {
         return put(file, end + 2, scan(file, end, b'\n'), 1, room, to);
     }
     put_words(file, end, room, to)
-}
-
-// Puts the input of a call.
-pub fn put_last(file: &[u8], at: usize, input: usize, room: &mut [u8], to: usize) -> usize {
-    put_input(file, last(file, at, input), room, to)
 }

@@ -12,5 +12,8 @@ use libc::STDIN_FILENO;
 fn main() {
     let mut file = io::large_buffer();
     let n = io::read_full(STDIN_FILENO, &mut file);
+    if n == file.len() {
+        scan::not_understood();
+    }
     commands::run(lines::start(&file, n));
 }

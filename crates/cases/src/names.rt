@@ -1,4 +1,4 @@
-// The commands: the places of their names in a list. The first four are inputs too.
+// The commands, by the places of their names in a list: the first four give what calls are lent, and the last six print an answer.
 ghost use Prim.Native.Nat.{_≤_};
 ghost use lib.ListN.{length};
 use crate::scan::part;
@@ -11,23 +11,23 @@ pub const LIST: usize = 1;
 
 pub const ENTRY: usize = 2;
 
-pub const CODE: usize = 3;
+pub const ROOM: usize = 3;
 
-pub const ROOM: usize = 4;
+pub const TITLE: usize = 4;
 
-pub const TITLE: usize = 5;
+pub const CHANGE: usize = 5;
 
-pub const CHANGE: usize = 6;
+pub const CODE: usize = 6;
 
 pub const BLOCKS: usize = 7;
 
-pub const READ: usize = 8;
+pub const TRANSLATE: usize = 8;
 
-pub const CHECK: usize = 9;
+pub const READ: usize = 9;
 
-pub const JUDGE: usize = 10;
+pub const CHECK: usize = 10;
 
-pub const TRANSLATE: usize = 11;
+pub const JUDGE: usize = 11;
 
 pub const LOAD: usize = 12;
 
@@ -53,7 +53,7 @@ pub fn command_at(file: &[u8], at: usize) -> usize
     requires { ⌜ at ≤ length (now file) ⌝ }
 {
     place_in(
-        b"text list entry code room title change blocks read check judge translate load run",
+        b"text list entry room title change code blocks translate read check judge load run",
         part(file, at, scan(file, at, b':')),
     )
 }

@@ -7,7 +7,8 @@ pub fn byte_at(s: &[u8], at: usize) -> u8 {
     if at < s.len() { s[at] } else { 0 }
 }
 
-// Where the first byte stands, from an offset on, that is at most a limit.
+// Where the first byte stands, from an offset on, that is at most a limit. A limit of a line's end finds the line's end, one of a blank
+// the end of a word, and one of a colon the end of a command, whose letters are above it.
 pub fn scan(s: &[u8], at: usize, limit: u8) -> usize
     requires { ⌜ at ≤ length (now s) ⌝ }
     ensures { λ r. ⌜ (at ≤ r) × (r ≤ length (now (s .entry))) ⌝ }
@@ -22,7 +23,7 @@ pub fn scan(s: &[u8], at: usize, limit: u8) -> usize
     i
 }
 
-// The bytes between two offsets, as far as there are any.
+// The bytes from an offset up to another; none where these are no offsets of a part.
 pub fn part(s: &[u8], from: usize, to: usize) -> &[u8] {
     if to <= s.len() {
         if from <= to {
@@ -44,11 +45,7 @@ pub fn rest_of(file: &[u8], at: usize) -> &[u8]
     part(file, name + 1, end)
 }
 
-// Tells what is left of a line.
-pub fn not_understood(s: &[u8], at: usize)
-    requires { ⌜ at ≤ length (now s) ⌝ }
-{
-    lines::say(b"not understood: ");
-    lines::say(part(s, at, scan(s, at, b'\n')));
-    lines::say(b"\n");
+// Stands behind a line that is no command, and where a case has a number or bytes that are none, or more than there is room for.
+pub fn not_understood() {
+    lines::say(b" not understood\n")
 }

@@ -7,20 +7,14 @@ use crate::scan::not_understood;
 use crate::scan::scan;
 use spelling::bytes::digit_of;
 
-fn digit(s: &[u8], at: usize, base: u8) -> u8
-    requires { ⌜ at ≤ length (now s) ⌝ }
+fn digit(s: &[u8], at: usize, base: u8) -> usize
+    ensures { λ r. ⌜ r < 256 ⌝ }
 {
     let d = digit_of(byte_at(s, at));
     if base <= d {
-        not_understood(s, at);
+        not_understood();
     }
-    d
-}
-
-fn wide(x: u8) -> usize
-    ensures { λ r. ⌜ r < 256 ⌝ }
-{
-    x as usize
+    d as usize
 }
 
 // The decimal number of at most six digits that stands at an offset, before a blank or a star.
@@ -31,23 +25,23 @@ pub fn number(s: &[u8], at: usize) -> usize
     let mut n = 0;
     let mut i = at;
     while i < to {
-        n = n % 100000 * 10 + wide(digit(s, i, 10));
+        n = n % 100000 * 10 + digit(s, i, 10);
         i += 1;
     }
     n
 }
 
-// The byte at an offset: as it stands, or two hexadecimal digits.
+// The byte that stands at an offset: a character, or two hexadecimal digits.
 fn value(s: &[u8], at: usize, width: usize) -> u8
     requires { ⌜ at < length (now s) ⌝ }
 {
     if width == 1 {
         return s[at];
     }
-    (digit(s, at, 16) << 4) | digit(s, at + 1, 16)
+    ((digit(s, at, 16) * 16 + digit(s, at + 1, 16)) % 256) as u8
 }
 
-// Puts bytes of a width of 1 or 2 each into a room from an offset on, and answers the offset behind them.
+// Puts bytes that are 1 or 2 characters wide into a room from an offset on, and answers the offset behind them.
 pub fn put(s: &[u8], from: usize, to: usize, width: usize, room: &mut [u8], at: usize) -> usize
     requires { ⌜ (0 < width) × (width ≤ 2) × (to ≤ length (now s)) ⌝ }
 {
@@ -55,7 +49,7 @@ pub fn put(s: &[u8], from: usize, to: usize, width: usize, room: &mut [u8], at: 
     let mut i = from;
     while i < to {
         if room.len() <= end {
-            not_understood(s, i);
+            not_understood();
             return end;
         }
         room[end] = value(s, i, width);
@@ -65,27 +59,28 @@ pub fn put(s: &[u8], from: usize, to: usize, width: usize, room: &mut [u8], at: 
     end
 }
 
-// How wide the bytes of a word are.
-fn width_at(s: &[u8], at: usize) -> usize
-    ensures { λ r. ⌜ (0 < r) × (r ≤ 2) ⌝ }
+// How many quotes stand before the bytes of a word.
+fn quotes_at(s: &[u8], at: usize) -> usize
+    ensures { λ r. ⌜ r ≤ 1 ⌝ }
 {
-    if byte_at(s, at) == b'\'' { 1 } else { 2 }
+    if byte_at(s, at) == b'\'' { 1 } else { 0 }
 }
 
+// Puts the bytes of a word without its count.
 fn put_times(s: &[u8], from: usize, to: usize, times: usize, room: &mut [u8], at: usize) -> usize
     requires { ⌜ (from ≤ length (now s) + 1) × (to ≤ length (now s)) ⌝ }
 {
-    let width = width_at(s, from);
-    let begin = from + (2 - width);
+    let quotes = quotes_at(s, from);
     let mut end = at;
     let mut left = times;
     while 0 < left {
-        end = put(s, begin, to, width, room, end);
+        end = put(s, from + quotes, to, 2 - quotes, room, end);
         left -= 1;
     }
     end
 }
 
+// Of the bytes up to a star the first is the star of a count, the quote of a word without one, or the blank behind a word.
 fn put_word(s: &[u8], from: usize, to: usize, room: &mut [u8], at: usize) -> usize
     requires { ⌜ (from ≤ to) × (to ≤ length (now s)) ⌝ }
 {

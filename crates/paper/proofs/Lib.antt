@@ -35,6 +35,7 @@ pub mod TokenNumbers
 pub mod Yields
 pub mod Shallow
 pub mod Carried
+pub mod ByteLists
 pub mod Sums
 pub mod Bits
 pub mod Laid
@@ -52,5 +53,8 @@ pub mod InOrder
 pub mod TypeFaults
 pub mod Table
 pub mod Located
-pub mod Demands
+pub mod DemandOne
+pub mod DemandTwo
+pub mod DemandThree
 pub mod WrongPrograms
+pub mod WrongProgramsExist

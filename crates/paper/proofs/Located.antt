@@ -16,7 +16,7 @@ use Rattle.paper.specs.Places.{Everywhere}
 use Rattle.paper.specs.Blocks.{inBlock, totalOf, layoutFrom}
 use Rattle.paper.specs.Calls.{tree, restriction}
 use Rattle.paper.specs.Faults.{TextSize, text-over, ListSize, list-uneven, list-over, ListRecords, record-broken, name-repeated, TextTokens, no-token, numeral-large, one-more-token, TextGrammar, TreeTypes, key-unknown, key-of-field-unknown, field-unknown, attribute-unknown, prefix-wrong, join-wrong, comparison-wrong, in-operand, join-left, join-right, comparison-left, comparison-right, RootType, not-bool, BufferSize, buffer-short, BlocksSize, no-blocks, blocks-uneven, blocks-over, blocksIn, BlocksLayout, block-broken, BlocksCode, instruction-fails, end-not-bool, EntrySize, entry-wrong, EntryRules, priority-broken, match-broken}
-use Rattle.paper.specs.Table.{Free, Stage, Given, Decided, Clear, sizeStages, listStages, treeStages, typeStages, bufferStages, blockStages, entryStages, checkStages}
+use Rattle.paper.specs.Table.{lastNumber, Free, Stage, Given, Decided, Clear, sizeStages, listStages, treeStages, typeStages, bufferStages, blockStages, entryStages, checkStages}
 use Rattle.paper.specs.Demands.{Lent, lent}
 use Rattle.paper.proofs.Basics.{some-below}
 use Rattle.paper.proofs.Stages.{bind-ok}
@@ -30,7 +30,7 @@ use Rattle.paper.proofs.TypeFaults.{placed}
 -- a number and an offset in bytes
 pub record Bounded (bytes : List ℕ) (n at : ℕ) : Type 0 where
   pub low : 1 ≤ n
-  pub high : n ≤ 20
+  pub high : n ≤ lastNumber
   pub inside : at ≤ length bytes
 
 pub record Located (inputs : List Lent) (s : Stage) : Type 0 where
@@ -61,7 +61,7 @@ decided-lies inputs (s ∷ ss) n i at h (inr (free, d)) = decided-lies inputs ss
 
 -- stage by stage
 
-bound : {bytes : List ℕ} {n at : ℕ} → 1 ≤ n → n ≤ 20 → at ≤ length bytes → Bounded bytes n at
+bound : {bytes : List ℕ} {n at : ℕ} → 1 ≤ n → n ≤ lastNumber → at ≤ length bytes → Bounded bytes n at
 bound a b c = record { low = a; high = b; inside = c }
 
 text-bounded : (text : List ℕ) (n at : ℕ) → TextSize text n at → Bounded text n at
@@ -80,7 +80,7 @@ tokens-bounded text n at (no-token cut few inside e) = bound (omega arith) (omeg
 tokens-bounded text n at (numeral-large cut few inside e) = bound (omega arith) (omega arith) (omega arith)
 tokens-bounded text n at (one-more-token k m cut full inside e) = bound (omega arith) (omega arith) (omega arith)
 
-number-bounded : (ts taken us : List Token) (n : ℕ) → Number ts taken us n → (1 ≤ n) × (n ≤ 20)
+number-bounded : (ts taken us : List Token) (n : ℕ) → Number ts taken us n → (1 ≤ n) × (n ≤ lastNumber)
 number-bounded ts taken us n (text-ends h) = (omega arith, omega arith)
 number-bounded ts taken us n (no-sentence h) = (omega arith, omega arith)
 number-bounded ts taken us n (too-deep o s h) = (omega arith, omega arith)
@@ -97,7 +97,7 @@ all-inside text t h =
     let (ts, cut, read) = bind-ok (tokens text) (parsed (length text)) t h in
     places-in-text text ts t cut read
 
-type-number : (ks : List Key) (t : Tree) (n at : ℕ) → TreeTypes ks t n at → (1 ≤ n) × (n ≤ 20)
+type-number : (ks : List Key) (t : Tree) (n at : ℕ) → TreeTypes ks t n at → (1 ≤ n) × (n ≤ lastNumber)
 type-number ks t n at (key-unknown to e) = (omega arith, omega arith)
 type-number ks t n at (key-of-field-unknown to past e) = (omega arith, omega arith)
 type-number ks t n at (field-unknown to past k e h) = (omega arith, omega arith)

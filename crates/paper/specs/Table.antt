@@ -11,6 +11,10 @@ use Rattle.paper.specs.Keys.{keys}
 use Rattle.paper.specs.Calls.{tree, restriction, readAnswer, checkAnswer, judgeAnswer, translateAnswer, loadAnswer, runAnswer}
 use Rattle.paper.specs.Faults.{Faults, TextSize, ListSize, ListRecords, Cuts, TextTokens, TextGrammar, TreeTypes, RootType, BufferSize, BlocksSize, BlocksLayout, BlocksCode, EntrySize, EntryRules}
 
+-- the table's numbers run from 1 to this one
+abbrev pub lastNumber : ℕ
+lastNumber = 20
+
 -- "In a stage the earliest place wins; at one place the lower number wins."
 
 abbrev pub Sooner : ℕ → ℕ → ℕ → ℕ → Type 0

@@ -1,7 +1,5 @@
 // A text alone, and a text against a key list.
-ghost use mathlib.Core.Path.{_≡_};
-ghost use Rattle.paper.specs.Answers.{readingSays, checkingSays};
-ghost use Rattle.paper.specs.Calls.{readAnswer, checkAnswer};
+ghost use Rattle.paper.specs.Promised.{ReadPromised, CheckPromised};
 use paper::Checking;
 use paper::Place;
 use paper::Reading;
@@ -10,8 +8,9 @@ use restricting::Restricted;
 use tokens::MOST_TOKENS;
 use trees::Node;
 
+// How many nodes the text's tree has.
 pub fn read(text: &[u8]) -> Reading
-    ensures { λ r. ⌜ readingSays r ≡ readAnswer (now (text .entry)) ⌝ }
+    ensures { λ r. ⌜ ReadPromised (now (text .entry)) r ⌝ }
 {
     if reading::MOST_TEXT < text.len() {
         return Reading::Refused(1, Place::Text(reading::MOST_TEXT));
@@ -27,8 +26,9 @@ pub fn read(text: &[u8]) -> Reading
     }
 }
 
+// Whether the text is a restriction that is good for the keys of the list.
 pub fn check(text: &[u8], list: &[u8]) -> Checking
-    ensures { λ r. ⌜ checkingSays r ≡ checkAnswer (now (text .entry)) (now (list .entry)) ⌝ }
+    ensures { λ r. ⌜ CheckPromised (now (text .entry)) (now (list .entry)) r ⌝ }
 {
     let mut kinds = [0u8; MOST_TOKENS];
     let mut starts = [0u16; MOST_TOKENS];

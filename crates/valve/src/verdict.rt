@@ -2,7 +2,7 @@
 ghost use mathlib.Core.Path.{_≡_};
 ghost use lib.ListN.{length};
 ghost use Rattle.paper.specs.Answers.{ok, judgementSays};
-ghost use Rattle.paper.specs.Calls.{judgeAnswer};
+ghost use Rattle.paper.specs.Promised.{JudgePromised};
 ghost use Rattle.trees.specs.Words.{Scratch};
 ghost use Rattle.restricting.specs.Restricted.{Rooted};
 use keys::Entered;
@@ -34,7 +34,7 @@ fn judge_by(
     requires { ⌜ Scratch (length (now kinds)) (length (now starts)) (length (now ends)) ⌝ }
     requires { ⌜ length (now nodes) ≡ 7168 ⌝ }
     requires { ⌜ Rooted (now text) (now list) (now kinds) (now starts) (now ends) (now nodes) root ⌝ }
-    ensures { λ r. ⌜ judgementSays r ≡ judgeAnswer (now (text .entry)) (now (list .entry)) (now (entry .entry)) ⌝ }
+    ensures { λ r. ⌜ JudgePromised (now (text .entry)) (now (list .entry)) (now (entry .entry)) r ⌝ }
 {
     let entered = keys::check_entry(list, entry);
     match entered {
@@ -46,8 +46,9 @@ fn judge_by(
     }
 }
 
+// What the text says of an entry.
 pub fn judge(text: &[u8], list: &[u8], entry: &[u8]) -> Judgement
-    ensures { λ r. ⌜ judgementSays r ≡ judgeAnswer (now (text .entry)) (now (list .entry)) (now (entry .entry)) ⌝ }
+    ensures { λ r. ⌜ JudgePromised (now (text .entry)) (now (list .entry)) (now (entry .entry)) r ⌝ }
 {
     let mut kinds = [0u8; MOST_TOKENS];
     let mut starts = [0u16; MOST_TOKENS];

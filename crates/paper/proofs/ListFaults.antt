@@ -10,15 +10,15 @@ use mathlib.Core.List.{List}
 use lib.ListN.{length}
 use lib.Dec.{eqb, leb}
 use borrow.Author.Tests.{eqb-true, eqb-false, leb-true, leb-false}
-use Rattle.paper.specs.Answers.{Answer, ok, refused, _>>=_, require, inList}
+use Rattle.paper.specs.Answers.{ok, _>>=_, require, inTurn, inList}
 use Rattle.paper.specs.Tokens.{sameBytes}
-use Rattle.paper.specs.Keys.{recordSize, mostKeys, recordAt, nameOf, recordOk, findFrom, find, keysFrom, isNone, recordsFrom, keys}
-use Rattle.paper.specs.Faults.{ListSize, list-uneven, list-over, recordsIn, ListRecords, record-broken, name-repeated}
+use Rattle.paper.specs.Keys.{recordSize, mostKeys, recordAt, recordsIn, nameOf, recordOk, findFrom, keysFrom, isNone, isNew, recordTest, keys}
+use Rattle.paper.specs.Faults.{ListSize, list-uneven, list-over, ListRecords, record-broken, name-repeated}
 use Rattle.paper.specs.Table.{listStages}
 use Rattle.paper.proofs.Basics.{either-false}
 use Rattle.paper.proofs.Words.{same-bytes, not-bytes}
 use Rattle.paper.proofs.Staged.{Tells, test-tells, Follows, follows-one, follows-as, follows-then}
-use Rattle.paper.proofs.Earliest.{testsFrom, Indexed, TellsAt, tests-tell}
+use Rattle.paper.proofs.Earliest.{Indexed, TellsAt, tests-tell}
 
 -- the names before a record
 
@@ -52,36 +52,15 @@ module _ (list : List ℕ) (name : List ℕ) where
 
 -- records
 
--- by whether a record's layout is right, and its name new
-abbrev verdict : Bool → Bool → ℕ → Answer (Unit {0})
-verdict good new k = cond good (cond new (ok tt) (refused 4 inList (k * recordSize))) (refused 3 inList (k * recordSize))
-
 module _ (list : List ℕ) where
   abbrev Repeats : ℕ → Type 0
   Repeats k = (j : ℕ) × (j < k) × (nameOf (recordAt list j) ≡ nameOf (recordAt list k))
 
-  abbrev isNew : ℕ → Bool
-  isNew k = isNone (find (keysFrom list 0 k) (nameOf (recordAt list k)))
-
-  repeats : (k : ℕ) → isNew k ≡ false → Repeats k
+  repeats : (k : ℕ) → isNew list k ≡ false → Repeats k
   repeats k h = let (j, low, high, same) = named list (nameOf (recordAt list k)) k 0 0 h in (j, omega arith, same)
 
-  not-repeats : (k : ℕ) → isNew k ≡ true → ¬ Repeats k
+  not-repeats : (k : ℕ) → isNew list k ≡ true → ¬ Repeats k
   not-repeats k h (j, l, same) = not-named list (nameOf (recordAt list k)) k 0 0 h (j, omega arith, omega arith, same)
-
-  abbrev recordTest : ℕ → Answer (Unit {0})
-  recordTest k = verdict (recordOk (recordAt list k)) (isNew k) k
-
-  records-tests : (n k : ℕ) → recordsFrom list k n ≡ testsFrom recordTest k n
-  records-tests zero k = refl
-  records-tests (suc n) k = go (recordOk (recordAt list k)) (isNew k) (records-tests n (suc k))
-    where
-      go : (b c : Bool) → recordsFrom list (suc k) n ≡ testsFrom recordTest (suc k) n
-          → cond b (cond c (recordsFrom list (suc k) n) (refused 4 inList (k * recordSize))) (refused 3 inList (k * recordSize))
-          ≡ (verdict b c k >>= λ _. testsFrom recordTest (suc k) n)
-      go true true h = h
-      go true false h = refl
-      go false c h = refl
 
   indexed : Indexed (ListRecords list) (recordsIn list) (λ k. k * recordSize)
   indexed = record { index = index; rises = λ j k l. omega arith }
@@ -102,7 +81,7 @@ module _ (list : List ℕ) where
       let same : j ≡ k = omega arith in
       inr (refl, subst Repeats same (i, l, h))
 
-  no-fault : (k n : ℕ) → recordOk (recordAt list k) ≡ true → isNew k ≡ true → ¬ FaultOf k n
+  no-fault : (k n : ℕ) → recordOk (recordAt list k) ≡ true → isNew list k ≡ true → ¬ FaultOf k n
   no-fault k n good new (inl (e, bad)) = true≢false (sym good ∙ bad)
   no-fault k n good new (inr (e, again)) = not-repeats k new again
 
@@ -115,24 +94,22 @@ module _ (list : List ℕ) where
   least-good k m good (inr (e, again)) = omega (arith, e)
 
   record-tells : (k : ℕ) → k < recordsIn list
-      → TellsAt inList (ListRecords list) (recordsIn list) (λ k. k * recordSize) indexed k (recordTest k)
-  record-tells k l = go (recordOk (recordAt list k)) (isNew k) refl refl
+      → TellsAt inList (ListRecords list) (recordsIn list) (λ k. k * recordSize) indexed k (recordTest list k)
+  record-tells k l = go (recordOk (recordAt list k)) (isNew list k) refl refl
     where
       here : (n : ℕ) → ListRecords list n (k * recordSize) → FaultOf k n
       here n h = fault-of k n (k * recordSize) h refl
 
-      go : (b c : Bool) → recordOk (recordAt list k) ≡ b → isNew k ≡ c
-          → TellsAt inList (ListRecords list) (recordsIn list) (λ k. k * recordSize) indexed k (verdict b c k)
+      go : (b c : Bool) → recordOk (recordAt list k) ≡ b → isNew list k ≡ c
+          → TellsAt inList (ListRecords list) (recordsIn list) (λ k. k * recordSize) indexed k (require b 3 inList (k * recordSize) >>= λ _. require c 4 inList (k * recordSize))
       go true true good new = λ n h. no-fault k n good new (here n h)
       go true false good old =
           let (j, less, same) = repeats k old in
           (refl, refl, name-repeated j k less l same, λ m h. least-good k m good (here m h))
       go false c bad _ = (refl, refl, record-broken k l bad, λ m h. least k m (here m h))
 
-  records-tell : Tells inList (ListRecords list) (recordsFrom list 0 (recordsIn list))
-  records-tell =
-      rw (records-tests (recordsIn list) 0)
-      (tests-tell inList (ListRecords list) (recordsIn list) (λ k. k * recordSize) indexed recordTest record-tells)
+  records-tell : Tells inList (ListRecords list) (inTurn (recordTest list) 0 (recordsIn list))
+  records-tell = tests-tell inList (ListRecords list) (recordsIn list) (λ k. k * recordSize) indexed (recordTest list) record-tells
 
   -- the length
 
@@ -167,9 +144,10 @@ pub list-follows : (list : List ℕ) → Follows (listStages list) (keys list)
 unfolding keys
 list-follows list =
     let n = recordsIn list in
-    follows-then _ _ (require (sizeOk list) 2 inList (length list)) (λ _. recordsFrom list 0 n >>= λ _. ok (keysFrom list 0 n))
-    (follows-one inList (ListSize list) (require (sizeOk list) 2 inList (length list))
+    let size = require (sizeOk list) 2 inList (length list) in
+    let records = inTurn (recordTest list) 0 n in
+    follows-then _ _ size (λ _. records >>= λ _. ok (keysFrom list 0 n))
+    (follows-one inList (ListSize list) size
     (test-tells (ListSize list) (sizeOk list) 2 inList (length list) (size-free list) (size-fault list) (size-only list)))
     (λ _ _.
-    follows-as _ (recordsFrom list 0 n) (λ _. keysFrom list 0 n)
-    (follows-one inList (ListRecords list) (recordsFrom list 0 n) (records-tell list)))
+    follows-as _ records (λ _. keysFrom list 0 n) (follows-one inList (ListRecords list) records (records-tell list)))

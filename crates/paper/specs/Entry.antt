@@ -2,13 +2,14 @@
 -- "An entry for n keys has exactly 4 + 36n bytes, numbers big-endian. Bytes 0 to 3: priority, below 2^31. Each key's record:
 -- byte 0 present (0 or 1); byte 1 prefix length; bytes 2, 3 zero; 16 bytes first number (value or low); 16 bytes second
 -- number (mask or high). Fields a kind lacks are zero. Numbers are below 2^W."
-use Prim.Native.Nat.{ℕ, zero, suc, _+_, _*_, _-_, _%_, _^_}
+use Prim.Native.Nat.{ℕ, suc, _+_, _*_, _-_, _%_, _^_}
 use mathlib.Core.Bool.{Bool, true, false, not, cond, _&&_, _||_}
+use mathlib.Core.Option.{Option, none, some}
 use mathlib.Core.List.{List, [], _∷_}
-use lib.ListN.{length, drop}
+use lib.ListN.{length, drop, getElem?}
 use lib.Bits.{bitAnd}
 use lib.Dec.{eqb, ltb, leb}
-use Rattle.paper.specs.Answers.{Answer, ok, refused, _>>=_, require, inEntry}
+use Rattle.paper.specs.Answers.{Answer, ok, _>>=_, require, inTurn, inEntry}
 use Rattle.paper.specs.Numbers.{byteAt, bytesAt, numberAt}
 use Rattle.paper.specs.Keys.{Kind, exact, ternary, lpm, range, optional, Key, allZero}
 
@@ -83,20 +84,23 @@ abbrev pub matchesFrom : List ℕ → ℕ → List Key → List Match
 matchesFrom entry k [] = []
 matchesFrom entry k (key ∷ keys) = matchOf key (matchAt entry k) ∷ matchesFrom entry (suc k) keys
 
--- 20: "priority or a key's entry record breaks its rule", from record k on
-abbrev pub rulesFrom : List ℕ → ℕ → List Key → Answer (Unit {0})
-rulesFrom entry k [] = ok tt
-rulesFrom entry k (key ∷ keys) =
-    let later = rulesFrom entry (suc k) keys in
-    cond (matchOk key (matchAt entry k)) later (refused 20 inEntry (headSize + k * matchSize))
-
 abbrev pub priorityOf : List ℕ → ℕ
 priorityOf entry = numberAt entry 0 4
+
+-- a rule asked of a key, if there is one: of no key, nothing is asked
+abbrev pub asked : Option Key → (Key → Bool) → Bool
+asked none rule = true
+asked (some key) rule = rule key
+
+-- 20: "priority or a key's entry record breaks its rule". Of the record of key k
+abbrev pub ruleTest : List Key → List ℕ → ℕ → Answer (Unit {0})
+ruleTest keys entry k =
+    require (asked (getElem? keys k) (λ key. matchOk key (matchAt entry k))) 20 inEntry (headSize + k * matchSize)
 
 -- 19: "entry length wrong"; then 20
 unfoldable pub entryOf : List Key → List ℕ → Answer Entry
 entryOf keys entry =
     require (eqb (length entry) (headSize + matchSize * length keys)) 19 inEntry (length entry)
     >>= λ _. require (ltb (priorityOf entry) (2 ^ 31)) 20 inEntry 0
-    >>= λ _. rulesFrom entry 0 keys
+    >>= λ _. inTurn (ruleTest keys entry) 0 (length keys)
     >>= λ _. ok (record { priority = priorityOf entry; matches = matchesFrom entry 0 keys })

@@ -1,5 +1,5 @@
 -- 01, "Refusal numbers", the table row by row: what each number is given for, and the offset that it stands at.
-use Prim.Native.Nat.{ℕ, suc, _+_, _*_, _-_, _/_, _%_, _^_, _≤_, _<_}
+use Prim.Native.Nat.{ℕ, suc, _+_, _*_, _%_, _^_, _≤_, _<_}
 use mathlib.Core.Path.{_≡_}
 use mathlib.Core.Logic.{_≢_}
 use mathlib.Core.Bool.{false}
@@ -9,13 +9,13 @@ use lib.ListN.{length, drop, getElem?}
 use Rattle.paper.specs.Answers.{ok}
 use Rattle.paper.specs.Numbers.{byteAt}
 use Rattle.paper.specs.Tokens.{bytes, Prefix, Join, Comparison, Tok, Token, Scan, blank, token, noToken, tooLarge, scan, mostTokens, mostText}
-use Rattle.paper.specs.Keys.{Key, recordSize, mostKeys, recordAt, nameOf, recordOk, find}
+use Rattle.paper.specs.Keys.{Key, recordSize, mostKeys, recordsIn, recordAt, nameOf, recordOk, find}
 use Rattle.paper.specs.Entry.{headSize, matchSize, matchAt, matchOk, priorityOf}
 use Rattle.paper.specs.Grammar.{Tree, key, field, attribute, prefixed, joined, compared, placeOf}
 use Rattle.paper.specs.Sentences.{Stops, placeFrom}
 use Rattle.paper.specs.Types.{Ty, bool, andThen, fieldNamed, fieldType, prefixType, joinType, comparisonType, typeOf}
 use Rattle.paper.specs.Code.{Instruction, act, ends, typeAction, actionOf}
-use Rattle.paper.specs.Blocks.{blockSize, mostBlocks, blocksNeeded, blockOk}
+use Rattle.paper.specs.Blocks.{blockSize, mostBlocks, blocksNeeded, blocksIn, blockOk}
 use Rattle.paper.specs.Loading.{instructionAt, program, typesAlong}
 use Rattle.paper.specs.Translating.{codeOf}
 use Rattle.paper.specs.Calls.{Restriction}
@@ -32,9 +32,6 @@ pub data TextSize (text : List ℕ) : ℕ → ℕ → Type 0 where
 pub data ListSize (list : List ℕ) : ℕ → ℕ → Type 0 where
   list-uneven : length list % recordSize ≢ 0 → ListSize list 2 (length list)
   list-over : mostKeys * recordSize < length list → ListSize list 2 (length list)
-
-abbrev pub recordsIn : List ℕ → ℕ
-recordsIn list = length list / recordSize
 
 -- 3: "a key record breaks its layout"; record's first byte
 -- 4: "a name repeats an earlier one"; later record's first byte
@@ -110,13 +107,9 @@ pub data BlocksSize (blocks : List ℕ) : ℕ → ℕ → Type 0 where
   blocks-uneven : length blocks % blockSize ≢ 0 → BlocksSize blocks 16 (length blocks)
   blocks-over : mostBlocks * blockSize < length blocks → BlocksSize blocks 16 (length blocks)
 
-abbrev pub blocksIn : List ℕ → ℕ
-blocksIn blocks = length blocks / blockSize
-
 -- 17: "a block breaks its layout"; its first byte
 pub data BlocksLayout (keys : ℕ) (blocks : List ℕ) : ℕ → ℕ → Type 0 where
-  block-broken : (k : ℕ) → k < blocksIn blocks → blockOk keys blocks k (blocksIn blocks - suc k) ≡ false
-      → BlocksLayout keys blocks 17 (k * blockSize)
+  block-broken : (k : ℕ) → k < blocksIn blocks → blockOk keys blocks k ≡ false → BlocksLayout keys blocks 17 (k * blockSize)
 
 -- 18: "an instruction fails the load check"; its first byte, or length at the end. The instructions before it pass, and hold types
 -- on which it does not act; or all pass, and what is held at the end is not one bool

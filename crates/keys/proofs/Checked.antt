@@ -7,25 +7,25 @@ use lib.Dec.{eqb, leb}
 use lib.ListN.{length}
 use borrow.Author.Tests.{eqb-true, leb-true}
 use Rattle.paper.specs.Answers.{ok, refused, _>>=_, require, inTurn, Input, inList}
-use Rattle.paper.specs.Keys.{Key, recordSize, recordsIn, recordAt, recordOk, isNew, recordTest, keys}
+use Rattle.paper.specs.Keys.{Key, recordSize, recordsIn, recordAt, recordOk, isNew, recordTest, layoutRule, keys}
 use Rattle.paper.proofs.InTurn.{each-passes}
 use Rattle.keys.specs.Says.{keysIn, keyCount}
 use Rattle.keys.proofs.Answering.{and-both, required, passed-on, refused-on}
 use Rattle.keys.proofs.Records.{keys-length}
 
 -- a record that passes its test keeps its layout
-kept : (list : List ℕ) (k : ℕ) → recordTest list k ≡ ok tt → recordOk (recordAt list k) ≡ true
+kept : (list : List ℕ) (k : ℕ) → recordTest layoutRule list k ≡ ok tt → recordOk (recordAt list k) ≡ true
 kept list k e =
     required 3 inList (k * recordSize) (recordOk (recordAt list k)) (require (isNew list k) 4 inList (k * recordSize)) e .0
 
 module _ (list : List ℕ) {ks : List Key} (e : keys list ≡ ok ks) where
   parts : (eqb (length list % recordSize) 0 ≡ true) × (leb (length list) 2560 ≡ true)
-      × (inTurn (recordTest list) 0 (recordsIn list) ≡ ok tt) × (keysIn list ≡ ks)
+      × (inTurn (recordTest layoutRule list) 0 (recordsIn list) ≡ ok tt) × (keysIn list ≡ ks)
   unfolding keys
   parts =
       let whole = eqb (length list % recordSize) 0 in
       let short = leb (length list) 2560 in
-      let records = inTurn (recordTest list) 0 (recordsIn list) in
+      let records = inTurn (recordTest layoutRule list) 0 (recordsIn list) in
       let p = required 2 inList (length list) (whole && short) (records >>= λ _. ok (keysIn list)) e in
       let q = passed-on (λ _. keysIn list) records (p .1) in
       let b = and-both whole short (p .0) in
@@ -41,7 +41,7 @@ module _ (list : List ℕ) {ks : List Key} (e : keys list ≡ ok ks) where
   are-keys = sym (parts .3)
 
   pub good-record : (k : ℕ) → k < recordsIn list → recordOk (recordAt list k) ≡ true
-  good-record k h = kept list k (each-passes (recordTest list) (recordsIn list) (parts .2) k h)
+  good-record k h = kept list k (each-passes (recordTest layoutRule list) (recordsIn list) (parts .2) k h)
 
 -- what check_list's answer tells
 

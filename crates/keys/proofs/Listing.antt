@@ -7,7 +7,7 @@ use mathlib.Core.List.{List}
 use lib.ListN.{length}
 use borrow.Author.Tests.{eq-eqb, ne-eqb, le-leb, lt-leb}
 use Rattle.paper.specs.Answers.{Answer, ok, refused, _>>=_, inTurn, inList}
-use Rattle.paper.specs.Keys.{recordSize, recordsIn, recordAt, recordOk, nameOf, find, keysFrom, recordTest, keys}
+use Rattle.paper.specs.Keys.{recordSize, recordsIn, recordAt, recordOk, nameOf, find, keysFrom, recordTest, layoutRule, keys}
 use Rattle.keys.specs.Says.{keysIn, keyCount}
 use Rattle.keys.proofs.Records.{keys-length}
 
@@ -27,18 +27,18 @@ module _ (list : List ℕ) where
 
   -- where the length is right the records decide
   pub by-records : {a : Answer (Unit {0})} → length list % recordSize ≡ 0 → length list ≤ 2560
-      → inTurn (recordTest list) 0 (recordsIn list) ≡ a → keyCount list ≡ (a >>= λ _. ok (recordsIn list))
+      → inTurn (recordTest layoutRule list) 0 (recordsIn list) ≡ a → keyCount list ≡ (a >>= λ _. ok (recordsIn list))
   unfolding keys
   by-records {a} h g e = rw (eq-eqb _ _ h, le-leb _ _ g, e) (counted a)
 
 -- what is found of record k decides its test
 module _ (list : List ℕ) (k : ℕ) {r : List ℕ} (at : r ≡ recordAt list k) where
-  pub broken : recordOk r ≡ false → recordTest list k ≡ refused 3 inList (k * recordSize)
+  pub broken : recordOk r ≡ false → recordTest layoutRule list k ≡ refused 3 inList (k * recordSize)
   broken e = rw (← at, e)
 
   module _ {name : List ℕ} (good : recordOk r ≡ true) (named : name ≡ nameOf r) where
-    pub repeated : {j : ℕ} → find (keysFrom list 0 k) name ≡ some j → recordTest list k ≡ refused 4 inList (k * recordSize)
+    pub repeated : {j : ℕ} → find (keysFrom list 0 k) name ≡ some j → recordTest layoutRule list k ≡ refused 4 inList (k * recordSize)
     repeated f = rw (← at, good, ← named, f)
 
-    pub new : find (keysFrom list 0 k) name ≡ none → recordTest list k ≡ ok tt
+    pub new : find (keysFrom list 0 k) name ≡ none → recordTest layoutRule list k ≡ ok tt
     new f = rw (← at, good, ← named, f)

@@ -9,7 +9,7 @@ use lib.Dec.{eqb, leb}
 use borrow.Author.Tests.{leb-true}
 use Rattle.paper.specs.Answers.{ok, _>>=_, require, inTurn, inList}
 use Rattle.paper.specs.Numbers.{byteAt}
-use Rattle.paper.specs.Keys.{mostKeys, recordSize, recordsIn, recordAt, recordOk, isNew, keysFrom, recordTest, keys}
+use Rattle.paper.specs.Keys.{mostKeys, recordSize, recordsIn, recordAt, recordOk, isNew, keysFrom, recordTest, layoutRule, keys}
 use Rattle.paper.specs.Written.{All, Width, Listed, KeysListed}
 use Rattle.paper.proofs.Basics.{and-false, and-right}
 use Rattle.paper.proofs.Stages.{bind-ok, require-ok}
@@ -29,13 +29,13 @@ narrow-record r h = (leb-true 1 (byteAt r 2) (low (leb 1 (byteAt r 2)) refl), le
     high false e = (simp (e, and-false) at h)
 
 -- a record that passes its test keeps its layout
-kept : (list : List ℕ) (k : ℕ) → recordTest list k ≡ ok tt → recordOk (recordAt list k) ≡ true
+kept : (list : List ℕ) (k : ℕ) → recordTest layoutRule list k ≡ ok tt → recordOk (recordAt list k) ≡ true
 kept list k h =
     let good = recordOk (recordAt list k) in
     let (u, passed, _) = bind-ok (require good 3 inList (k * recordSize)) (λ _. require (isNew list k) 4 inList (k * recordSize)) tt h in
     require-ok good 3 inList (k * recordSize) u passed
 
-narrow-keys : (list : List ℕ) (n k : ℕ) → ((j : ℕ) → j < k + n → recordTest list j ≡ ok tt) → All (λ x. Width (x .width)) (keysFrom list k n)
+narrow-keys : (list : List ℕ) (n k : ℕ) → ((j : ℕ) → j < k + n → recordTest layoutRule list j ≡ ok tt) → All (λ x. Width (x .width)) (keysFrom list k n)
 narrow-keys list zero k each = tt
 narrow-keys list (suc n) k each =
     (narrow-record (recordAt list k) (kept list k (each k (omega arith))), narrow-keys list n (suc k) (λ j l. each j (omega arith)))
@@ -49,9 +49,9 @@ unfolding keys
 keys-listed list ks h =
     let n = recordsIn list in
     let fit = eqb (length list % recordSize) 0 && leb (length list) (mostKeys * recordSize) in
-    let tests = inTurn (recordTest list) 0 n in
+    let tests = inTurn (recordTest layoutRule list) 0 n in
     let a = bind-ok (require fit 2 inList (length list)) (λ _. tests >>= λ _. ok (keysFrom list 0 n)) ks h in
     let b = bind-ok tests (λ _. ok (keysFrom list 0 n)) ks (a .2) in
     let short = leb-true (length list) (mostKeys * recordSize) (and-right (eqb (length list % recordSize) 0) _ (require-ok fit 2 inList (length list) (a .0) (a .1))) in
     let e : keysFrom list 0 n ≡ ks = cc in
-    subst Listed e (record { few = rw keys-length (omega arith); widths = narrow-keys list n 0 (λ k l. each-passes (recordTest list) n (b .1) k (omega arith)) })
+    subst Listed e (record { few = rw keys-length (omega arith); widths = narrow-keys list n 0 (λ k l. each-passes (recordTest layoutRule list) n (b .1) k (omega arith)) })

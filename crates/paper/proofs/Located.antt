@@ -8,7 +8,7 @@ use mathlib.Core.List.{List, [], _∷_, _++_, List·Memᴰ}
 use lib.ListN.{length, length-append}
 use Rattle.paper.specs.Answers.{Input, inText, inList, inEntry, inBlocks, inBuffer, ok, inTurn}
 use Rattle.paper.specs.Tokens.{Token, tokens}
-use Rattle.paper.specs.Keys.{Key, keys}
+use Rattle.paper.specs.Keys.{Key, layoutRule, keys}
 use Rattle.paper.specs.Entry.{headSize, matchSize}
 use Rattle.paper.specs.Grammar.{Tree, truth, number, key, field, attribute, prefixed, joined, compared, parsed, placeOf}
 use Rattle.paper.specs.Sentences.{Number, text-ends, no-sentence, too-deep, bad-string}
@@ -71,7 +71,7 @@ list-size-bounded : (list : List ℕ) (n at : ℕ) → ListSize list n at → Bo
 list-size-bounded list n at (list-uneven d) = bound (omega arith) (omega arith) (omega arith)
 list-size-bounded list n at (list-over l) = bound (omega arith) (omega arith) (omega arith)
 
-records-bounded : (list : List ℕ) (n at : ℕ) → ListRecords list n at → Bounded list n at
+records-bounded : (list : List ℕ) (n at : ℕ) → ListRecords layoutRule list n at → Bounded list n at
 records-bounded list n at (record-broken k l h) = bound (omega arith) (omega arith) (omega arith)
 records-bounded list n at (name-repeated j k l m h) = bound (omega arith) (omega arith) (omega arith)
 

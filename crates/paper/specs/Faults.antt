@@ -9,7 +9,7 @@ use lib.ListN.{length, drop, getElem?}
 use Rattle.paper.specs.Answers.{ok}
 use Rattle.paper.specs.Numbers.{byteAt}
 use Rattle.paper.specs.Tokens.{bytes, Prefix, Join, Comparison, Tok, Token, Scan, blank, token, noToken, tooLarge, scan, mostTokens, mostText}
-use Rattle.paper.specs.Keys.{Key, recordSize, mostKeys, recordsIn, recordAt, nameOf, recordOk, find}
+use Rattle.paper.specs.Keys.{Key, recordSize, mostKeys, recordsIn, recordAt, nameOf, RecordRule, find}
 use Rattle.paper.specs.Entry.{headSize, matchSize, matchAt, matchOk, priorityOf}
 use Rattle.paper.specs.Grammar.{Tree, key, field, attribute, prefixed, joined, compared, placeOf}
 use Rattle.paper.specs.Sentences.{Stops, placeFrom}
@@ -35,10 +35,11 @@ pub data ListSize (list : List ℕ) : ℕ → ℕ → Type 0 where
 
 -- 3: "a key record breaks its layout"; record's first byte
 -- 4: "a name repeats an earlier one"; later record's first byte
-pub data ListRecords (list : List ℕ) : ℕ → ℕ → Type 0 where
-  record-broken : (k : ℕ) → k < recordsIn list → recordOk (recordAt list k) ≡ false → ListRecords list 3 (k * recordSize)
+-- A list is read by a rule of its records: in every call of 01 that of their layout
+pub data ListRecords (rule : RecordRule) (list : List ℕ) : ℕ → ℕ → Type 0 where
+  record-broken : (k : ℕ) → k < recordsIn list → rule k (recordAt list k) ≡ false → ListRecords rule list 3 (k * recordSize)
   name-repeated : (j k : ℕ) → j < k → k < recordsIn list → nameOf (recordAt list j) ≡ nameOf (recordAt list k)
-      → ListRecords list 4 (k * recordSize)
+      → ListRecords rule list 4 (k * recordSize)
 
 -- what stands at an offset that no token before it covers
 abbrev pub scanAt : List ℕ → ℕ → Scan

@@ -91,15 +91,26 @@ isNone (some a) = false
 abbrev pub isNew : List ℕ → ℕ → Bool
 isNew list k = isNone (find (keysFrom list 0 k) (nameOf (recordAt list k)))
 
+-- what is asked of a record, by its index, before its name is compared
+abbrev pub RecordRule : Type 0
+RecordRule = ℕ → List ℕ → Bool
+
 -- 3: "a key record breaks its layout"; 4: "a name repeats an earlier one". Of record k
-abbrev pub recordTest : List ℕ → ℕ → Answer (Unit {0})
-recordTest list k =
-    require (recordOk (recordAt list k)) 3 inList (k * recordSize)
+abbrev pub recordTest : RecordRule → List ℕ → ℕ → Answer (Unit {0})
+recordTest rule list k =
+    require (rule k (recordAt list k)) 3 inList (k * recordSize)
     >>= λ _. require (isNew list k) 4 inList (k * recordSize)
 
 -- 2: "key list length not a multiple of 80, or over 2,560"; then 3 and 4
-unfoldable pub keys : List ℕ → Answer (List Key)
-keys list =
+abbrev pub keysBy : RecordRule → List ℕ → Answer (List Key)
+keysBy rule list =
     require (eqb (length list % recordSize) 0 && leb (length list) (mostKeys * recordSize)) 2 inList (length list)
-    >>= λ _. inTurn (recordTest list) 0 (recordsIn list)
+    >>= λ _. inTurn (recordTest rule list) 0 (recordsIn list)
     >>= λ _. ok (keysFrom list 0 (recordsIn list))
+
+-- the layout, which is the same for every index
+abbrev pub layoutRule : RecordRule
+layoutRule k r = recordOk r
+
+unfoldable pub keys : List ℕ → Answer (List Key)
+keys list = keysBy layoutRule list

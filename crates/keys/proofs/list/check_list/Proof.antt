@@ -7,7 +7,7 @@ use native.Mathlib.Nat.{sub-zero}
 use denote.Ref.{now}
 use borrow.Author.Needs.{needs}
 use Rattle.paper.specs.Answers.{Answer, ok, _>>=_, inTurn}
-use Rattle.paper.specs.Keys.{recordsIn, recordTest}
+use Rattle.paper.specs.Keys.{recordsIn, recordTest, layoutRule}
 use Rattle.paper.proofs.InTurn.{goes-on, stops, is-over}
 use Rattle.keys.specs.Says.{found, keyCount}
 use Rattle.keys.proofs.Steps.{refuted, granted}
@@ -16,7 +16,7 @@ use Rattle.keys.proofs.list.check_list.Statement.{statement}
 use Rattle.keys.proofs.list.check_list.Tie as tie
 
 abbrev Inv-loop : tie.InvT-loop
-Inv-loop list size n k₀ k = (k ≤ n) × (inTurn (recordTest list) k (n - k) ≡ inTurn (recordTest list) 0 n)
+Inv-loop list size n k₀ k = (k ≤ n) × (inTurn (recordTest layoutRule list) k (n - k) ≡ inTurn (recordTest layoutRule list) 0 n)
 
 abbrev μ-loop : tie.MeasureT-loop
 μ-loop list size n k₀ k = n - k
@@ -33,7 +33,7 @@ abbrev k : tie.At-loop Inv-loop μ-loop → ℕ
 k l = l .loop .k
 
 -- what the tests from record k on say is the answer
-decided : (l : tie.At-loop Inv-loop μ-loop) {a : Answer (Unit {0})} → inTurn (recordTest (list l)) (k l) (n l - k l) ≡ a
+decided : (l : tie.At-loop Inv-loop μ-loop) {a : Answer (Unit {0})} → inTurn (recordTest layoutRule (list l)) (k l) (n l - k l) ≡ a
     → keyCount (list l) ≡ (a >>= λ _. ok (n l))
 decided l e = by-records (list l) (search needs) (search needs) (sym (l .loop .inv .1) ∙ e)
 
@@ -50,7 +50,7 @@ returns-3 c =
     let r = c .before in
     let l = loop-of r in
     let bad = refuted (r .record-ok .ensures) (c .if3 .taken) in
-    sym (decided l (stops (recordTest (list l)) (n l) (k l) (search needs) (broken (list l) (k l) (r .before .record-at .ensures .0) bad)))
+    sym (decided l (stops (recordTest layoutRule (list l)) (n l) (k l) (search needs) (broken (list l) (k l) (r .before .record-at .ensures .0) bad)))
 
 returns-4 : tie.Need-returns-4 Inv-loop μ-loop
 returns-4 c =
@@ -59,7 +59,7 @@ returns-4 c =
     let l = loop-of r in
     let good = granted (r .record-ok .ensures) (f .before .before .if3 .left) in
     let there = sym (f .find-among .ensures) ∙ ap found (c .enum-told2 .given .1) in
-    sym (decided l (stops (recordTest (list l)) (n l) (k l) (search needs)
+    sym (decided l (stops (recordTest layoutRule (list l)) (n l) (k l) (search needs)
     (repeated (list l) (k l) (r .before .record-at .ensures .0) good (f .before .name-of .ensures) there)))
 
 loop-again : tie.Need-loop-again Inv-loop μ-loop
@@ -70,10 +70,10 @@ loop-again c =
     let good = granted (r .record-ok .ensures) (f .before .before .if3 .left) in
     let nowhere = sym (f .find-among .ensures) ∙ ap found (c .enum-told .given .1) in
     let passes = new (list l) (k l) (r .before .record-at .ensures .0) good (f .before .name-of .ensures) nowhere in
-    (search needs, sym (goes-on (recordTest (list l)) (n l) (k l) (search needs) passes) ∙ l .loop .inv .1)
+    (search needs, sym (goes-on (recordTest layoutRule (list l)) (n l) (k l) (search needs) passes) ∙ l .loop .inv .1)
 
 returns-5 : tie.Need-returns-5 Inv-loop μ-loop
-returns-5 c = let l = c .before in sym (decided l (is-over (recordTest (list l)) (n l) (k l) (search needs)))
+returns-5 c = let l = c .before in sym (decided l (is-over (recordTest layoutRule (list l)) (n l) (k l) (search needs)))
 
 pub check-list-spec : {M : Type 1} → statement M
 check-list-spec =

@@ -76,8 +76,8 @@ records-bounded list n at (record-broken k l h) = bound (omega arith) (omega ari
 records-bounded list n at (name-repeated j k l m h) = bound (omega arith) (omega arith) (omega arith)
 
 tokens-bounded : (text : List ℕ) (n at : ℕ) → TextTokens text n at → Bounded text n at
-tokens-bounded text n at (no-token cut few inside e) = bound (omega arith) (omega arith) (omega arith)
-tokens-bounded text n at (numeral-large cut few inside e) = bound (omega arith) (omega arith) (omega arith)
+tokens-bounded text n at (no-token cut inside e) = bound (omega arith) (omega arith) (omega arith)
+tokens-bounded text n at (numeral-large cut inside e) = bound (omega arith) (omega arith) (omega arith)
 tokens-bounded text n at (one-more-token k m cut full inside e) = bound (omega arith) (omega arith) (omega arith)
 
 number-bounded : (ts taken us : List Token) (n : ℕ) → Number ts taken us n → (1 ≤ n) × (n ≤ 20)

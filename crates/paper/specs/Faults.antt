@@ -61,10 +61,8 @@ Cuts text ts = (end : ℕ) × Cut text end ts × (length text ≤ end) × (lengt
 -- 6: "a numeral above 2^128 − 1"; its first byte
 -- 7: "a 1,025th token"; its first byte
 pub data TextTokens (text : List ℕ) : ℕ → ℕ → Type 0 where
-  no-token : {at : ℕ} {ts : List Token} → Cut text at ts → length ts ≤ mostTokens → at < length text → scanAt text at ≡ noToken
-      → TextTokens text 5 at
-  numeral-large : {at : ℕ} {ts : List Token} → Cut text at ts → length ts ≤ mostTokens → at < length text → scanAt text at ≡ tooLarge
-      → TextTokens text 6 at
+  no-token : {at : ℕ} {ts : List Token} → Cut text at ts → at < length text → scanAt text at ≡ noToken → TextTokens text 5 at
+  numeral-large : {at : ℕ} {ts : List Token} → Cut text at ts → at < length text → scanAt text at ≡ tooLarge → TextTokens text 6 at
   one-more-token : {at : ℕ} {ts : List Token} (k : Tok) (n : ℕ) → Cut text at ts → length ts ≡ mostTokens → at < length text
       → scanAt text at ≡ token k n → TextTokens text 7 at
 

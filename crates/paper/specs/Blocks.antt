@@ -28,6 +28,7 @@ pub record Sums : Type 0 where
   pub first : ℕ
   pub second : ℕ
 
+-- of two sums so far; a single byte is no word, and there is none at the end of an even number of bytes
 abbrev pub sumsFrom : ℕ → ℕ → List ℕ → Sums
 sumsFrom a b [] = record { first = a; second = b }
 sumsFrom a b (x ∷ []) = record { first = a; second = b }

@@ -65,7 +65,8 @@ presentRule k r =
 abbrev pub matchOk : Key → List ℕ → Bool
 matchOk k r = cond (eqb (byteAt r 0) 0) (absentRule k r) (eqb (byteAt r 0) 1 && presentRule k r)
 
--- "It reads as value 0 with mask 0, prefix length 0, or low 0 with high 2^W − 1."
+-- "It reads as value 0 with mask 0, prefix length 0, or low 0 with high 2^W − 1." An absent key is not exact: the first clause is
+-- never asked
 abbrev pub absent : Kind → ℕ → Match
 absent exact w = record { first = 0; second = 0; length = 0 }
 absent ternary w = record { first = 0; second = 0; length = 0 }

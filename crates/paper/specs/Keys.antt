@@ -22,7 +22,7 @@ kindNo lpm = 2
 kindNo range = 3
 kindNo optional = 4
 
--- of a number up to 4
+-- of a number up to 4: a record with a greater one is refused, so that its kind is never asked
 abbrev pub kindOf : ℕ → Kind
 kindOf n =
     cond (eqb n 0) exact

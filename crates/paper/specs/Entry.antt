@@ -5,12 +5,12 @@
 use Prim.Native.Nat.{ℕ, suc, _+_, _*_, _-_, _%_, _^_}
 use mathlib.Core.Bool.{Bool, true, false, not, cond, _&&_, _||_}
 use mathlib.Core.Option.{Option, none, some}
-use mathlib.Core.List.{List, [], _∷_}
+use mathlib.Core.List.{List, [], _∷_, _++_}
 use lib.ListN.{length, drop, getElem?}
 use lib.Bits.{bitAnd}
 use lib.Dec.{eqb, ltb, leb}
 use Rattle.paper.specs.Answers.{Answer, ok, _>>=_, require, inTurn, inEntry}
-use Rattle.paper.specs.Numbers.{byteAt, bytesAt, numberAt}
+use Rattle.paper.specs.Numbers.{byteAt, bytesAt, numberAt, bigEndian}
 use Rattle.paper.specs.Keys.{Kind, exact, ternary, lpm, range, optional, Key, allZero}
 
 abbrev pub headSize : ℕ
@@ -18,6 +18,13 @@ headSize = 4
 
 abbrev pub matchSize : ℕ
 matchSize = 36
+
+-- writing: "byte 0 present (0 or 1); byte 1 prefix length; bytes 2, 3 zero; 16 bytes first number (value or low); 16 bytes second
+-- number (mask or high)"
+abbrev pub matchRecord : ℕ → ℕ → ℕ → ℕ → List ℕ
+matchRecord present length first second = present ∷ length ∷ 0 ∷ 0 ∷ (bigEndian 16 first ++ bigEndian 16 second)
+
+-- reading
 
 -- what a key's record reads as: value or low, mask or high, prefix length
 pub record Match : Type 0 where

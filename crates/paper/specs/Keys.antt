@@ -2,11 +2,11 @@
 -- "A key list is 0 to 32 records of 80 bytes. Byte 0: name length, 1 to 64. Byte 1: kind, 0 exact, 1 ternary, 2 lpm, 3 range,
 -- 4 optional. Byte 2: width W, 1 to 128. Bytes 3 to 15 zero. Bytes 16 to 79: the name, a key by 004's grammar and neither
 -- "true" nor "false", then zeros."
-use Prim.Native.Nat.{ℕ, zero, suc, _+_, _*_, _/_, _%_}
+use Prim.Native.Nat.{ℕ, zero, suc, _+_, _*_, _-_, _/_, _%_}
 use mathlib.Core.Bool.{Bool, true, false, not, cond, _&&_}
 use mathlib.Core.Option.{Option, none, some}
-use mathlib.Core.List.{List, [], _∷_}
-use lib.ListN.{length, drop}
+use mathlib.Core.List.{List, [], _∷_, _++_}
+use lib.ListN.{length, drop, replicate}
 use lib.Dec.{eqb, leb}
 use Rattle.paper.specs.Answers.{Answer, ok, _>>=_, require, inTurn, inList}
 use Rattle.paper.specs.Numbers.{byteAt, bytesAt}
@@ -46,6 +46,13 @@ recordSize = 80
 
 abbrev pub mostKeys : ℕ
 mostKeys = 32
+
+-- writing: "Byte 0: name length, 1 to 64. Byte 1: kind, ... Byte 2: width W, 1 to 128. Bytes 3 to 15 zero. Bytes 16 to 79: the
+-- name, ... then zeros." Of a name, a kind's number and a width
+abbrev pub keyRecord : List ℕ → ℕ → ℕ → List ℕ
+keyRecord name kind width = length name ∷ kind ∷ width ∷ (replicate 13 0 ++ name ++ replicate (64 - length name) 0)
+
+-- reading
 
 abbrev pub recordsIn : List ℕ → ℕ
 recordsIn list = length list / recordSize

@@ -40,6 +40,7 @@ restriction text list =
     >>= λ t. typed ks t
     >>= λ _. ok (record { keys = ks; root = t })
 
+-- 1; 5 to 10. What is answered is our choice: the number of nodes of the tree
 unfoldable pub readAnswer : List ℕ → Answer ℕ
 unfolding tree
 readAnswer text = sized text >>= λ _. tree text >>= λ t. ok (nodes t)

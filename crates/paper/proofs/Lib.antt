@@ -43,6 +43,7 @@ pub mod Damaged
 pub mod Promised
 pub mod Staged
 pub mod Earliest
+pub mod InTurn
 pub mod ListFaults
 pub mod BlockFaults
 pub mod EntryFaults

@@ -8,14 +8,14 @@ use lib.ListN.{length, take, replicate}
 use Rattle.paper.specs.Answers.{Answer, ok, refused, _>>=_, inText, inList, inEntry, inBlocks, inBuffer}
 use Rattle.paper.specs.Numbers.{bigEndian}
 use Rattle.paper.specs.Tokens.{bytes}
-use Rattle.paper.specs.Keys.{keys}
+use Rattle.paper.specs.Keys.{keyRecord, keys}
+use Rattle.paper.specs.Entry.{matchRecord}
 use Rattle.paper.specs.Types.{Ty, bool}
 use Rattle.paper.specs.Meaning.{both}
 use Rattle.paper.specs.Code.{Instruction, pushBool, invert, connects, Walk, fails, ends}
 use Rattle.paper.specs.Blocks.{blocksOf}
 use Rattle.paper.specs.Loading.{typesAlong}
 use Rattle.paper.specs.Calls.{readAnswer, judgeAnswer, translateAnswer, loadAnswer}
-use Rattle.paper.specs.Marked.{keyRecord, matchRecord, theKeys}
 
 abbrev pub repeat : ℕ → List ℕ → List ℕ
 repeat zero s = []

@@ -107,7 +107,7 @@ abbrev pub spelled : Option ℕ → List ℕ → List ℕ → Numeral
 spelled (some base) run rest = record { base = base; digits = rest }
 spelled none run rest = record { base = 10; digits = run }
 
--- how a run is spelled: by its letter behind a first 0, else in decimal
+-- how a run is spelled: by its letter after a first 0, else in decimal. A run has a first byte: the clause of none is never asked
 abbrev pub spelling : List ℕ → Numeral
 spelling [] = record { base = 10; digits = [] }
 spelling (b ∷ []) = record { base = 10; digits = b ∷ [] }

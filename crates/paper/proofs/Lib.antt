@@ -25,6 +25,7 @@ pub mod Meant
 pub mod Translated
 pub mod Counted
 pub mod Digits
+pub mod Named
 pub mod Encoded
 pub mod OneBlock
 pub mod Written

@@ -14,7 +14,7 @@ use Rattle.paper.specs.Code.{pushKey, pushField}
 use Rattle.paper.specs.Translating.{hasType, changed, convertTo, pushing, codeOf, conversions}
 use Rattle.paper.specs.Translated.{CodeCounted, FewConversions, CodeFits}
 use Rattle.paper.proofs.Stages.{never-ok, bind-ok}
-use Rattle.paper.proofs.Meant.{same-self}
+use Rattle.paper.proofs.Meeting.{same-self, meets-by-converting}
 
 -- the code of a key and of a field that have a type is one instruction
 
@@ -74,7 +74,7 @@ one-changes : (ta tb : Option Ty) → both ta tb (andThen ta (λ a. andThen tb (
 one-changes none none = omega arith
 one-changes none (some b) = omega arith
 one-changes (some a) none = omega arith
-one-changes (some a) (some b) = go (sameTy a b) (takes b a) (takes a b)
+one-changes (some a) (some b) = rw (meets-by-converting a b) (go (sameTy a b) (takes b a) (takes a b))
   where
     go : (s t u : Bool) → both (some a) (some b) (cond s (some a) (cond t (some b) (when u a))) ≤ 1
     go true t u = omega (arith, unchanged a, changes (some b) a)

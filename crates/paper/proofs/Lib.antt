@@ -21,6 +21,7 @@ pub mod Basics
 pub mod Walks
 pub mod Stages
 pub mod Sound
+pub mod Meeting
 pub mod Meant
 pub mod Translated
 pub mod Counted

@@ -17,34 +17,8 @@ use Rattle.paper.specs.Translating.{hasType}
 use Rattle.paper.specs.Meant.{ValuesHaveTypes, TypedMeant, Judged}
 use Rattle.paper.proofs.Basics.{map-when}
 use Rattle.paper.proofs.Stages.{never-ok, bind-ok}
+use Rattle.paper.proofs.Meeting.{same-types, same-self, meets-by-converting, compares-where-met}
 use Rattle.paper.proofs.Sound.{not-follows, negate-follows, join-follows, compare-follows, key-follows, field-value-follows}
-
--- types that pass for the same are the same
-
-kind-back : (k : Kind) → kindOf (kindNo k) ≡ k
-kind-back exact = refl
-kind-back ternary = refl
-kind-back lpm = refl
-kind-back range = refl
-kind-back optional = refl
-
-pub same-types : (a b : Ty) → sameTy a b ≡ true → a ≡ b
-same-types bool bool h = refl
-same-types bool int h = absurd (false≢true h)
-same-types bool (of k w) h = absurd (false≢true h)
-same-types int bool h = absurd (false≢true h)
-same-types int int h = refl
-same-types int (of k w) h = absurd (false≢true h)
-same-types (of k w) bool h = absurd (false≢true h)
-same-types (of k w) int h = absurd (false≢true h)
-same-types (of k w) (of l x) h =
-    let both = and-eq-true-iff (eqb (kindNo k) (kindNo l)) (eqb w x) .0 h in
-    ap₂ of (sym (kind-back k) ∙ ap kindOf (eqb-true (kindNo k) (kindNo l) (both .0)) ∙ kind-back l) (eqb-true w x (both .1))
-
-pub same-self : (a : Ty) → sameTy a a ≡ true
-same-self bool = refl
-same-self int = refl
-same-self (of k w) = and-eq-true-iff (eqb (kindNo k) (kindNo k)) (eqb w w) .1 (eq-eqb (kindNo k) (kindNo k) refl, eq-eqb w w refl)
 
 -- the type in which two operands meet is one that both can take
 
@@ -71,7 +45,9 @@ taken (of k w) a h = go (sameTy (tyOf a) (of k w)) refl
     go false e = record { into = matched k w (oneValue k w (asNumber w a)); there = rw (e, h); type = refl }
 
 pub meets : (a b : Value) (m : Ty) → meet (tyOf a) (tyOf b) ≡ some m → Becomes m a × Becomes m b
-meets a b m h = go (sameTy (tyOf a) (tyOf b)) (takes (tyOf b) (tyOf a)) (takes (tyOf a) (tyOf b)) refl refl refl h
+meets a b m h =
+    go (sameTy (tyOf a) (tyOf b)) (takes (tyOf b) (tyOf a)) (takes (tyOf a) (tyOf b)) refl refl refl
+    (sym (meets-by-converting (tyOf a) (tyOf b)) ∙ h)
   where
     go : (s t u : Bool) → sameTy (tyOf a) (tyOf b) ≡ s → takes (tyOf b) (tyOf a) ≡ t → takes (tyOf a) (tyOf b) ≡ u
         → cond s (some (tyOf a)) (cond t (some (tyOf b)) (when u (tyOf a))) ≡ some m → Becomes m a × Becomes m b
@@ -92,7 +68,7 @@ prefix-follows notSign a = not-follows a
 prefix-follows minusSign a = negate-follows a
 
 comparison-follows : (c : Comparison) (a b : Value) → comparisonType c (tyOf a) (tyOf b) ≡ Option·map tyOf (comparisonValue c a b)
-comparison-follows c a b = go (meet (tyOf a) (tyOf b)) refl
+comparison-follows c a b = compares-where-met c (tyOf a) (tyOf b) ∙ go (meet (tyOf a) (tyOf b)) refl
   where
     go : (o : Option Ty) → meet (tyOf a) (tyOf b) ≡ o
         → andThen o (λ m. compareType c m m)

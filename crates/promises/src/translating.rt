@@ -1,5 +1,5 @@
 // Translating a text, and what its blocks say.
-ghost use Rattle.paper.specs.Translated.{CodeCounted, CodeFits, FewHeld};
+ghost use Rattle.paper.specs.Translated.{CodeCounted, MeetsByConverting, ComparesWhereMet, CodeFits, FewHeld};
 ghost use Rattle.paper.specs.Written.{BlocksBack, PartsAgain, BytesAgain};
 ghost use Rattle.paper.specs.Carried.{TranslationCarries, CheckedTranslates, RefusedUnchanged};
 
@@ -8,7 +8,17 @@ pub fn instructions_counted()
     ensures { λ _. ⌜ CodeCounted ⌝ }
 {}
 
-// They fit 82 blocks.
+// The types in which operands meet, as document 01 lists them for "==" and "!=", are those that conversions bring them to.
+pub fn operands_meet_by_conversion()
+    ensures { λ _. ⌜ MeetsByConverting ⌝ }
+{}
+
+// And a comparison takes its operands exactly when its instruction takes two of the type in which they meet.
+pub fn comparisons_take_what_meets()
+    ensures { λ _. ⌜ ComparesWhereMet ⌝ }
+{}
+
+// The instructions fit 82 blocks.
 pub fn translation_fits()
     ensures { λ _. ⌜ CodeFits ⌝ }
 {}

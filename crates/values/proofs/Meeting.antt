@@ -8,7 +8,7 @@ use Rattle.paper.specs.Tokens.{Comparison}
 use Rattle.paper.specs.Keys.{Kind, exact, ternary, lpm, range, optional}
 use Rattle.paper.specs.Types.{Ty, bool, int, of, sameTy, takes, meet, when, andThen}
 use Rattle.paper.specs.Meaning.{Value, tyOf, inType, convertValue, compareValue, comparisonValue}
-use Rattle.paper.proofs.Meant.{same-types, same-self}
+use Rattle.paper.proofs.Meeting.{same-types, same-self, meets-by-converting}
 use Rattle.values.specs.Held.{Is}
 
 pub in-same : (t : Ty) (a : Value) → sameTy (tyOf a) t ≡ true → inType t a ≡ some a
@@ -45,11 +45,11 @@ module _ (c : Comparison) (a b : Value) where
 
   pub meet-right : takes (tyOf b) (tyOf a) ≡ true
       → comparisonValue c a b ≡ andThen (inType (tyOf b) a) (λ x. compareValue c x b)
-  meet-right e = rw (takes-other (tyOf a) (tyOf b) e, e, in-own b)
+  meet-right e = rw (meets-by-converting (tyOf a) (tyOf b), takes-other (tyOf a) (tyOf b) e, e, in-own b)
 
   pub meet-left : (v : Value) → takes (tyOf b) (tyOf a) ≡ false
       → Is (andThen (inType (tyOf a) b) (compareValue c a)) v → Is (comparisonValue c a b) v
-  meet-left v e h = rw (e, meet) (go (sameTy (tyOf a) (tyOf b)) (takes (tyOf a) (tyOf b)))
+  meet-left v e h = rw (meets-by-converting (tyOf a) (tyOf b), e) (go (sameTy (tyOf a) (tyOf b)) (takes (tyOf a) (tyOf b)))
     where
       go : (s t : Bool) → Is (andThen (cond s (some (tyOf a)) (when t (tyOf a))) rest) v
       go true t = rw (in-own a) h

@@ -1,6 +1,6 @@
 -- 01, "Blocks", the instructions: their bytes, their types and their meaning.
 -- "Instructions are 20 bytes: operation, detail byte, two-byte operand, 16-byte constant; unused parts zero."
-use Prim.Native.Nat.{ℕ, zero, suc, _+_, _*_, _-_, _/_, _%_, _^_}
+use Prim.Native.Nat.{ℕ, _+_, _-_}
 use mathlib.Core.Bool.{Bool, true, false, cond, _&&_}
 use mathlib.Core.Option.{Option, none, some}
 use mathlib.Core.List.{List, [], _∷_, _++_}

@@ -6,7 +6,7 @@ use mathlib.Core.Bool.{Bool, true, false, cond}
 use mathlib.Core.Option.{Option, none, some}
 use mathlib.Core.List.{[]}
 use lib.ListN.{length, length-append}
-use Rattle.paper.specs.Answers.{Answer, ok, _>>=_}
+use Rattle.paper.specs.Answers.{ok, _>>=_}
 use Rattle.paper.specs.Keys.{find}
 use Rattle.paper.specs.Grammar.{truth, number, key, field, attribute, prefixed, joined, compared}
 use Rattle.paper.specs.Types.{Ty, bool, int, of, sameTy, when, andThen, Field, fieldNamed, takes, meet, fieldType, prefixType, joinType, comparisonType, operatorType, known, namedType, typeOf}
@@ -18,7 +18,7 @@ use Rattle.paper.proofs.Meeting.{same-self, meets-by-converting}
 
 -- the code of a key and of a field that have a type is one instruction
 
-key-counted : (at : ℕ) (o : Option ℕ) (f : ℕ → Answer Ty) (a : Ty) → (known at o >>= f) ≡ ok a
+key-counted : (at : ℕ) (o : Option ℕ) (f : ℕ → Option Ty) (a : Ty) → known at (andThen o f) ≡ ok a
     → length (pushing (andThen o (λ k. some (pushKey k)))) ≡ 1
 key-counted at none f a h = absurd (never-ok h)
 key-counted at (some k) f a h = refl

@@ -99,6 +99,10 @@ comparison-follows c a b = go (meet (tyOf a) (tyOf b)) refl
 
 -- trees
 
+has-known : (at : ℕ) (o : Option Ty) → hasType (known at o) ≡ o
+has-known at none = refl
+has-known at (some a) = refl
+
 has-named : (at : ℕ) (o : Option Ty) → hasType (namedType at o) ≡ o
 has-named at none = refl
 has-named at (some a) = refl
@@ -107,10 +111,15 @@ has-operator : (at : ℕ) (o : Option Ty) → hasType (operatorType at o) ≡ o
 has-operator at none = refl
 has-operator at (some a) = refl
 
-key-typed : (at to : ℕ) (o : Option ℕ) (f : ℕ → Option Ty) (g : ℕ → Option Value) → ((k : ℕ) → f k ≡ Option·map tyOf (g k))
+key-typed : (at : ℕ) (o : Option ℕ) (f : ℕ → Option Ty) (g : ℕ → Option Value) → ((k : ℕ) → f k ≡ Option·map tyOf (g k))
+    → hasType (known at (andThen o f)) ≡ Option·map tyOf (andThen o g)
+key-typed at none f g same = refl
+key-typed at (some k) f g same = has-known at (f k) ∙ same k
+
+field-typed : (at to : ℕ) (o : Option ℕ) (f : ℕ → Option Ty) (g : ℕ → Option Value) → ((k : ℕ) → f k ≡ Option·map tyOf (g k))
     → hasType (known at o >>= λ k. namedType to (f k)) ≡ Option·map tyOf (andThen o g)
-key-typed at to none f g same = refl
-key-typed at to (some k) f g same = has-named to (f k) ∙ same k
+field-typed at to none f g same = refl
+field-typed at to (some k) f g same = has-named to (f k) ∙ same k
 
 -- what is made of an operand
 operand-typed : (x : Answer Ty) (o : Option Value) (f : Ty → Answer Ty) (g : Value → Option Value)
@@ -125,9 +134,9 @@ pub values-have-types : ValuesHaveTypes
 unfolding typeOf valueOf
 values-have-types ks e covers (G.truth at b) = refl
 values-have-types ks e covers (G.number at n) = refl
-values-have-types ks e covers (G.key at w) = key-typed at at (find ks w) (bareType ks) (bareValue ks e) (key-follows ks e covers)
+values-have-types ks e covers (G.key at w) = key-typed at (find ks w) (bareType ks) (bareValue ks e) (key-follows ks e covers)
 values-have-types ks e covers (G.field at w to f) =
-    key-typed at to (find ks w) (λ k. andThen (fieldNamed f) (λ g. fieldType ks g k)) (λ k. andThen (fieldNamed f) (λ g. fieldValue ks e g k))
+    field-typed at to (find ks w) (λ k. andThen (fieldNamed f) (λ g. fieldType ks g k)) (λ k. andThen (fieldNamed f) (λ g. fieldValue ks e g k))
     (λ k. go k (fieldNamed f))
   where
     go : (k : ℕ) (o : Option Field) → andThen o (λ g. fieldType ks g k) ≡ Option·map tyOf (andThen o (λ g. fieldValue ks e g k))

@@ -28,6 +28,10 @@ of-operator : (at : ℕ) (o : Option Ty) → If Narrow o → Of Narrow (operator
 of-operator at none h = tt
 of-operator at (some a) h = h
 
+of-known : (at : ℕ) (o : Option Ty) → If Narrow o → Of Narrow (known at o)
+of-known at none h = tt
+of-known at (some a) h = h
+
 of-named : (at : ℕ) (o : Option Ty) → If Narrow o → Of Narrow (namedType at o)
 of-named at none h = tt
 of-named at (some a) h = h
@@ -75,8 +79,9 @@ unfolding typeOf
 type-narrow ks h (truth at b) = tt
 type-narrow ks h (number at n) = tt
 type-narrow ks h (key at w) =
-    known-narrow at at (find ks w) (bareType ks)
-    (λ k. rw (map-then (λ (x : Key). of (x .kind) (x .width)) (getElem? ks k)) (elem-narrow ks h k _ (λ x wide. wide)))
+    of-known at (andThen (find ks w) (bareType ks))
+    (if-then (λ _. Unit {0}) Narrow (find ks w) (bareType ks) (any (find ks w))
+    (λ k _. rw (map-then (λ (x : Key). of (x .kind) (x .width)) (getElem? ks k)) (elem-narrow ks h k _ (λ x wide. wide))))
 type-narrow ks h (field at w to f) =
     known-narrow at to (find ks w) (λ k. andThen (fieldNamed f) (λ g. fieldType ks g k))
     (λ k.

@@ -181,9 +181,9 @@ operatorType at none = refused 13 inText at
 operatorType at (some a) = ok a
 
 -- 11: "unknown key", at its token
-abbrev pub known : ℕ → Option ℕ → Answer ℕ
+abbrev pub known : {A : Type 0} → ℕ → Option A → Answer A
 known at none = refused 11 inText at
-known at (some k) = ok k
+known at (some a) = ok a
 
 -- 12: "unknown field for that kind, or unknown attribute", at its name
 abbrev pub namedType : ℕ → Option Ty → Answer Ty
@@ -194,7 +194,7 @@ namedType at (some a) = ok a
 unfoldable pub typeOf : List Key → Tree → Answer Ty
 typeOf ks (truth at b) = ok bool
 typeOf ks (number at n) = ok int
-typeOf ks (key at w) = known at (find ks w) >>= λ k. namedType at (bareType ks k)
+typeOf ks (key at w) = known at (andThen (find ks w) (bareType ks))
 typeOf ks (field at w to f) = known at (find ks w) >>= λ k. namedType to (andThen (fieldNamed f) (λ g. fieldType ks g k))
 typeOf ks (attribute at to f) = namedType to (when (sameBytes f (bytes "priority")) int)
 typeOf ks (prefixed at o t) = typeOf ks t >>= λ a. operatorType at (prefixType o a)

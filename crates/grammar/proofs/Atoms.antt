@@ -1,7 +1,7 @@
 -- Leaves: what the definition makes of the tokens of a leaf, kind by kind.
 use Prim.Native.Nat.{ℕ, _+_, _*_, _-_, _≤_, _<_}
 use mathlib.Core.Path.{_≡_, refl}
-use mathlib.Core.Bool.{Bool, true, false, _&&_, and-false}
+use mathlib.Core.Bool.{Bool, true, false, cond, _&&_, and-false}
 use mathlib.Core.Logic.{_⊎_, ⊎-elim}
 use mathlib.Core.Option.{none, some}
 use mathlib.Core.List.{List, _∷_}
@@ -11,10 +11,10 @@ use borrow.Author.Tests.{eqb-true, ltb-true, eq-eqb, ne-eqb, lt-ltb, le-ltb}
 use lib.ListN.{getD}
 use lib.Seq.{sets, slice}
 use lib.Dec.{eqb, ltb}
-use Rattle.paper.specs.Tokens.{Sign, join, comparison, prefix, opening, closing, colons, word, string, sign, Token, undotted}
+use Rattle.paper.specs.Tokens.{Sign, join, comparison, prefix, opening, closing, colons, Tok, word, string, sign, Token, undotted}
 use Rattle.paper.specs.Addresses.{Scheme, schemeOf, address}
 use Rattle.paper.specs.Grammar as G
-use Rattle.paper.specs.Grammar.{Tree, Out, got, stuck, deep, Reader, named, nameAt, keyed, keyAt, markOf, addressed, addressAt, addressWith, worded, operandAt, signed, prefixes}
+use Rattle.paper.specs.Grammar.{Tree, Out, got, stuck, deep, Reader, named, nameAt, keyed, isSign, opensAddress, addressed, addressAt, addressWith, worded, operandAt, signed, prefixes}
 use Rattle.tokens.specs.Tape.{Tape, tokensOn, tokenOn, limbsAt}
 use Rattle.grammar.specs.declared.tape.Next.the-variants.{Other}
 use Rattle.grammar.specs.Ladder as L
@@ -105,19 +105,26 @@ module _ (T : Tape) (n i : ℕ) where
     pub keyed-address : {k : ℕ} → Found (T .kinds) n i 15 15 k → (s : Scheme) → schemeOf w ≡ some s → keyed read place w here ≡ addressed read s place (past T n i)
     keyed-address h s e = rw (tokens-here T n i (h .here), sign-at T i opening (omega arith), e)
 
+    -- by the token there
+    abbrev follows : Tok → Out
+    follows t =
+        cond (isSign colons t) (named (G.field place w) (past T n i))
+        (cond (isSign opening t) (opensAddress read (schemeOf w) place w (tokenOn T i) (past T n i))
+        (G.ends (got (G.key place w)) (tokenOn T i ∷ past T n i)))
+
     pub keyed-not : Finds (T .kinds) n i 17 17 Other → Finds (T .kinds) n i 15 15 Other → (i < n → kind ≤ 17)
         → keyed read place w here ≡ G.ends (got (G.key place w)) here
     keyed-not h g known =
         elim (decLt i n) [
           | yes l ↦
               rw (tokens-here T n i l)
-              (by-kind T i (λ t. keyAt read place w (markOf t) (tokenOn T i) (past T n i) ≡ G.ends (got (G.key place w)) (tokenOn T i ∷ past T n i))
+              (by-kind T i (λ t. follows t ≡ G.ends (got (G.key place w)) (tokenOn T i ∷ past T n i))
               (λ _. refl) (λ _. refl) (λ _. refl) (go (h l) (g l) (known l)))
           | no l ↦ rw (tokens-none T n i (omega arith))
         ]
       where
         go : (kind < 17) ⊎ (17 < kind) → (kind < 15) ⊎ (15 < kind) → kind ≤ 17 → (g : Sign) → Stands kind g
-            → keyAt read place w (markOf (sign g)) (tokenOn T i) (past T n i) ≡ G.ends (got (G.key place w)) (tokenOn T i ∷ past T n i)
+            → follows (sign g) ≡ G.ends (got (G.key place w)) (tokenOn T i ∷ past T n i)
         go c o k (join j) e = refl
         go c o k (comparison d) e = refl
         go c o k (prefix p) e = refl

@@ -1,7 +1,7 @@
 -- Operands: behind a prefix operator, in parentheses, and where neither is the next token.
 use Prim.Native.Nat.{ℕ, zero, suc, _+_, _*_, _-_, _≤_, _<_}
 use mathlib.Core.Path.{_≡_, refl, sym, ap, _∙_}
-use mathlib.Core.Bool.{false}
+use mathlib.Core.Bool.{false, cond}
 use mathlib.Core.Logic.{_⊎_, ⊎-elim}
 use mathlib.Core.List.{List, _∷_}
 use native.Mathlib.Omega.{arith}
@@ -9,10 +9,10 @@ use native.Mathlib.Decide.{decLt}
 use lib.ListN.{length, getD}
 use lib.Seq.{sets}
 use Rattle.paper.specs.declared.Place.{Place}
-use Rattle.paper.specs.Tokens.{Sign, join, comparison, prefix, opening, closing, colons, Prefix, notSign, minusSign, sign, Token}
+use Rattle.paper.specs.Tokens.{Sign, join, comparison, prefix, opening, closing, colons, Prefix, notSign, minusSign, Tok, sign, Token}
 use Rattle.paper.specs.Addresses.{address}
 use Rattle.paper.specs.Grammar as G
-use Rattle.paper.specs.Grammar.{Tree, Out, got, stuck, deep, Parser, Reader, _>>>_, closed, closeAt, markOf, operand, operandAt, signed, prefixes, sequence}
+use Rattle.paper.specs.Grammar.{Tree, Out, got, stuck, deep, Parser, Reader, _>>>_, closed, isSign, operand, operandAt, signed, prefixes, sequence}
 use Rattle.tokens.specs.Tape.{Tape, tokensOn, tokenOn, signNo}
 use Rattle.grammar.specs.declared.steps.Taken.{Taken}
 use Rattle.grammar.specs.declared.steps.Taken.the-variants as A
@@ -58,12 +58,15 @@ module _ (T : Tape) (n i : ℕ) where
       elim (decLt i n) [
         | yes l ↦
             rw (tokens-here T n i l)
-            (by-kind T i (λ t′. closeAt (markOf t′) t (tokenOn T i) (past T n i) ≡ G.ends stuck (tokenOn T i ∷ past T n i))
+            (by-kind T i (λ t′. follows t′ ≡ G.ends stuck (tokenOn T i ∷ past T n i))
             (λ _. refl) (λ _. refl) (λ _. refl) (go l))
         | no l ↦ rw (tokens-none T n i (omega arith))
       ]
     where
-      go : i < n → (g : Sign) → Stands kindAt g → closeAt (markOf (sign g)) t (tokenOn T i) (past T n i) ≡ G.ends stuck (tokenOn T i ∷ past T n i)
+      follows : Tok → Out
+      follows t′ = cond (isSign closing t′) (G.ends (got t) (past T n i)) (G.ends stuck (tokenOn T i ∷ past T n i))
+
+      go : i < n → (g : Sign) → Stands kindAt g → follows (sign g) ≡ G.ends stuck (tokenOn T i ∷ past T n i)
       go l (join j) e = refl
       go l (comparison c) e = refl
       go l (prefix p) e = refl

@@ -3,7 +3,7 @@ use Prim.Native.Nat.{ℕ, zero, suc, _+_, _*_, _^_}
 use native.Mathlib.Nat.{suc-inj}
 use native.Mathlib.Omega.{arith}
 use mathlib.Core.Path.{_≡_, refl, ap, subst, _∙_}
-use mathlib.Core.Bool.{Bool, _&&_}
+use mathlib.Core.Bool.{Bool, not, _&&_, and-false}
 use mathlib.Core.Option.{Option, none, some, Option·map}
 use mathlib.Core.List.{List, [], _∷_, _++_, map, map-append}
 use lib.ListN.{length, getElem?}
@@ -54,7 +54,9 @@ negate-follows (whole z) = refl
 negate-follows (matched k w m) = map-when tyOf (isExact k) (matched k w _)
 
 convert-follows : (k : Kind) (w : ℕ) (a : Value) → when (takes (of k w) (tyOf a)) (of k w) ≡ Option·map tyOf (convertValue k w a)
-convert-follows k w a = map-when tyOf (takes (of k w) (tyOf a)) (matched k w _)
+convert-follows k w (truth b) = rw (and-false (not (isExact k)))
+convert-follows k w (whole z) = refl
+convert-follows k w (matched l x m) = map-when tyOf (takes (of k w) (of l x)) (matched k w _)
 
 pub compare-follows : (c : Comparison) (a b : Value) → compareType c (tyOf a) (tyOf b) ≡ Option·map tyOf (compareValue c a b)
 compare-follows c a b = map-when tyOf (sameTy (tyOf a) (tyOf b) && suits c (tyOf a)) (truth (holds c a b))

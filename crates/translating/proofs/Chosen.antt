@@ -1,5 +1,5 @@
 -- Details and operations by their numbers.
-use Prim.Native.Nat.{ℕ, zero, suc, _<_, _≤_}
+use Prim.Native.Nat.{ℕ, _<_, _≤_}
 use native.Mathlib.Omega.{arith}
 use mathlib.Core.Path.{_≡_, refl, sym, _∙_, ap}
 use mathlib.Core.Bool.{Bool, true, false, cond}
@@ -10,6 +10,7 @@ use Rattle.paper.specs.Tokens.{sequel, implies, orElse, andAlso}
 use Rattle.paper.specs.Types.{Field}
 use Rattle.paper.specs.Meaning.{both, connective}
 use Rattle.paper.specs.Code.{fieldOf, fieldNo, comparisonNo, comparisonOf}
+use Rattle.paper.proofs.Named.{comparison-number}
 use Rattle.values.specs.Typed.{namedOf}
 use Rattle.values.specs.declared.fields.Named.{Named}
 use Rattle.values.specs.declared.fields.Named.the-variants as N
@@ -19,21 +20,10 @@ use Rattle.trees.specs.Standing.{joinOf}
 -- comparisons by their numbers, where one over 5 stands for the last
 
 pub low-comparison : (n : ℕ) → n < 5 → n ≡ comparisonNo (comparisonOf n)
-low-comparison zero h = refl
-low-comparison (suc zero) h = refl
-low-comparison (suc (suc zero)) h = refl
-low-comparison (suc (suc (suc zero))) h = refl
-low-comparison (suc (suc (suc (suc zero)))) h = refl
-low-comparison (suc (suc (suc (suc (suc n))))) h = absurd (omega arith)
+low-comparison n h = rw (comparison-number n) (omega arith)
 
 pub last-comparison : (n : ℕ) → 5 ≤ n → 5 ≡ comparisonNo (comparisonOf n)
-last-comparison n h = rw (
-  ne-eqb n 0 (λ e. omega arith),
-  ne-eqb n 1 (λ e. omega arith),
-  ne-eqb n 2 (λ e. omega arith),
-  ne-eqb n 3 (λ e. omega arith),
-  ne-eqb n 4 (λ e. omega arith),
-)
+last-comparison n h = rw (comparison-number n) (omega arith)
 
 -- ";" and "&&" both give "and"
 pub other-join : (k : ℕ) → (k ≡ 8 → ⊥) → (k ≡ 9 → ⊥) → both ≡ connective (joinOf k)

@@ -1,5 +1,6 @@
 use Prim.Native.Nat.{min}
 use mathlib.Core.Path.{_≡_, refl, sym, _∙_}
+use mathlib.Core.Bool.{false, _||_}
 use borrow.Author.Needs.{needs}
 use Rattle.paper.specs.Keys.{kindOf}
 use Rattle.paper.specs.Types.{sameTy, bool, int}
@@ -22,12 +23,12 @@ returns c =
 returns-2 : tie.Need-returns-2
 returns-2 c =
     let a = held (c .before .before .before .before .before .before .args .self) in
-    rw (c .enum-told .given .1) (is-when (sameTy (tyOf a) bool) a a refl)
+    rw (c .enum-told .given .1) (is-when (sameTy (tyOf a) bool || false) a a refl)
 
 returns-3 : tie.Need-returns-3
 returns-3 c =
     let a = held (c .before .before .before .before .before .before .args .self) in
-    rw (c .enum-told2 .given .1) (is-when (sameTy (tyOf a) int) a a refl)
+    rw (c .enum-told2 .given .1) (is-when (sameTy (tyOf a) int || false) a a refl)
 
 returns-4 : tie.Need-returns-4
 returns-4 c =

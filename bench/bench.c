@@ -21,7 +21,7 @@ typedef void with_request(struct request *request, const struct table *table);
 
 static void each_request(const struct table *table, with_request *use)
 {
-    static uint8_t buffer[POLLUX_BLOCKS_LONGEST];
+    static uint8_t buffer[POLLUX_MAX_BLOCKS_SIZE];
     const struct input nothing = { buffer, 0 }, whole = { buffer, sizeof buffer };
     use(&(struct request){ READ, { table->text, nothing, nothing } }, table);
     use(&(struct request){ CHECK, { table->text, table->list, nothing } }, table);
@@ -91,7 +91,7 @@ static void hold_all(struct request *request, const struct table *table)
 
 /* ---- What is measured: one piece of work on one of the entries that conform. */
 
-static uint8_t scratch[POLLUX_BLOCKS_LONGEST];
+static uint8_t scratch[POLLUX_MAX_BLOCKS_SIZE];
 
 typedef uint64_t work(const struct table *table, const uint8_t *entry);
 

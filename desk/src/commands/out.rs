@@ -9,8 +9,8 @@ use std::path::{Path, PathBuf};
 /// or nothing does.
 ///
 /// The bytes go to a file beside it, which takes its name once they are all
-/// there. A link or a device must stay what it is, so what is behind one is
-/// written in place.
+/// there. A link or a device must stay what it is, so what a link leads to, and
+/// a device, is written in place.
 pub fn write_file(path: &Path, bytes: &[u8]) -> io::Result<()> {
     match fs::symlink_metadata(path) {
         Ok(there) if !there.is_file() => write_in_place(path, bytes),

@@ -19,7 +19,7 @@
  * What a call needs
  *   Stack: POLLUX_MAX_STACK bytes. This is measured and not proved: tests/c/run makes each call with the deepest texts that the
  *   limits allow and with generated inputs, prints what it took, and fails above it. docs/DECISIONS.md has the figures.
- *   From the C library, or from you on bare metal: memcpy and memset.
+ *   From the C library, or from you on bare metal: at most memcpy, memmove and memset.
  *   Processor and calling convention: x86-64, System V.
  */
 #ifndef POLLUX_H

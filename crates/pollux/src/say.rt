@@ -52,18 +52,30 @@ pub fn say_count(one: &[u8], more: &[u8], n: usize) {
     }
 }
 
-// The system's reason goes to standard error, before anything else can change it.
-fn cannot(what: &[u8], path: &[u8]) {
-    os::fail(path);
+// Says an argument as it was given.
+pub fn say_argument(i: usize) {
+    let mut argument = io::buffer();
+    let n = os::arg(i, &mut argument);
+    say(&argument[..n])
+}
+
+// The system's reason, with what it is about, goes to standard error, before anything else can change it.
+fn cannot(what: &[u8], path: &[u8], about: &[u8]) {
+    os::fail(about);
     say(what);
     say(path);
     say(b"\n");
 }
 
 pub fn cannot_read(path: &[u8]) {
-    cannot(b"cannot read ", path)
+    cannot(b"cannot read ", path, path)
 }
 
 pub fn cannot_write(path: &[u8]) {
-    cannot(b"cannot write ", path)
+    cannot(b"cannot write ", path, path)
+}
+
+// A file that cannot be written because of another.
+pub fn cannot_write_by(path: &[u8], other: &[u8]) {
+    cannot(b"cannot write ", path, other)
 }

@@ -102,7 +102,7 @@ impl Cell {
         }
     }
 
-    // Of two operands of one type.
+    // The bool that a comparison makes of two operands of one type.
     pub fn compared(self, comparison: u8, right: Cell) -> Cell
         ensures { λ r. ⌜ Is (compareValue (comparisonOf comparison) (held self) (held right)) (held r) ⌝ }
     {
@@ -124,7 +124,8 @@ impl Cell {
         }
     }
 
-    // Of two operands that meet in one type: the one that the other's type takes is converted.
+    // The bool that a comparison makes of two operands that meet in one type: the one that the other's type takes is
+    // converted first.
     pub fn comparison(self, comparison: u8, right: Cell) -> Cell
         ensures { λ r. ⌜ Is (comparisonValue (comparisonOf comparison) (held self) (held right)) (held r) ⌝ }
     {

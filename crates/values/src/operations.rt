@@ -22,12 +22,14 @@ fn connect(connective: u8, a: bool, b: bool) -> bool
 }
 
 impl Cell {
+    // What "!" makes of the cell.
     pub fn inverted(self) -> Cell
         ensures { λ r. ⌜ Is (notValue (held self)) (held r) ⌝ }
     {
         Cell::truth(!self.is_true())
     }
 
+    // What "-" makes of the cell.
     pub fn negated(self) -> Cell
         ensures { λ r. ⌜ Is (negateValue (held self)) (held r) ⌝ }
     {
@@ -43,6 +45,7 @@ impl Cell {
         }
     }
 
+    // What a connective makes of two cells.
     pub fn connected(self, connective: u8, right: Cell) -> Cell
         ensures { λ r. ⌜ Is (joinValue (connectiveOf connective) (held self) (held right)) (held r) ⌝ }
     {
@@ -61,6 +64,7 @@ impl Cell {
         }
     }
 
+    // The cell converted to a kind and a width.
     pub fn converted(self, kind: u8, width: u8) -> Cell
         requires { ⌜ width ≤ 128 ⌝ }
         ensures { λ r. ⌜ Is (convertValue (kindOf kind) width (held self)) (held r) ⌝ }

@@ -14,7 +14,7 @@ use Rattle.paper.specs.Code.{pushKey, pushField}
 use Rattle.paper.specs.Translating.{hasType, changed, convertTo, pushing, codeOf, conversions}
 use Rattle.paper.specs.Translated.{CodeCounted, FewConversions, CodeFits}
 use Rattle.paper.proofs.Stages.{never-ok, bind-ok}
-use Rattle.paper.proofs.Meeting.{same-self, meets-by-converting}
+use Rattle.paper.proofs.MeetingTypes.{same-self, meets-by-converting}
 
 -- the code of a key and of a field that have a type is one instruction
 

@@ -17,7 +17,7 @@ use Rattle.paper.specs.Tokens.{equal, unequal, greater, atLeast, less, a
 use Rattle.paper.specs.Keys.{exact, ternary, lpm, range, optional}
 use Rattle.paper.specs.Types.{when, andThen, value, mask, prefixLength, low, high}
 use Rattle.paper.specs.Meaning.{both, either, ifThen}
-use Rattle.paper.specs.Code.{Instruction, pushBool, pushInt, pushKey, pushField, pushPriority, invert, negate, convert, compare, connects, Parts, partsOf, instructionSize, encode, partsAt, named, sameParts, inRange, decode}
+use Rattle.paper.specs.Code.{Instruction, pushBool, pushInt, pushKey, pushField, pushPriority, invert, negate, convert, compare, connects, Parts, partsOf, instructionSize, encode, partsAt, instructionNamed, sameParts, inRange, decode}
 use Rattle.paper.specs.Blocks.{encodeAll}
 use Rattle.paper.specs.Written.{InRange, PartsBack, BytesBack, PartsAgain, WrittenAgain, BytesAgain}
 use Rattle.paper.proofs.Basics.{all-parts}
@@ -25,7 +25,7 @@ use Rattle.paper.proofs.Digits.{drop-on, byte-there, number-back, Small
 
 -- by its parts
 
-named-back : (i : Instruction) → named (partsOf i) ≡ some i
+named-back : (i : Instruction) → instructionNamed (partsOf i) ≡ some i
 named-back (pushBool true) = refl
 named-back (pushBool false) = refl
 named-back (pushInt n) = refl
@@ -136,7 +136,7 @@ passes test (some x) a h = go (test x) refl h
 
 read-test : (p : Parts) (i : Instruction) → decode p ≡ some i → (inRange i ≡ true) × (sameParts p (partsOf i) ≡ true)
 read-test p i h =
-    and-eq-true-iff (inRange i) (sameParts p (partsOf i)) .0 (passes (λ x. inRange x && sameParts p (partsOf x)) (named p) i h)
+    and-eq-true-iff (inRange i) (sameParts p (partsOf i)) .0 (passes (λ x. inRange x && sameParts p (partsOf x)) (instructionNamed p) i h)
 
 pub parts-again : PartsAgain
 parts-again p i h = same-parts p (partsOf i) (read-test p i h .1)

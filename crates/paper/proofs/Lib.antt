@@ -21,12 +21,12 @@ pub mod Basics
 pub mod Walks
 pub mod Stages
 pub mod Sound
-pub mod Meeting
+pub mod MeetingTypes
 pub mod Meant
 pub mod Translated
 pub mod Counted
 pub mod Digits
-pub mod Named
+pub mod ByNumber
 pub mod Encoded
 pub mod OneBlock
 pub mod Written

@@ -18,7 +18,7 @@ use Rattle.paper.specs.Translating.{hasType}
 use Rattle.paper.specs.Meant.{ValuesHaveTypes, TypedMeant, Judged}
 use Rattle.paper.proofs.Basics.{map-when}
 use Rattle.paper.proofs.Stages.{never-ok, bind-ok}
-use Rattle.paper.proofs.Meeting.{same-types, same-self, meets-by-converting, compares-where-met}
+use Rattle.paper.proofs.MeetingTypes.{same-types, same-self, meets-by-converting, compares-where-met}
 use Rattle.paper.proofs.Sound.{not-follows, negate-follows, join-follows, key-follows, field-value-follows}
 
 -- an operand of the type that is met stays, and the other is converted to it

@@ -99,8 +99,8 @@ partsAt s at =
 
 -- the instruction that a number of 01's list names, with the detail, the operand and the constant beside it. (Number 0 comes out as
 -- the first; it is no operation, since no instruction is spelled with it.)
-abbrev pub named : Parts → Option Instruction
-named p =
+abbrev pub instructionNamed : Parts → Option Instruction
+instructionNamed p =
     getElem?
     (pushBool (eqb (p .operand) 1)
     ∷ pushInt (p .constant)
@@ -139,7 +139,7 @@ inRange (compare c) = true
 inRange (connects o) = true
 
 abbrev pub decode : Parts → Option Instruction
-decode p = andThen (named p) (λ i. when (inRange i && sameParts p (partsOf i)) i)
+decode p = andThen (instructionNamed p) (λ i. when (inRange i && sameParts p (partsOf i)) i)
 
 -- One machine, which holds types in the load check and values in the run. "Running starts with nothing held; each instruction
 -- takes its operands off the top, the right one uppermost, and leaves what "Types and meaning" gives." The load check asks for

@@ -165,7 +165,7 @@ atomSign opening = 1
 atomSign closing = 2
 atomSign colons = 3
 
--- whether a token is one of them
+-- whether a token is this one of them
 abbrev pub isSign : Sign → Tok → Bool
 isSign g (word w) = false
 isSign g (numeral n) = false

@@ -52,7 +52,7 @@ abbrev pub fieldValue : List Key → Entry → Field → ℕ → Option Value
 fieldValue ks e f k =
     andThen (getElem? ks k) (λ x. andThen (getElem? (e .matches) k) (λ m. when (has (x .kind) f) (fieldIn (x .width) f m)))
 
--- operators
+-- operators; nothing where Types gives no type
 
 abbrev pub notValue : Value → Option Value
 notValue (truth b) = some (truth (not b))
@@ -101,7 +101,7 @@ inType (of k w) (truth b) = truth b
 inType (of k w) (whole z) = matched k w (oneValue k w (modulo z (2 ^ w)))
 inType (of k w) (matched l x m) = matched k w (cond (eqb (kindNo k) (kindNo l)) m (oneValue k w (m .first)))
 
--- "equal types (equal in all fields)"
+-- "equal in all fields"
 abbrev pub sameMatch : Match → Match → Bool
 sameMatch m n = eqb (m .first) (n .first) && eqb (m .second) (n .second) && eqb (m .length) (n .length)
 
@@ -159,6 +159,7 @@ valueOf ks e (G.prefixed at o t) = andThen (valueOf ks e t) (prefixValue o)
 valueOf ks e (G.joined at o l r) = andThen (valueOf ks e l) (λ a. andThen (valueOf ks e r) (joinValue (connective o) a))
 valueOf ks e (G.compared at c l r) = andThen (valueOf ks e l) (λ a. andThen (valueOf ks e r) (comparisonValue c a))
 
+-- of a text that passes, the value is a bool; no other is true
 abbrev pub isTrue : Option Value → Bool
 isTrue none = false
 isTrue (some (truth b)) = b

@@ -160,7 +160,7 @@ comparisonType c a b = when (compares c a b) bool
 
 -- instructions 8 and 9
 
--- "Convert takes int, or for a bare-key type also bit of that W."
+-- "Convert takes int, or for a bare-key type also bit of that W." Nothing is converted to bool or int.
 abbrev pub takes : Ty → Ty → Bool
 takes bool a = false
 takes int a = false

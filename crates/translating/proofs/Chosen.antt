@@ -10,7 +10,7 @@ use Rattle.paper.specs.Tokens.{sequel, implies, orElse, andAlso}
 use Rattle.paper.specs.Types.{Field}
 use Rattle.paper.specs.Meaning.{both, connective}
 use Rattle.paper.specs.Code.{fieldOf, fieldNo, comparisonNo, comparisonOf}
-use Rattle.paper.proofs.Named.{comparison-number}
+use Rattle.paper.proofs.ByNumber.{comparison-number}
 use Rattle.values.specs.Typed.{namedOf}
 use Rattle.values.specs.declared.fields.Named.{Named}
 use Rattle.values.specs.declared.fields.Named.the-variants as N

@@ -10,7 +10,7 @@ use Rattle.paper.specs.Keys.{Kind, exact, ternary, lpm, range, optional}
 use Rattle.paper.specs.Types.{Ty, bool, int, of, sameTy, takes, meet, when, andThen}
 use Rattle.paper.specs.Meaning.{Value, tyOf, inType, convertValue, compareValue, comparisonValue}
 use Rattle.paper.proofs.Meant.{Comes, stays, meets, compared-there}
-use Rattle.paper.proofs.Meeting.{same-types, same-self, meets-by-converting}
+use Rattle.paper.proofs.MeetingTypes.{same-types, same-self, meets-by-converting}
 use Rattle.values.specs.Held.{likeValue, Is}
 
 pub in-same : (t : Ty) (a : Value) → sameTy (tyOf a) t ≡ true → likeValue t a ≡ some a

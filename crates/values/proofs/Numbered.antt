@@ -5,15 +5,15 @@ use mathlib.Core.Path.{_≡_, refl}
 use mathlib.Core.Bool.{Bool, true, false, not, cond, _&&_, _||_, and-true, and-self}
 use mathlib.Core.Option.{Option, some}
 use native.Mathlib.Omega.{arith}
-use borrow.Author.Tests.{eq-eqb, ne-eqb, lt-ltb, le-ltb}
+use borrow.Author.Tests.{eq-eqb, ne-eqb, lt-ltb}
 use lib.Dec.{eqb, ltb}
 use Rattle.paper.specs.Tokens.{equal, unequal, greater, atLeast, less, atMost}
-use Rattle.paper.specs.Keys.{Kind, exact, ternary, lpm, range, optional, kindOf, kindNo}
+use Rattle.paper.specs.Keys.{Kind, exact, ternary, lpm, range, optional, kindOf}
 use Rattle.paper.specs.Entry.{Match, isExact}
 use Rattle.paper.specs.Types.{Ty, bool, int, of, bits, isNumber, ordered, suits, Field, value, mask, prefixLength, low, high, has, fieldTy}
 use Rattle.paper.specs.Meaning.{oneValue}
 use Rattle.paper.specs.Code.{comparisonOf, fieldOf, fieldNo}
-use Rattle.paper.proofs.Meeting.{meet-own}
+use Rattle.paper.proofs.MeetingTypes.{meet-own}
 use Rattle.values.specs.declared.fields.Named.the-variants as N
 use Rattle.values.specs.Typed.{namedOf}
 
@@ -38,9 +38,6 @@ module _ {A : Type 0} (f : Kind → A) (t : ℕ → A) (t0 : t 0 ≡ f exact) (t
   by-kind (suc (suc zero)) = t2
   by-kind (suc (suc (suc zero))) = t3
   by-kind (suc (suc (suc (suc n)))) = at-over (suc (suc (suc (suc n)))) (omega arith)
-
-pub kind-number : (n : ℕ) → cond (ltb n 4) n 4 ≡ kindNo (kindOf n)
-kind-number = by-kind kindNo (λ n. cond (ltb n 4) n 4) refl refl refl refl (λ n h. rw (le-ltb n 4 h))
 
 pub kind-exact : (n : ℕ) → eqb n 0 ≡ isExact (kindOf n)
 kind-exact = by-kind isExact (λ n. eqb n 0) refl refl refl refl (λ n h. ne-eqb n 0 (λ e. omega arith))

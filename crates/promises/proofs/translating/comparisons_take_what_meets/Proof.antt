@@ -1,4 +1,4 @@
-use Rattle.paper.proofs.Meeting as Theorem
+use Rattle.paper.proofs.MeetingTypes as Theorem
 use Rattle.promises.proofs.translating.comparisons_take_what_meets.Statement.{statement}
 use Rattle.promises.proofs.translating.comparisons_take_what_meets.Tie as tie
 

@@ -1,4 +1,4 @@
-use Rattle.paper.proofs.Meeting as Theorem
+use Rattle.paper.proofs.MeetingTypes as Theorem
 use Rattle.promises.proofs.translating.operands_meet_by_conversion.Statement.{statement}
 use Rattle.promises.proofs.translating.operands_meet_by_conversion.Tie as tie
 

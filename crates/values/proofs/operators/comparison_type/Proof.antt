@@ -1,7 +1,7 @@
 -- What a comparison takes, it takes in the type in which its operands meet.
 use borrow.Author.Needs.{needs}
 use Rattle.paper.specs.Code.{comparisonOf}
-use Rattle.paper.proofs.Meeting.{compares-where-met}
+use Rattle.paper.proofs.MeetingTypes.{compares-where-met}
 use Rattle.values.specs.Typed.{tyMeant}
 use Rattle.values.proofs.operators.comparison_type.Statement.{statement}
 use Rattle.values.proofs.operators.comparison_type.Tie as tie

@@ -1,6 +1,6 @@
 -- Two types meet where the code looks for it: in their own, or in the one that takes the other.
 use borrow.Author.Needs.{needs}
-use Rattle.paper.proofs.Meeting.{meets-by-converting}
+use Rattle.paper.proofs.MeetingTypes.{meets-by-converting}
 use Rattle.values.specs.Typed.{tyMeant}
 use Rattle.values.proofs.types.meet.Statement.{statement}
 use Rattle.values.proofs.types.meet.Tie as tie

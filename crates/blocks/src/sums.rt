@@ -17,7 +17,7 @@ fn wide(x: u8) -> u32
 }
 
 // They are reduced once, at the end: unreduced sums of 508 bytes stay below 2^32.
-pub fn sums_of(s: &[u8]) -> Sums
+pub(crate) fn sums_of(s: &[u8]) -> Sums
     requires { ⌜ length (now s) ≤ 508 ⌝ }
     ensures { λ r. ⌜ (sumsMeant r ≡ sumsOf (now (s .entry))) × (r .first < 65535) × (r .second < 65535) ⌝ }
 {
@@ -36,7 +36,7 @@ pub fn sums_of(s: &[u8]) -> Sums
 }
 
 // Stores the check of a block's first 508 bytes behind them.
-pub fn seal(block: &mut [u8])
+pub(crate) fn seal(block: &mut [u8])
     requires { ⌜ length (now block) ≡ 512 ⌝ }
     ensures { λ _. ⌜ now (block .exit) ≡ sealedAt (now (block .entry)) ⌝ }
 {

@@ -3,6 +3,7 @@ ghost use mathlib.Core.Path.{_≡_};
 ghost use Prim.Native.Nat.{_+_, _*_, _-_, _≤_, _<_};
 ghost use lib.ListN.{length, getD};
 ghost use lib.Seq.{sets};
+ghost use Rattle.paper.specs.Tokens.{plain};
 ghost use Rattle.paper.specs.Grammar as G;
 ghost use Rattle.number.specs.Values.{value};
 ghost use Rattle.trees.specs.Standing.{prefixMeant, joinMeant, comparisonMeant};
@@ -91,7 +92,7 @@ pub fn put_attribute(
 
 pub fn put_number(starts: &[u16], nodes: &mut [u32], node: usize, token: usize, number: Magnitude)
     requires { ⌜ (node * 8 + 8 ≤ length (now nodes)) × (token < length (now starts)) ⌝ }
-    ensures { λ _. ⌜ now (nodes .exit) ≡ sets (now (nodes .entry)) (node * 8) (words node (G.number (getD (now (starts .entry)) token 0) (value number))) ⌝ }
+    ensures { λ _. ⌜ now (nodes .exit) ≡ sets (now (nodes .entry)) (node * 8) (words node (G.number (getD (now (starts .entry)) token 0) (plain (value number)))) ⌝ }
 {
     trees::put_number(nodes, node, offset(starts, token), number);
 }

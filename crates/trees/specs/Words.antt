@@ -46,7 +46,7 @@ operatorWords kind at left = kind ∷ at ∷ left ∷ 0 ∷ 0 ∷ 0 ∷ 0 ∷ 0 
 -- the words of a tree whose first node has the number b
 abbrev pub words : ℕ → Tree → List ℕ
 words b (truth at t) = leafWords 0 at (bit t) 0 0 0
-words b (number at n) = leafWords 1 at (limb n 0) (limb n 1) (limb n 2) (limb n 3)
+words b (number at n) = leafWords 1 at (limb (n .value) 0) (limb (n .value) 1) (limb (n .value) 2) (limb (n .value) 3)
 words b (key at w) = leafWords 2 at at (at + length w) 0 0
 words b (field at w to f) = leafWords 3 at at (at + length w) to (to + length f)
 words b (attribute at to f) = leafWords 4 at 0 0 to (to + length f)

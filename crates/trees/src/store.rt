@@ -5,6 +5,7 @@ ghost use Prim.Native.Nat.{_+_, _*_, _≤_, _<_};
 ghost use lib.ListN.{length};
 ghost use lib.Seq.{sets};
 ghost use Rattle.paper.specs.Code as C;
+ghost use Rattle.paper.specs.Tokens.{plain};
 ghost use Rattle.paper.specs.Grammar as G;
 ghost use Rattle.number.specs.Values.{value};
 ghost use Rattle.trees.specs.Standing.{prefixMeant, joinMeant, comparisonMeant};
@@ -70,7 +71,7 @@ pub fn put_truth(nodes: &mut [u32], node: usize, place: u32, truth: bool)
 
 pub fn put_number(nodes: &mut [u32], node: usize, place: u32, number: Magnitude)
     requires { ⌜ node * 8 + 8 ≤ length (now nodes) ⌝ }
-    ensures { λ _. ⌜ now (nodes .exit) ≡ sets (now (nodes .entry)) (node * 8) (words node (G.number place (value number))) ⌝ }
+    ensures { λ _. ⌜ now (nodes .exit) ≡ sets (now (nodes .entry)) (node * 8) (words node (G.number place (plain (value number)))) ⌝ }
 {
     let row = Row {
         kind: kinds::NUMBER,

@@ -11,7 +11,7 @@ use borrow.Author.Tests.{eqb-true, ltb-true, eq-eqb, ne-eqb, lt-ltb, le-ltb}
 use lib.ListN.{getD}
 use lib.Seq.{sets, slice}
 use lib.Dec.{eqb, ltb}
-use Rattle.paper.specs.Tokens.{Sign, join, comparison, prefix, opening, closing, colons, word, string, sign, Token, undotted}
+use Rattle.paper.specs.Tokens.{Sign, join, comparison, prefix, opening, closing, colons, word, string, sign, Token, undotted, plain}
 use Rattle.paper.specs.Addresses.{Scheme, schemeOf, address}
 use Rattle.paper.specs.Grammar as G
 use Rattle.paper.specs.Grammar.{Tree, Out, got, stuck, deep, Reader, named, nameAt, keyed, keyAt, markOf, addressed, addressAt, addressWith, worded, operandAt, signed, prefixes}
@@ -150,7 +150,7 @@ module _ (T : Tape) (n i : ℕ) where
     unfolding prefixes
     leaf-word e = rw (tokens-here T n i l, e)
 
-    pub leaf-numeral : kind ≡ 1 → L.prefix 0 here ≡ G.ends (got (G.number (placeOn T i) (limbsAt (T .limbs) (i * 4)))) (past T n i)
+    pub leaf-numeral : kind ≡ 1 → L.prefix 0 here ≡ G.ends (got (G.number (placeOn T i) (plain (limbsAt (T .limbs) (i * 4))))) (past T n i)
     unfolding prefixes
     leaf-numeral e = rw (tokens-here T n i l, e)
 

@@ -4,7 +4,7 @@ use Prim.Native.Nat.{ℕ, zero, suc, _+_, _*_, _-_, _/_, _%_, _^_}
 use mathlib.Core.Bool.{Bool, true, false}
 use mathlib.Core.List.{List, [], _∷_, _++_}
 use lib.ListN.{getD}
-use Rattle.paper.specs.Tokens.{Prefix, notSign, minusSign, Join, sequel, implies, orElse, andAlso, Comparison, equal, unequal, greater, atLeast, less, atMost, Tok, word, numeral, string, sign, Token}
+use Rattle.paper.specs.Tokens.{Prefix, notSign, minusSign, Join, sequel, implies, orElse, andAlso, Comparison, equal, unequal, greater, atLeast, less, atMost, Tok, word, numeral, string, sign, Token, plain}
 use Rattle.paper.specs.Grammar as G
 use Rattle.paper.specs.Grammar.{Tree}
 use Rattle.paper.specs.Code.{bit}
@@ -36,7 +36,7 @@ wordOn T i = wordIn (tokOn T i)
 -- the tree of a plan: a field's name stands two tokens behind its key, an attribute's one behind its "::"
 abbrev pub treeOf : Tape → Plan → Tree
 treeOf T (truth i b) = G.truth (placeOn T i) b
-treeOf T (number i n) = G.number (placeOn T i) n
+treeOf T (number i n) = G.number (placeOn T i) (plain n)
 treeOf T (key i) = G.key (placeOn T i) (wordOn T i)
 treeOf T (field i) = G.field (placeOn T i) (wordOn T i) (placeOn T (i + 2)) (wordOn T (i + 2))
 treeOf T (attribute i) = G.attribute (placeOn T i) (placeOn T (i + 1)) (wordOn T (i + 1))

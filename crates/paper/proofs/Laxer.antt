@@ -7,7 +7,7 @@ use mathlib.Core.Option.{Option, none, some}
 use mathlib.Core.List.{List, [], _∷_}
 use lib.ListN.{length}
 use native.Mathlib.Omega.{arith}
-use Rattle.paper.specs.Tokens.{bytes, sameBytes, Sign, join, comparison, prefix, opening, closing, colons, Tok, word, numeral, string, sign, Token, sequel, implies, orElse, andAlso}
+use Rattle.paper.specs.Tokens.{plain, bytes, sameBytes, Sign, join, comparison, prefix, opening, closing, colons, Tok, word, numeral, string, sign, Token, sequel, implies, orElse, andAlso}
 use Rattle.paper.specs.Addresses.{Scheme, schemeOf}
 use Rattle.paper.specs.Grammar.{Tree, number, field, truth, attribute, got, stuck, Out, ends, deep, bad, _>>>_, Parser, Make, Reader, onceWith, onceMore, once, behind, moreWith, more, chain, joins, compares, implication, sequence, Mark, opens, closes, doubles, others, markOf, closed, named, addressWith, addressAt, addressed, opensAddress, keyAt, keyed, worded, signed, operandAt, operand, prefixes, finished, whole}
 
@@ -90,7 +90,7 @@ module _ (Nine Ten : Type 0) where
         string-keeps : (q : List ℕ) (o : Option ℕ) → read s q ≡ o
             → Keeps Nine Ten (addressWith o at u us) (addressWith (read′ s q) at u us)
         string-keeps q none e = λ c. rw (none-kept c s q e)
-        string-keeps q (some n) e = rw (some-kept s q n e) (keeps-same (closed (number at n) us))
+        string-keeps q (some n) e = rw (some-kept s q n e) (keeps-same (closed (number at (plain n)) us))
 
         behind-opening : (x : Tok) → Keeps Nine Ten (addressAt read s at x u us) (addressAt read′ s at x u us)
         behind-opening (word w) = refl

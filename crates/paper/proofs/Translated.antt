@@ -146,7 +146,7 @@ module _ (ks : List Key) (e : Entry) where
     code-gives : (t : Tree) (s : List Value) → length s + needs t ≤ mostHeld → Gives run (codeOf ks t) s s (valueOf ks e t)
     unfolding codeOf valueOf
     code-gives (G.truth at b) s room = gives-one run (pushBool b) s s (some (truth b)) refl (omega arith)
-    code-gives (G.number at n) s room = gives-one run (pushInt n) s s (some (whole (pos n))) refl (omega arith)
+    code-gives (G.number at n) s room = gives-one run (pushInt (n .value)) s s (some (whole (pos (n .value)))) refl (omega arith)
     code-gives (G.key at w) s room = key-gives (find ks w) s (omega arith)
     code-gives (G.field at w to f) s room = field-gives (find ks w) (fieldNamed f) s (omega arith)
     code-gives (G.attribute at to f) s room = priority-gives (sameBytes f (bytes "priority")) s (omega arith)

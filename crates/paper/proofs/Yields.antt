@@ -5,7 +5,7 @@ use mathlib.Core.Option.{Option, none, some}
 use mathlib.Core.List.{List, [], _∷_}
 use lib.ListN.{length}
 use lib.Dec.{eqb}
-use Rattle.paper.specs.Tokens.{bytes, sameBytes, undotted, Prefix, Join, Comparison, Sign, join, comparison, prefix, opening, closing, colons, Tok, word, numeral, string, sign, Token}
+use Rattle.paper.specs.Tokens.{Literal, plain, bytes, sameBytes, undotted, Prefix, Join, Comparison, Sign, join, comparison, prefix, opening, closing, colons, Tok, word, numeral, string, sign, Token}
 use Rattle.paper.specs.Addresses.{Scheme, schemeOf}
 use Rattle.paper.specs.Grammar.{Tree, truth, number, key, field, attribute, prefixed, joined, compared, got, stuck, Out, ends, deep, bad, _>>>_, Parser, Make, joinNo, signJoins, signCompares, bySign, onceWith, onceMore, once, behind, moreWith, more, chain, Mark, opens, closes, doubles, others, markOf, closeAt, closed, nameAt, named, Reader, addressWith, addressAt, addressed, opensAddress, keyAt, keyed, worded, signed, operandAt, operand}
 use Rattle.paper.proofs.Basics.{If}
@@ -113,8 +113,8 @@ module _ (P R : Tree → Type 0) (op : Token → Option Make) (p : Parser) (yiel
 
 module _ (R : Tree → Type 0) (leaf-truth : (at : ℕ) (b : Bool) → R (truth at b)) (leaf-key : (at : ℕ) (w : List ℕ) → R (key at w))
     (leaf-field : (at : ℕ) (w : List ℕ) (to : ℕ) (f : List ℕ) → R (field at w to f)) (leaf-attribute : (at to : ℕ) (f : List ℕ) → R (attribute at to f))
-    (leaf-number : (at n : ℕ) → Good (numeral n) → R (number at n)) (within : (at : ℕ) (o : Prefix) (t : Tree) → R t → R (prefixed at o t))
-    (read : Reader) (reads : (s : Scheme) (q : List ℕ) → If (λ n. Good (numeral n)) (read s q)) where
+    (leaf-number : (at : ℕ) (n : Literal) → Good (numeral n) → R (number at n)) (within : (at : ℕ) (o : Prefix) (t : Tree) → R t → R (prefixed at o t))
+    (read : Reader) (reads : (s : Scheme) (q : List ℕ) → If (λ n. Good (numeral (plain n))) (read s q)) where
   close-got : (m : Mark) (t : Tree) (u : Token) (us : List Token) → R t → AllGood us → Got R (closeAt m t u us)
   close-got opens t u us h gs = tt
   close-got closes t u us h gs = (h, gs)
@@ -140,9 +140,9 @@ module _ (R : Tree → Type 0) (leaf-truth : (at : ℕ) (b : Bool) → R (truth 
   named-got make h [] gs = tt
   named-got make h (u ∷ us) gs = name-got make h (u .tok) u us (gs .1)
 
-  address-got : (o : Option ℕ) (at : ℕ) (u : Token) (us : List Token) → If (λ n. Good (numeral n)) o → AllGood us → Got R (addressWith o at u us)
+  address-got : (o : Option ℕ) (at : ℕ) (u : Token) (us : List Token) → If (λ n. Good (numeral (plain n))) o → AllGood us → Got R (addressWith o at u us)
   address-got none at u us h gs = tt
-  address-got (some n) at u us h gs = closed-got (number at n) us (leaf-number at n h) gs
+  address-got (some n) at u us h gs = closed-got (number at (plain n)) us (leaf-number at (plain n) h) gs
 
   addressAt-got : (s : Scheme) (at : ℕ) (t : Tok) (u : Token) (us : List Token) → AllGood us → Got R (addressAt read s at t u us)
   addressAt-got s at (word w) u us gs = tt

@@ -11,14 +11,14 @@ use mathlib.Core.List.{List, [], _∷_}
 use lib.ListN.{length}
 use lib.Dec.{eqb}
 use Rattle.paper.specs.Answers.{Answer, ok, refused, inText}
-use Rattle.paper.specs.Tokens.{bytes, sameBytes, undotted, Prefix, Join, sequel, implies, orElse, andAlso, Comparison, Sign, join, comparison, prefix, opening, closing, colons, Tok, word, numeral, string, sign, Token}
+use Rattle.paper.specs.Tokens.{bytes, sameBytes, undotted, Literal, plain, Prefix, Join, sequel, implies, orElse, andAlso, Comparison, Sign, join, comparison, prefix, opening, closing, colons, Tok, word, numeral, string, sign, Token}
 use Rattle.paper.specs.Addresses.{Scheme, schemeOf, address}
 
 -- "Parentheses make no node; a node's place is its operator ("::" counts as none here and in a print), else its first token":
 -- each node's first number is its place. A field and an attribute have a second, that of the name behind "::".
 pub data Tree : Type 0 where
   truth : ℕ → Bool → Tree
-  number : ℕ → ℕ → Tree
+  number : ℕ → Literal → Tree
   key : ℕ → List ℕ → Tree
   field : ℕ → List ℕ → ℕ → List ℕ → Tree
   attribute : ℕ → ℕ → List ℕ → Tree
@@ -196,7 +196,7 @@ Reader = Scheme → List ℕ → Option ℕ
 
 abbrev pub addressWith : Option ℕ → ℕ → Token → List Token → Out
 addressWith none at u us = bad (u .at)
-addressWith (some n) at u us = closed (number at n) us
+addressWith (some n) at u us = closed (number at (plain n)) us
 
 abbrev pub addressAt : Reader → Scheme → ℕ → Tok → Token → List Token → Out
 addressAt read s at (word w) u us = ends stuck (u ∷ us)

@@ -150,7 +150,7 @@ comparisonValue c a b =
 -- trees; nothing where a tree has no type
 unfoldable pub valueOf : List Key → Entry → Tree → Option Value
 valueOf ks e (G.truth at b) = some (truth b)
-valueOf ks e (G.number at n) = some (whole (pos n))
+valueOf ks e (G.number at n) = some (whole (pos (n .value)))
 valueOf ks e (G.key at w) = andThen (find ks w) (bareValue ks e)
 valueOf ks e (G.field at w to f) = andThen (find ks w) (λ k. andThen (fieldNamed f) (λ g. fieldValue ks e g k))
 valueOf ks e (G.attribute at to f) = when (sameBytes f (bytes "priority")) (whole (pos (e .priority)))

@@ -46,7 +46,7 @@ pushing (some i) = i ∷ []
 unfoldable pub codeOf : List Key → Tree → List Instruction
 unfolding typeOf
 codeOf ks (truth at b) = pushBool b ∷ []
-codeOf ks (number at n) = pushInt n ∷ []
+codeOf ks (number at n) = pushInt (n .value) ∷ []
 codeOf ks (key at w) = pushing (andThen (find ks w) (λ k. some (pushKey k)))
 codeOf ks (field at w to f) = pushing (andThen (find ks w) (λ k. andThen (fieldNamed f) (λ g. some (pushField g k))))
 codeOf ks (attribute at to f) = pushPriority ∷ []

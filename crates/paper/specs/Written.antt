@@ -67,7 +67,7 @@ KeysListed = (list : List ℕ) (ks : List Key) → keys list ≡ ok ks → Liste
 -- every number of a tree is below 2^128
 abbrev pub NumbersFit : Tree → Type 0
 NumbersFit (truth at b) = Unit {0}
-NumbersFit (number at n) = n < 2 ^ 128
+NumbersFit (number at n) = n .value < 2 ^ 128
 NumbersFit (key at w) = Unit {0}
 NumbersFit (field at w to f) = Unit {0}
 NumbersFit (attribute at to f) = Unit {0}

@@ -3,6 +3,7 @@ use Prim.Native.Nat.{ℕ, _+_}
 use mathlib.Core.Path.{_≡_}
 use lib.Dec.{eqb}
 use borrow.Author.Tests.{ne-eqb}
+use Rattle.paper.specs.Tokens.{plain}
 use Rattle.paper.specs.Grammar as G
 use Rattle.tokens.specs.Tape.{Tape}
 use Rattle.grammar.specs.Plan.{placeOn, wordOn}
@@ -12,7 +13,7 @@ module _ (T : Tape) (n : Site) where
   pub is-truth : n .kind ≡ 0 → leafOn T n ≡ G.truth (placeOn T (n .token)) (eqb (n .number) 1)
   is-truth h = rw h
 
-  pub is-number : n .kind ≡ 1 → leafOn T n ≡ G.number (placeOn T (n .token)) (n .number)
+  pub is-number : n .kind ≡ 1 → leafOn T n ≡ G.number (placeOn T (n .token)) (plain (n .number))
   is-number h = rw h
 
   pub is-key : n .kind ≡ 2 → leafOn T n ≡ G.key (placeOn T (n .token)) (wordOn T (n .token))

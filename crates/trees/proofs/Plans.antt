@@ -10,7 +10,7 @@ use lib.ListN.{length, getD, take, drop, length-append}
 use lib.Seq.{take-take, take-at, drop-at, drop-drop, getD-take, getD-drop}
 use lib.Dec.{eqb}
 use lib.Pow.{shr-shr, shr-lt}
-use Rattle.paper.specs.Tokens.{Prefix, notSign, minusSign, Join, sequel, implies, orElse, andAlso, Comparison, equal, unequal, greater, atLeast, less, atMost}
+use Rattle.paper.specs.Tokens.{Prefix, notSign, minusSign, Join, sequel, implies, orElse, andAlso, Comparison, equal, unequal, greater, atLeast, less, atMost, plain}
 use Rattle.paper.specs.Code.{bit}
 use Rattle.paper.specs.Grammar as G
 use Rattle.paper.specs.Grammar.{Tree}
@@ -214,7 +214,7 @@ module _ (T : Tape) (nodes : List ℕ) where
       ∙ ap (G.truth (placeOn T i)) (bit-back t)
   stands (number i n) b s e =
       leaf-walk b 1 i 0 (limb n 0) (limb n 1) (limb n 2) (limb n 3) (omega arith) e
-      ∙ ap (G.number (placeOn T i)) (limbs-of n s)
+      ∙ ap (λ (m : ℕ). G.number (placeOn T i) (plain m)) (limbs-of n s)
   stands (key i) b s e = leaf-walk b 2 i 0 0 0 0 0 (omega arith) e
   stands (field i) b s e = leaf-walk b 3 i 0 0 0 0 0 (omega arith) e
   stands (attribute i) b s e = leaf-walk b 4 i 0 0 0 0 0 (omega arith) e

@@ -115,7 +115,7 @@ fn key_node(starts: &[u16], ends: &[u16], at: usize, free: usize, nodes: &mut [u
 fn numeral(starts: &[u16], limbs: &[u32], at: usize, free: usize, nodes: &mut [u32]) -> Taken
     requires { ⌜ (free * 8 + 8 ≤ length (now nodes)) × (at < length (now starts)) × (at < 65536) × (at * 4 + 4 ≤ length (now limbs)) ⌝ }
     ensures { λ r. ⌜ (r ≡ Taken.Tree (free + 1) (at + 1))
-        × (now (nodes .exit) ≡ sets (now (nodes .entry)) (free * 8) (words free (G.number (getD (now (starts .entry)) at 0) (limbsAt (now (limbs .entry)) (at * 4))))) ⌝ }
+        × (now (nodes .exit) ≡ sets (now (nodes .entry)) (free * 8) (words free (G.number (getD (now (starts .entry)) at 0) (tokens.plain (limbsAt (now (limbs .entry)) (at * 4)))))) ⌝ }
 {
     let first = at * 4;
     let number = Magnitude {

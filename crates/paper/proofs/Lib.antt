@@ -17,6 +17,17 @@ pub mod Nodes
 pub mod Offsets
 pub mod Limits
 pub mod CaseFour
+pub mod TokenExamples
+pub mod AddressExamples
+pub mod TreeExamples
+pub mod KeyExamples
+pub mod EntryExamples
+pub mod TypeExamples
+pub mod MeaningExamples
+pub mod BlockExamples
+pub mod InstructionExamples
+pub mod TranslationExamples
+pub mod AnswerExamples
 pub mod Basics
 pub mod Walks
 pub mod Stages

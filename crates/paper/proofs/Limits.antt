@@ -15,7 +15,7 @@ lists = refl
 
 pub entries : Entries
 unfolding judgeAnswer
-entries = record { priority = refl; one = refl; all = refl; eight = refl }
+entries = record { priority = refl; one = refl; all = refl }
 
 pub held : Held
 unfolding typesAlong

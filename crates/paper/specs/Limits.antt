@@ -67,7 +67,7 @@ texts =
 abbrev pub Texts : Type 0
 Texts = Agree readAnswer texts
 
--- key lists: 32 records, 2,560 bytes; a byte short and a byte long; width 1 and 128; a name of 64 bytes
+-- key lists: 32 records, 2,560 bytes; a byte short and a byte long. Those of a record are in KeyExamples
 
 abbrev pub manyKeys : ℕ → List ℕ
 manyKeys zero = []
@@ -80,22 +80,12 @@ lists =
     ∷ on (manyKeys 33) (refused 2 inList 2640)
     ∷ on (manyKeys 32 ++ (0 ∷ [])) (refused 2 inList 2561)
     ∷ on (manyKeys 1 ++ replicate 79 97) (refused 2 inList 159)
-    ∷ on (keyRecord (bytes "k") 0 0) (refused 3 inList 0)
-    ∷ on (keyRecord (bytes "k") 0 1) (ok 1)
-    ∷ on (keyRecord (bytes "k") 0 128) (ok 1)
-    ∷ on (keyRecord (bytes "k") 0 129) (refused 3 inList 0)
-    ∷ on (keyRecord (bytes "k") 4 8) (ok 1)
-    ∷ on (keyRecord (bytes "k") 5 8) (refused 3 inList 0)
-    ∷ on (keyRecord [] 0 8) (refused 3 inList 0)
-    ∷ on (keyRecord (replicate 64 97) 0 8) (ok 1)
-    ∷ on (65 ∷ 0 ∷ 8 ∷ (replicate 13 0 ++ replicate 64 97)) (refused 3 inList 0)
-    ∷ on (keyRecord (bytes "k") 0 1 ++ keyRecord (bytes "k") 1 8) (refused 4 inList 80)
     ∷ []
 
 abbrev pub Lists : Type 0
 Lists = Agree (λ list. keys list >>= λ ks. ok (length ks)) lists
 
--- entries: priority below 2^31; a number below 2^W, at W 1 and 128; prefix length at most W
+-- entries: priority below 2^31; a number below 2^W, at W 1 and 128; prefix length at most W. Each rule of each kind is in EntryExamples
 
 abbrev pub entry : ℕ → List ℕ → List ℕ
 entry priority records = bigEndian 4 priority ++ records
@@ -125,18 +115,10 @@ wide =
     ∷ on (entry 0 (matchRecord 1 127 (2 ^ 128 - 1) 0)) (refused 20 inEntry 4)
     ∷ []
 
-abbrev pub eightBits : List (On Bool)
-eightBits =
-    on (entry 0 (matchRecord 1 8 255 0)) (ok true)
-    ∷ on (entry 0 (matchRecord 1 9 255 0)) (refused 20 inEntry 4)
-    ∷ on (entry 0 (matchRecord 1 8 256 0)) (refused 20 inEntry 4)
-    ∷ []
-
 pub record Entries : Type 0 where
   pub priority : Judged [] priorities
   pub one : Judged (keyRecord (bytes "k") 0 1) narrow
   pub all : Judged (keyRecord (bytes "k") 2 128) wide
-  pub eight : Judged (keyRecord (bytes "k") 2 8) eightBits
 
 -- values held: 384. n bools, then as many joins as bring them back to one
 abbrev pub piled : ℕ → List (Option Instruction)

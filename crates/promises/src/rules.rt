@@ -1,4 +1,5 @@
-// The rules by example: what document 01 marks, both sides of every limit, and every clause of every definition.
+// The rules by example: what document 01 marks, both sides of every limit, and every clause of every definition. `tools/mutate` takes
+// the modules named here for those in which a changed definition must be seen.
 ghost use Rattle.paper.specs.Marked.{Marked};
 ghost use Rattle.paper.specs.Readings.{Readings};
 ghost use Rattle.paper.specs.CaseFour.{CaseFour};
@@ -35,7 +36,7 @@ pub fn limits_of_texts()
     ensures { λ _. ⌜ Texts ⌝ }
 {}
 
-// 32 records, widths 1 to 128, names of 1 to 64 bytes.
+// 32 records of 80 bytes.
 pub fn limits_of_lists()
     ensures { λ _. ⌜ Lists ⌝ }
 {}

@@ -20,6 +20,7 @@ pub mod CaseFour
 pub mod TokenExamples
 pub mod AddressExamples
 pub mod TreeExamples
+pub mod SentenceExamples
 pub mod KeyExamples
 pub mod EntryExamples
 pub mod TypeExamples
@@ -28,6 +29,7 @@ pub mod BlockExamples
 pub mod InstructionExamples
 pub mod TranslationExamples
 pub mod AnswerExamples
+pub mod FaultExamples
 pub mod Basics
 pub mod Walks
 pub mod Stages

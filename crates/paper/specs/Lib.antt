@@ -28,6 +28,7 @@ pub mod Examples
 pub mod TokenExamples
 pub mod AddressExamples
 pub mod TreeExamples
+pub mod SentenceExamples
 pub mod KeyExamples
 pub mod EntryExamples
 pub mod TypeExamples
@@ -36,6 +37,7 @@ pub mod BlockExamples
 pub mod InstructionExamples
 pub mod TranslationExamples
 pub mod AnswerExamples
+pub mod FaultExamples
 pub mod Promised
 pub mod Faults
 pub mod Table

@@ -7,6 +7,7 @@ ghost use Rattle.paper.specs.Limits.{Texts, Lists, Entries, Held, Sizes};
 ghost use Rattle.paper.specs.TokenExamples.{TokenExamples};
 ghost use Rattle.paper.specs.AddressExamples.{AddressExamples};
 ghost use Rattle.paper.specs.TreeExamples.{TreeExamples};
+ghost use Rattle.paper.specs.SentenceExamples.{SentenceExamples};
 ghost use Rattle.paper.specs.KeyExamples.{KeyExamples};
 ghost use Rattle.paper.specs.EntryExamples.{EntryExamples};
 ghost use Rattle.paper.specs.TypeExamples.{TypeExamples};
@@ -15,6 +16,7 @@ ghost use Rattle.paper.specs.BlockExamples.{BlockExamples};
 ghost use Rattle.paper.specs.InstructionExamples.{InstructionExamples};
 ghost use Rattle.paper.specs.TranslationExamples.{TranslationExamples};
 ghost use Rattle.paper.specs.AnswerExamples.{AnswerExamples};
+ghost use Rattle.paper.specs.FaultExamples.{FaultExamples};
 
 // The sixteen marked judgements.
 pub fn marked_judgements()
@@ -71,6 +73,11 @@ pub fn examples_of_trees()
     ensures { λ _. ⌜ TreeExamples ⌝ }
 {}
 
+// Texts of each form of the grammar, derived with their trees.
+pub fn examples_of_sentences()
+    ensures { λ _. ⌜ SentenceExamples ⌝ }
+{}
+
 // Key lists with their keys, each byte of a record that may break its layout, names, and places.
 pub fn examples_of_key_lists()
     ensures { λ _. ⌜ KeyExamples ⌝ }
@@ -109,4 +116,9 @@ pub fn examples_of_translations()
 // Each case of each public answer, and of two faults the one whose stage runs first.
 pub fn examples_of_answers()
     ensures { λ _. ⌜ AnswerExamples ⌝ }
+{}
+
+// An input with the fault of each row of the table, which of two faults wins, and the inputs of each call's stages in order.
+pub fn examples_of_faults()
+    ensures { λ _. ⌜ FaultExamples ⌝ }
 {}

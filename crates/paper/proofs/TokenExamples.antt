@@ -7,6 +7,7 @@ classes : ByteClasses
 unfolding tokens
 classes =
     record {
+      quoted = refl;
       blanks = refl;
       alone = refl;
       in-a-word = refl;

@@ -55,13 +55,7 @@ numbersFrom k (suc n) = k ∷ numbersFrom (suc k) n
 abbrev pub bytesThat : (ℕ → Bool) → List ℕ
 bytesThat p = those p (numbersFrom 0 256)
 
--- tests
-
-abbrev pub passes : {A : Type 0} → Answer A → Bool
-passes (ok a) = true
-passes (refused n i at) = false
-
--- it passes with a number
+-- an answer that passes with a number
 abbrev pub gives : ℕ → Answer ℕ → Bool
 gives n (ok m) = eqb m n
 gives n (refused m i at) = false

@@ -179,7 +179,7 @@ loads code = keys theKeys >>= λ ks. loadCheck 512 (typesAlong ks (map decode co
 abbrev pub passed : Answer (Unit {0})
 passed = ok tt
 
--- the first, second or third instruction
+-- at the first byte of the first three instructions, 4, 24 and 44; of the 26th and 27th, 516 and 536; or at the length
 abbrev pub fails : ℕ → Answer (Unit {0})
 fails place = refused 18 inBlocks place
 

@@ -9,7 +9,7 @@ use Rattle.paper.specs.Tokens.{bytes, Token, sequel, implies, orElse, an
 use Rattle.paper.specs.Addresses.{mac}
 use Rattle.paper.specs.Grammar.{truth, number, field, attribute, prefixed, joined, compared}
 use Rattle.paper.specs.Sentences.{tokenAt, signAt, lenient, Sentence, Bounded, WellSpelled, Valid, OpensLevel, IsString, placeFrom}
-use Rattle.paper.specs.TreeExamples.{at}
+use Rattle.paper.specs.TreeExamples.{keyAt}
 
 -- the tokens of a text that is cut into some
 abbrev pub whenCut : Answer (List Token) → List Token
@@ -25,18 +25,18 @@ pub record Derived : Type 0 where
   pub a-false : WellSpelled (truth 0 false) (words "false")
   pub a-numeral : WellSpelled (number 1 12) (words " 12")
   pub an-address : WellSpelled (number 0 5) (words "mac('00:00:00:00:00:05')")
-  pub a-key : WellSpelled (at 0 "a.b") (words "a.b")
+  pub a-key : WellSpelled (keyAt 0 "a.b") (words "a.b")
   pub a-field : WellSpelled (field 0 (bytes "a") 3 (bytes "true")) (words "a::true")
   pub an-attribute : WellSpelled (attribute 0 2 (bytes "b")) (words "::b")
-  pub a-not : WellSpelled (prefixed 0 notSign (at 1 "a")) (words "!a")
-  pub a-minus : WellSpelled (prefixed 0 minusSign (at 1 "a")) (words "-a")
-  pub a-parenthesis : WellSpelled (joined 2 sequel (at 1 "a") (at 3 "b")) (words "(a;b)")
-  pub a-comparison : WellSpelled (compared 1 less (at 0 "a") (at 2 "b")) (words "a<b")
-  pub ands : WellSpelled (joined 4 andAlso (joined 1 andAlso (at 0 "a") (at 3 "b")) (at 6 "c")) (words "a&&b&&c")
-  pub ors : WellSpelled (joined 4 orElse (joined 1 orElse (at 0 "a") (at 3 "b")) (at 6 "c")) (words "a||b||c")
-  pub one-implication : WellSpelled (joined 1 implies (at 0 "a") (at 3 "b")) (words "a->b")
-  pub sequels : WellSpelled (joined 3 sequel (joined 1 sequel (at 0 "a") (at 2 "b")) (at 4 "c")) (words "a;b;c")
-  pub trailing : WellSpelled (at 0 "a") (words "a;")
+  pub a-not : WellSpelled (prefixed 0 notSign (keyAt 1 "a")) (words "!a")
+  pub a-minus : WellSpelled (prefixed 0 minusSign (keyAt 1 "a")) (words "-a")
+  pub a-parenthesis : WellSpelled (joined 2 sequel (keyAt 1 "a") (keyAt 3 "b")) (words "(a;b)")
+  pub a-comparison : WellSpelled (compared 1 less (keyAt 0 "a") (keyAt 2 "b")) (words "a<b")
+  pub ands : WellSpelled (joined 4 andAlso (joined 1 andAlso (keyAt 0 "a") (keyAt 3 "b")) (keyAt 6 "c")) (words "a&&b&&c")
+  pub ors : WellSpelled (joined 4 orElse (joined 1 orElse (keyAt 0 "a") (keyAt 3 "b")) (keyAt 6 "c")) (words "a||b||c")
+  pub one-implication : WellSpelled (joined 1 implies (keyAt 0 "a") (keyAt 3 "b")) (words "a->b")
+  pub sequels : WellSpelled (joined 3 sequel (joined 1 sequel (keyAt 0 "a") (keyAt 2 "b")) (keyAt 4 "c")) (words "a;b;c")
+  pub trailing : WellSpelled (keyAt 0 "a") (words "a;")
   -- within 64 levels, and "level limit and contents of address strings aside", where a bad string reads as 0
   pub valid : Valid (truth 0 true) (words "true")
   pub sentence : Sentence (number 0 0) (words "mac('x')")

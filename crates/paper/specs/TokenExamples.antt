@@ -27,6 +27,8 @@ letters = bytes "ABCDEFGHIJKLMNOPQRSTUVWXYZ_abcdefghijklmnopqrstuvwxyz"
 
 -- each class of bytes as a whole: those of all 256 with which a text is cut so
 pub record ByteClasses : Type 0 where
+  -- a quoted text is its bytes in ASCII
+  pub quoted : bytes " !09AZ_az~" ≡ 32 ∷ 33 ∷ 48 ∷ 57 ∷ 65 ∷ 90 ∷ 95 ∷ 97 ∷ 122 ∷ 126 ∷ []
   -- "Blanks are space, tab, CR, LF"
   pub blanks : bytesThat (λ b. noToken (b ∷ [])) ≡ 9 ∷ 10 ∷ 13 ∷ 32 ∷ []
   -- a token alone: a sign of one byte, a digit, a letter or underscore

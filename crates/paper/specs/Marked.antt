@@ -64,6 +64,9 @@ cases =
     ∷ []
 
 -- each case is judged as it is marked
+
+abbrev pub AreJudged : List ℕ → List ℕ → List Case → Type 0
+AreJudged list entry cs = map (λ (c : Case). judgeAnswer (bytes (c .text)) list entry) cs ≡ map (λ (c : Case). c .says) cs
+
 abbrev pub Marked : Type 0
-Marked =
-    map (λ (c : Case). judgeAnswer (bytes (c .text)) theKeys theEntry) cases ≡ map (λ (c : Case). c .says) cases
+Marked = AreJudged theKeys theEntry cases

@@ -98,7 +98,7 @@ fn answer_on(call: Call, first: &[u8], second: &[u8], first_size: usize, second_
 
 // Reads the first two files, TEXT and KEYS or KEYS and BLOCKS, and answers the call. A room has at least one byte more than a call
 // takes, so that what is too long is seen to be.
-pub fn answer(call: Call) {
+pub(crate) fn answer(call: Call) {
     let mut first = [0u8; 4097];
     let mut second = io::large_buffer();
     let a = read_argument(2, &mut first);

@@ -23,10 +23,15 @@ pub(crate) fn sums_of(s: &[u8]) -> Sums
 {
     let mut first: u32 = 0;
     let mut second: u32 = 0;
+    // The second sum adds each word as often as there are words from it on. Multiplied, no word waits for the sums before it, so that
+    // the compiler takes several words at a time.
+    let mut left = (s.len() / 2) as u32;
     let mut i = 0;
-    while 2 <= s.len() - i {
-        first += wide(s[i]) * 256 + wide(s[i + 1]);
-        second += first;
+    while 0 < left {
+        let word = wide(s[i]) * 256 + wide(s[i + 1]);
+        first += word;
+        second += left * word;
+        left -= 1;
         i += 2;
     }
     Sums {

@@ -1,8 +1,9 @@
 /*
  * How fast Polluxvalve is, beside plain C that does the same work, in one process.
  *
- *   bench requests FOLDER > REQUESTS     what is measured, for `desk answer`
- *   bench FOLDER LINES                   holds every version to the reference's lines, then measures and prints a table
+ *   bench requests FOLDER > REQUESTS          what is measured, for `desk answer`
+ *   bench FOLDER LINES                        holds every version to the reference's lines, then measures and prints a table
+ *   bench repeat FOLDER TABLE CALL SECONDS    makes one call of Polluxvalve again and again, for a profiler to look at
  *
  * FOLDER has NAME.text, NAME.list and NAME.entries for each table of examples/.
  */
@@ -21,7 +22,7 @@ typedef void with_request(struct request *request, const struct table *table);
 
 static void each_request(const struct table *table, with_request *use)
 {
-    static uint8_t buffer[POLLUX_BLOCKS_LONGEST];
+    static uint8_t buffer[POLLUX_MAX_BLOCKS_SIZE];
     const struct input nothing = { buffer, 0 }, whole = { buffer, sizeof buffer };
     use(&(struct request){ READ, { table->text, nothing, nothing } }, table);
     use(&(struct request){ CHECK, { table->text, table->list, nothing } }, table);
@@ -91,7 +92,7 @@ static void hold_all(struct request *request, const struct table *table)
 
 /* ---- What is measured: one piece of work on one of the entries that conform. */
 
-static uint8_t scratch[POLLUX_BLOCKS_LONGEST];
+static uint8_t scratch[POLLUX_MAX_BLOCKS_SIZE];
 
 typedef uint64_t work(const struct table *table, const uint8_t *entry);
 
@@ -131,7 +132,7 @@ static const struct measured {
 
 /* ---- Time. */
 
-enum { ROUNDS = 5, TURN = 20 /* milliseconds */ };
+enum { ROUNDS = 15, TURN = 20 /* milliseconds */ };
 
 /* Keeps the compiler from leaving the work out. */
 static volatile uint64_t sink;
@@ -208,23 +209,81 @@ static void measure_all(const struct table tables[TABLES])
         }
 }
 
-int main(int count, char **words)
+/* ---- One call, again and again. */
+
+static work *find_work(const char *call)
 {
-    static struct table tables[TABLES];
-    if (count != 3) {
-        fprintf(stderr, "usage: bench requests FOLDER > REQUESTS\n       bench FOLDER LINES\n");
+    for (size_t i = 0; i < sizeof all_measured / sizeof all_measured[0]; i++)
+        if (strcmp(all_measured[i].name, call) == 0)
+            return all_measured[i].versions[POLLUX];
+    return NULL;
+}
+
+static const struct table *find_table(const struct table tables[TABLES], const char *name)
+{
+    for (int i = 0; i < TABLES; i++)
+        if (strcmp(tables[i].name, name) == 0)
+            return &tables[i];
+    return NULL;
+}
+
+static int repeat(const struct table tables[TABLES], const char *name, const char *call, unsigned long for_seconds)
+{
+    const struct table *table = find_table(tables, name);
+    work *work = find_work(call);
+    if (table == NULL || work == NULL) {
+        fprintf(stderr, "there is no table %s, or no call %s\n", name, call);
         return 3;
     }
-    bool only_requests = strcmp(words[1], "requests") == 0;
-    make_tables(tables, words[only_requests ? 2 : 1]);
-    lines = only_requests ? NULL : fopen(words[2], "rb");
-    if (!only_requests && lines == NULL) {
-        perror(words[2]);
+    double start = seconds(), best = 0;
+    while (seconds() - start < (double)for_seconds) {
+        double now = rate(work, table);
+        if (now > best)
+            best = now;
+    }
+    printf("%s, %s: %.1f ns\n", name, call, 1e9 / best);
+    return 0;
+}
+
+/* ---- Everything. */
+
+static int usage(void)
+{
+    fprintf(stderr, "usage: bench requests FOLDER > REQUESTS\n"
+                    "       bench FOLDER LINES\n"
+                    "       bench repeat FOLDER TABLE CALL SECONDS\n");
+    return 3;
+}
+
+static int write_requests(const struct table tables[TABLES])
+{
+    for (int i = 0; i < TABLES; i++)
+        each_request(&tables[i], write_one);
+    return 0;
+}
+
+static int hold_and_measure(const struct table tables[TABLES], const char *path)
+{
+    lines = fopen(path, "rb");
+    if (lines == NULL) {
+        perror(path);
         return 3;
     }
     for (int i = 0; i < TABLES; i++)
-        each_request(&tables[i], only_requests ? write_one : hold_all);
-    if (!only_requests)
-        measure_all(tables);
+        each_request(&tables[i], hold_all);
+    measure_all(tables);
     return 0;
+}
+
+int main(int count, char **words)
+{
+    static struct table tables[TABLES];
+    bool repeats = count == 6 && strcmp(words[1], "repeat") == 0;
+    if (count != 3 && !repeats)
+        return usage();
+    bool requests = strcmp(words[1], "requests") == 0;
+    make_tables(tables, words[requests || repeats ? 2 : 1]);
+    if (repeats)
+        return repeat(tables, words[3], words[4], strtoul(words[5], NULL, 10));
+    return requests ? write_requests(tables) : hold_and_measure(tables, words[2]);
 }

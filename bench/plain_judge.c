@@ -40,7 +40,7 @@ static bool truth_of(const struct judged *judged, size_t index)
 
 static bool check_length(size_t text_length, struct pollux_answer *answer)
 {
-    return text_length <= POLLUX_TEXT_LONGEST || refuse(answer, POLLUX_TEXT_TOO_LONG, POLLUX_TEXT, POLLUX_TEXT_LONGEST);
+    return text_length <= POLLUX_MAX_TEXT || refuse(answer, POLLUX_TEXT_TOO_LONG, POLLUX_TEXT, POLLUX_MAX_TEXT);
 }
 
 bool checked_tree(const uint8_t *text, size_t text_length, const uint8_t *list, size_t list_length, struct tree *tree,

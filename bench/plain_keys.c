@@ -34,9 +34,9 @@ static bool good_record(const uint8_t *record)
 {
     const uint8_t *name = record + 16;
     size_t length = record[0];
-    return length >= 1 && length <= POLLUX_NAME_LONGEST && record[1] <= OPTIONAL && record[2] >= 1 &&
-           record[2] <= POLLUX_WIDTH_MOST && all_zero(record + 3, 13) && word_length(name, length) == length &&
-           all_zero(name + length, POLLUX_NAME_LONGEST - length) && !is(name, length, "true") && !is(name, length, "false");
+    return length >= 1 && length <= POLLUX_MAX_NAME && record[1] <= OPTIONAL && record[2] >= 1 &&
+           record[2] <= POLLUX_MAX_WIDTH && all_zero(record + 3, 13) && word_length(name, length) == length &&
+           all_zero(name + length, POLLUX_MAX_NAME - length) && !is(name, length, "true") && !is(name, length, "false");
 }
 
 int find_key(const uint8_t *list, size_t length, const uint8_t *name, size_t name_length)
@@ -49,7 +49,7 @@ int find_key(const uint8_t *list, size_t length, const uint8_t *name, size_t nam
 
 bool check_list(const uint8_t *list, size_t length, struct pollux_answer *answer)
 {
-    if (length % POLLUX_KEY_SIZE != 0 || length > POLLUX_LIST_LONGEST)
+    if (length % POLLUX_KEY_SIZE != 0 || length > POLLUX_MAX_LIST)
         return refuse(answer, POLLUX_LIST_LENGTH, POLLUX_LIST, length);
     for (size_t at = 0; at < length; at += POLLUX_KEY_SIZE) {
         if (!good_record(list + at))

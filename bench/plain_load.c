@@ -26,7 +26,7 @@ static bool good_layout(const uint8_t *block, size_t index, bool last, size_t to
 
 static bool check_layout(const uint8_t *blocks, size_t length, size_t keys, size_t *total, struct pollux_answer *answer)
 {
-    if (length == 0 || length % POLLUX_BLOCK_SIZE != 0 || length > POLLUX_BLOCKS_LONGEST)
+    if (length == 0 || length % POLLUX_BLOCK_SIZE != 0 || length > POLLUX_MAX_BLOCKS_SIZE)
         return refuse(answer, POLLUX_BLOCKS_LENGTH, POLLUX_BLOCKS, length);
     *total = 0;
     for (size_t at = 0; at < length; at += POLLUX_BLOCK_SIZE)
@@ -40,12 +40,12 @@ static bool check_layout(const uint8_t *blocks, size_t length, size_t keys, size
 /* The types held while the code is followed, the last one uppermost. */
 struct held {
     size_t count;
-    struct type at[POLLUX_VALUES_MOST];
+    struct type at[POLLUX_MAX_VALUES];
 };
 
 static bool push(struct held *held, unsigned kind, unsigned width)
 {
-    if (held->count == POLLUX_VALUES_MOST)
+    if (held->count == POLLUX_MAX_VALUES)
         return false;
     held->at[held->count++] = (struct type){ (uint8_t)kind, (uint8_t)width };
     return true;
@@ -67,7 +67,7 @@ static bool push_key(struct held *held, const uint8_t *list, size_t keys, const 
 
 static bool convert_top(struct held *held, unsigned kind, unsigned width)
 {
-    if (kind > OPTIONAL || width < 1 || width > POLLUX_WIDTH_MOST || held->count < 1)
+    if (kind > OPTIONAL || width < 1 || width > POLLUX_MAX_WIDTH || held->count < 1)
         return false;
     struct type to = { (uint8_t)kind, (uint8_t)width };
     struct type *top = &held->at[held->count - 1];

@@ -122,7 +122,7 @@ struct token {
 
 /* The last one is END, at the text's length. */
 struct tokens {
-    struct token at[POLLUX_TOKENS_MOST + 1];
+    struct token at[POLLUX_MAX_TOKENS + 1];
 };
 
 bool read_tokens(const uint8_t *text, size_t length, struct tokens *tokens, struct pollux_answer *answer);
@@ -145,7 +145,7 @@ struct node {
 
 struct tree {
     size_t count;
-    struct node at[POLLUX_TOKENS_MOST];
+    struct node at[POLLUX_MAX_TOKENS];
 };
 
 bool read_tree(const uint8_t *text, const struct tokens *tokens, struct tree *tree, struct pollux_answer *answer);

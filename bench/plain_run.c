@@ -23,7 +23,7 @@ static struct value *step(struct value *top, const uint8_t *code, const uint8_t 
 
 bool plain_accepts(const uint8_t *list, const uint8_t *blocks, size_t instructions, const uint8_t *entry)
 {
-    struct value held[POLLUX_VALUES_MOST];
+    struct value held[POLLUX_MAX_VALUES];
     struct value *top = held;
     while (instructions > 0) {
         size_t here = instructions < POLLUX_BLOCK_INSTRUCTIONS ? instructions : POLLUX_BLOCK_INSTRUCTIONS;

@@ -123,7 +123,7 @@ bool read_tokens(const uint8_t *text, size_t length, struct tokens *tokens, stru
     while (at < length) {
         struct token token = { .place = (uint16_t)at };
         unsigned why = read_token(text + at, length - at, &token);
-        if (why == 0 && count == POLLUX_TOKENS_MOST)
+        if (why == 0 && count == POLLUX_MAX_TOKENS)
             why = POLLUX_TOKENS_MANY;
         if (why != 0)
             return refuse(answer, why, POLLUX_TEXT, at);

@@ -49,7 +49,7 @@ static bool spells(const struct parser *parser, const struct token *token, const
 
 static bool opens_level(struct parser *parser)
 {
-    if (parser->levels == POLLUX_LEVELS_MOST)
+    if (parser->levels == POLLUX_MAX_LEVELS)
         return refuse(parser->answer, POLLUX_LEVELS_MANY, POLLUX_TEXT, parser->next->place);
     parser->levels++;
     return true;

@@ -60,17 +60,17 @@ static void make_small(struct table *table)
 
 /* ---- At the limits: 4,096 bytes of text, 1,024 tokens, 32 keys of 128 bits. */
 
-enum { COMPARISONS = POLLUX_TOKENS_MOST / 4, FIRST_NUMERAL = 100000000 };
+enum { COMPARISONS = POLLUX_MAX_TOKENS / 4, FIRST_NUMERAL = 100000000 };
 
 /* kNN!=NNNNNNNNN, 256 times, with && between them, a ";" and a blank at the end. */
 static void make_limit_text(struct table *table)
 {
-    table->text = room(POLLUX_TEXT_LONGEST);
+    table->text = room(POLLUX_MAX_TEXT);
     char piece[32];
     size_t at = 0;
     for (unsigned i = 0; i < COMPARISONS; i++) {
         const char *joined = i + 1 < COMPARISONS ? "&&" : "; ";
-        snprintf(piece, sizeof piece, "k%02u!=%u%s", i % POLLUX_KEYS_MOST, FIRST_NUMERAL + i, joined);
+        snprintf(piece, sizeof piece, "k%02u!=%u%s", i % POLLUX_MAX_KEYS, FIRST_NUMERAL + i, joined);
         memcpy(table->text.at + at, piece, strlen(piece));
         at += strlen(piece);
     }
@@ -93,16 +93,16 @@ static void set_limit_record(uint8_t *record, size_t key, uint32_t value)
 static void make_limit(struct table *table)
 {
     char name[8];
-    *table = (struct table){ .name = "limit", .entry_size = POLLUX_ENTRY_SIZE(POLLUX_KEYS_MOST) };
+    *table = (struct table){ .name = "limit", .entry_size = POLLUX_ENTRY_SIZE(POLLUX_MAX_KEYS) };
     make_limit_text(table);
-    table->list = room(POLLUX_LIST_LONGEST);
+    table->list = room(POLLUX_MAX_LIST);
     table->entries = room(2 * table->entry_size);
-    for (size_t key = 0; key < POLLUX_KEYS_MOST; key++) {
+    for (size_t key = 0; key < POLLUX_MAX_KEYS; key++) {
         uint8_t *record = table->entries.at + POLLUX_ENTRY_SIZE(key);
         snprintf(name, sizeof name, "k%02zu", key);
         set_key(&table->list, key, name, key % 5, 128);
         set_limit_record(record, key, (uint32_t)key + 1);
-        bool last = key + 1 == POLLUX_KEYS_MOST;
+        bool last = key + 1 == POLLUX_MAX_KEYS;
         set_limit_record(record + table->entry_size, key, last ? FIRST_NUMERAL + COMPARISONS - 1 : (uint32_t)key + 1);
     }
 }
@@ -130,7 +130,7 @@ static void make_example(struct table *table, const char *folder, const char *na
 
 static void add_blocks(struct table *table)
 {
-    table->blocks = room(POLLUX_BLOCKS_LONGEST);
+    table->blocks = room(POLLUX_MAX_BLOCKS_SIZE);
     struct pollux_answer answer = plain_translate(table->text.at, table->text.length, table->list.at, table->list.length,
                                                   table->blocks.at, table->blocks.length);
     if (answer.says != POLLUX_DONE) {

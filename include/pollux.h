@@ -1,6 +1,6 @@
 /*
  * Polluxvalve for C: a restriction on the entries of a P4 table is read, checked, translated into blocks of 512 bytes,
- * loaded, and held against entries. Link with target/staticlib/libabi.a, which `rt staticlib abi` makes.
+ * loaded, and held against entries. Link with target/staticlib/libpollux.a, which `./pollux lib` makes.
  *
  *   On the author's desk     pollux_check, pollux_translate, pollux_judge: from the restriction's text
  *   On the switch            pollux_load once for a table, then pollux_run for every entry
@@ -8,7 +8,7 @@
  * Inputs
  *   Each input is a pointer and a length in bytes, in that order. It may have any length and any content: whatever does not
  *   conform is refused with a number and a place. No alignment is asked for.
- *   A pointer is never NULL. For an input of length 0 pass any other pointer; no byte behind it is touched.
+ *   A pointer is never NULL. For an input of length 0 pass any other pointer; no byte there is touched.
  *   The buffer of pollux_translate must not overlap the text or the key list. Inputs that are only read may overlap.
  *
  * What a call touches
@@ -17,8 +17,9 @@
  *   call at the same time, as long as nobody writes what another one's call has been given.
  *
  * What a call needs
- *   Stack: at most 256 KiB for a call; at the deepest inputs tried 242 KiB (docs/DECISIONS.md).
- *   From the C library, or from you on bare metal: memcpy and memset.
+ *   Stack: POLLUX_MAX_STACK bytes. This is measured and not proved: tests/c/run makes each call with the deepest texts that the
+ *   limits allow and with generated inputs, prints what it took, and fails above it. docs/DECISIONS.md has the figures.
+ *   From the C library, or from you on bare metal: at most memcpy, memmove and memset.
  *   Processor and calling convention: x86-64, System V.
  */
 #ifndef POLLUX_H
@@ -31,27 +32,33 @@
 extern "C" {
 #endif
 
+/* The version of Polluxvalve: of this interface, the archive and the programs. */
+#define POLLUX_VERSION "1.0.0"
+
+/* What a call may take of the stack, in bytes. */
+#define POLLUX_MAX_STACK (256 * 1024)
+
 /* Sizes in bytes, and limits. What is over a limit is refused. */
-#define POLLUX_TEXT_LONGEST 4096
-#define POLLUX_TOKENS_MOST 1024
-#define POLLUX_LEVELS_MOST 64 /* parentheses and prefix operators that are open at one time */
+#define POLLUX_MAX_TEXT 4096 /* bytes */
+#define POLLUX_MAX_TOKENS 1024
+#define POLLUX_MAX_LEVELS 64 /* parentheses and prefix operators that are open at one time */
 
 #define POLLUX_KEY_SIZE 80 /* one record of a key list */
-#define POLLUX_KEYS_MOST 32
-#define POLLUX_LIST_LONGEST (POLLUX_KEYS_MOST * POLLUX_KEY_SIZE)
-#define POLLUX_NAME_LONGEST 64
-#define POLLUX_WIDTH_MOST 128 /* bits of a key */
+#define POLLUX_MAX_KEYS 32
+#define POLLUX_MAX_LIST (POLLUX_MAX_KEYS * POLLUX_KEY_SIZE) /* bytes */
+#define POLLUX_MAX_NAME 64                                  /* bytes of a key's name */
+#define POLLUX_MAX_WIDTH 128                                /* bits of a key */
 
 #define POLLUX_PRIORITY_SIZE 4 /* an entry is a priority and a record for each key */
 #define POLLUX_RECORD_SIZE 36
 #define POLLUX_ENTRY_SIZE(keys) (POLLUX_PRIORITY_SIZE + POLLUX_RECORD_SIZE * (size_t)(keys))
 
 #define POLLUX_BLOCK_SIZE 512
-#define POLLUX_BLOCKS_MOST 82
-#define POLLUX_BLOCKS_LONGEST (POLLUX_BLOCKS_MOST * POLLUX_BLOCK_SIZE)
-#define POLLUX_INSTRUCTION_SIZE 20
 #define POLLUX_BLOCK_INSTRUCTIONS 25
-#define POLLUX_VALUES_MOST 384 /* values that a run holds at one time */
+#define POLLUX_INSTRUCTION_SIZE 20
+#define POLLUX_MAX_BLOCKS 82
+#define POLLUX_MAX_BLOCKS_SIZE (POLLUX_MAX_BLOCKS * POLLUX_BLOCK_SIZE) /* bytes */
+#define POLLUX_MAX_VALUES 384                                          /* values that a run holds at one time */
 
 /* The bytes of the blocks that hold so many instructions. */
 #define POLLUX_BLOCKS_SIZE(instructions) \
@@ -128,7 +135,7 @@ struct pollux_answer pollux_judge(const uint8_t *text, size_t text_length,
 /*
  * Translates a text into blocks at the front of the buffer. Done: value is the number of instructions, and
  * POLLUX_BLOCKS_SIZE(value) bytes were written. Later bytes of the buffer stay as they were; on a refusal every byte does.
- * A buffer of POLLUX_BLOCKS_LONGEST bytes is large enough for any text.
+ * A buffer of POLLUX_MAX_BLOCKS_SIZE bytes is large enough for any text.
  */
 struct pollux_answer pollux_translate(const uint8_t *text, size_t text_length,
                                       const uint8_t *list, size_t list_length,

@@ -223,6 +223,56 @@ fn pack_and_unpack() {
 }
 
 #[test]
+fn pack_and_unpack_into_files() {
+    let keys = file("keys-out", KEYS.as_bytes());
+    let entries = file("entries-out", format!("{ENTRY}\n").as_bytes());
+    let out = file("out", b"what was there before");
+    for (words, said, wanted) in [
+        (&["pack", "keys", &keys][..], "packed 5 keys", list()),
+        (
+            &["pack", "entries", &keys, &entries],
+            "packed 1 entry",
+            entry(),
+        ),
+    ] {
+        let output = desk(&[words, &[&out]].concat(), &[]);
+        assert_eq!(text_of(&output.stdout), format!("{said}: {out}\n"));
+        assert_eq!(fs::read(&out).expect("written"), wanted);
+    }
+    let packed = file("list-out", &list());
+    let output = desk(&["unpack", "keys", &packed, &out], &[]);
+    assert_eq!(text_of(&output.stdout), format!("unpacked 5 keys: {out}\n"));
+    assert_eq!(fs::read(&out).expect("written"), KEYS.as_bytes());
+    assert!(!PathBuf::from(format!("{out}.part")).exists());
+}
+
+#[test]
+fn what_cannot_be_written_stays_as_it_was() {
+    let keys = file("keys-kept", KEYS.as_bytes());
+    let wrong = file("keys-kept-wrong", b"v exact 0\n");
+    let kept = file("kept", b"as it was");
+    let part = file("kept.part", b"of somebody else");
+    let link = format!("{kept}-link");
+    let _ = fs::remove_file(&link);
+    std::os::unix::fs::symlink("/dev/full", &link).expect("a link");
+    for (from, out) in [
+        (&keys, "/no/such/folder/out"),
+        (&keys, env!("CARGO_TARGET_TMPDIR")),
+        (&keys, "/dev/full"),
+        (&keys, &link),
+        (&keys, &kept),
+        (&wrong, &kept),
+    ] {
+        let output = desk(&["pack", "keys", from, out], &[]);
+        assert_eq!(output.status.code(), Some(2), "{out}");
+        assert!(output.stdout.is_empty(), "{out}");
+    }
+    assert_eq!(fs::read(&kept).expect("there"), b"as it was");
+    assert_eq!(fs::read(&part).expect("there"), b"of somebody else");
+    assert!(fs::symlink_metadata(&link).expect("there").is_symlink());
+}
+
+#[test]
 fn trouble_is_told_with_its_line() {
     let keys = file("keys-good", KEYS.as_bytes());
     let wrong = file("keys-wrong", b"v exact 1\nd ternary 200\n");
@@ -269,6 +319,7 @@ fn wrong_command_lines() {
             "/no/such/program",
         ],
         &["pack"],
+        &["pack", "keys", "/dev/null", "/dev/null", "x"],
         &["unpack", "entries", "x"],
     ] {
         let output = desk(arguments, &[]);

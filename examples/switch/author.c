@@ -22,7 +22,7 @@ int main(int count, char **words)
     struct bytes list = read_file(words[2]);
 
     /* Large enough for any text, so refusal 15 cannot come. */
-    static uint8_t buffer[POLLUX_BLOCKS_LONGEST];
+    static uint8_t buffer[POLLUX_MAX_BLOCKS_SIZE];
     struct pollux_answer answer =
         pollux_translate(text.at, text.length, list.at, list.length, buffer, sizeof buffer);
     if (answer.says == POLLUX_REFUSED) {

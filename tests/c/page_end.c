@@ -70,12 +70,12 @@ static void write_all_varied(const struct request *request)
  */
 static void write_incident(void)
 {
-    static uint8_t list[POLLUX_KEY_SIZE] = { POLLUX_NAME_LONGEST, 0, 1 };
+    static uint8_t list[POLLUX_KEY_SIZE] = { POLLUX_MAX_NAME, 0, 1 };
     static uint8_t entry[POLLUX_ENTRY_SIZE(1)] = { [4] = 1, [23] = 1 };
     static uint8_t buffer[POLLUX_BLOCK_SIZE];
-    uint8_t *name = list + POLLUX_KEY_SIZE - POLLUX_NAME_LONGEST;
-    memset(name, 'k', POLLUX_NAME_LONGEST);
-    struct request request = { .inputs = { { name, POLLUX_NAME_LONGEST }, { list, sizeof list }, { buffer, 0 } } };
+    uint8_t *name = list + POLLUX_KEY_SIZE - POLLUX_MAX_NAME;
+    memset(name, 'k', POLLUX_MAX_NAME);
+    struct request request = { .inputs = { { name, POLLUX_MAX_NAME }, { list, sizeof list }, { buffer, 0 } } };
     request.call = CHECK;
     write_all_varied(&request);
     request.call = JUDGE;

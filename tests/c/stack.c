@@ -2,10 +2,10 @@
  * Measures how much stack the calls take. Each call has a stack of its own, filled beforehand with a byte, with a page that
  * nobody may touch below it; how far it is no longer that byte at the end is the most that was used.
  *
- *   stack LIMIT < REQUESTS
+ *   stack < REQUESTS
  *
  * Makes the deepest texts that the limits allow, and the requests given. Prints the most that each call took, in bytes, and then
- * 'N passed, M failed': a call passes if it stayed within LIMIT KiB.
+ * 'N passed, M failed': a call passes if it stayed within POLLUX_MAX_STACK.
  */
 #include <stdlib.h>
 #include <string.h>
@@ -74,7 +74,7 @@ static size_t repeat(uint8_t *text, const char *piece, size_t times)
 
 static void measure_text(uint8_t *text, size_t length)
 {
-    static uint8_t entry[POLLUX_PRIORITY_SIZE], buffer[POLLUX_BLOCKS_LONGEST];
+    static uint8_t entry[POLLUX_PRIORITY_SIZE], buffer[POLLUX_MAX_BLOCKS_SIZE];
     struct request request = { .inputs = { { text, length }, { entry, 0 }, { entry, sizeof entry } } };
     for (request.call = READ; request.call <= JUDGE; request.call++)
         measure(&request);
@@ -85,27 +85,22 @@ static void measure_text(uint8_t *text, size_t length)
 
 static void measure_deepest(void)
 {
-    static uint8_t text[POLLUX_TEXT_LONGEST];
-    measure_text(text, repeat(text, "true;", POLLUX_TOKENS_MOST / 2));
+    static uint8_t text[POLLUX_MAX_TEXT];
+    measure_text(text, repeat(text, "true;", POLLUX_MAX_TOKENS / 2));
 
     static const char *const levels[] = { "(", "!", "-" };
     for (int i = 0; i < 3; i++) {
-        size_t end = repeat(text, levels[i], POLLUX_LEVELS_MOST);
+        size_t end = repeat(text, levels[i], POLLUX_MAX_LEVELS);
         end += repeat(text + end, i == 2 ? "ipv6('1:2:3:4:5:6:7:8')==1" : "true", 1);
-        end += repeat(text + end, ";true", (POLLUX_TOKENS_MOST - 2 * POLLUX_LEVELS_MOST) / 2 - 6);
-        end += repeat(text + end, ")", i == 0 ? POLLUX_LEVELS_MOST : 0);
+        end += repeat(text + end, ";true", (POLLUX_MAX_TOKENS - 2 * POLLUX_MAX_LEVELS) / 2 - 6);
+        end += repeat(text + end, ")", i == 0 ? POLLUX_MAX_LEVELS : 0);
         measure_text(text, end);
     }
 }
 
-int main(int count, char **words)
+int main(void)
 {
     struct request request;
-    if (count != 2) {
-        fprintf(stderr, "usage: stack LIMIT < REQUESTS\n");
-        return 3;
-    }
-    size_t limit = strtoul(words[1], NULL, 10) * 1024;
     for (unsigned call = READ; call <= RUN; call++)
         stacks[call] = make_stack();
     measure_deepest();
@@ -113,8 +108,9 @@ int main(int count, char **words)
         measure(&request);
     unsigned failed = 0;
     for (unsigned call = READ; call <= RUN; call++) {
-        printf("%s: %zu bytes of stack\n", call_name(call), used(stacks[call]));
-        failed += used(stacks[call]) > limit;
+        size_t bytes = used(stacks[call]);
+        printf("%s: %zu bytes of stack, of %d\n", call_name(call), bytes, POLLUX_MAX_STACK);
+        failed += bytes > POLLUX_MAX_STACK;
     }
     printf("%u passed, %u failed\n", RUN - failed, failed);
     return failed == 0 ? 0 : 1;

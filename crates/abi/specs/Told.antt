@@ -4,7 +4,9 @@ use Prim.Native.Nat.{ℕ}
 use mathlib.Core.Path.{_≡_}
 use mathlib.Core.Bool.{Bool, true, false, cond}
 use lib.Dec.{eqb}
-use Rattle.paper.specs.Answers.{Answer, ok, refused, Input, inText, inList, inEntry, inBlocks, inBuffer}
+use mathlib.Core.List.{List}
+use Rattle.paper.specs.Answers.{Answer, ok, refused, Input, inText, inList, inEntry, inBlocks, inBuffer, readingSays, checkingSays, judgementSays, translationSays, loadingSays}
+use Rattle.paper.specs.Promised.{ReadPromised, CheckPromised, JudgePromised, TranslateResult, TranslatePromised, LoadPromised, RunPromised, Sole}
 use Rattle.abi.specs.declared.answer.PolluxAnswer.{PolluxAnswer}
 
 abbrev pub inputNo : Input → ℕ
@@ -36,6 +38,42 @@ verdict false = record { says = 2; number = 0; input = 0; value = 0 }
 
 abbrev pub judged : Answer Bool → PolluxAnswer
 judged = told verdict
+
+-- What C is told by a call: four numbers that stand for a result that keeps the call's promise.
+pub record Tells {R : Type 0} (Promised : R → Type 0) (numbers : R → PolluxAnswer) (a : PolluxAnswer) : Type 0 where
+  pub result : R
+  pub promised : Promised result
+  pub same : a ≡ numbers result
+
+abbrev pub ReadTold : List ℕ → PolluxAnswer → Type 0
+ReadTold text = Tells (ReadPromised text) (λ r. counted (readingSays r))
+
+abbrev pub CheckTold : List ℕ → List ℕ → PolluxAnswer → Type 0
+CheckTold text list = Tells (CheckPromised text list) (λ r. passed (checkingSays r))
+
+abbrev pub JudgeTold : List ℕ → List ℕ → List ℕ → PolluxAnswer → Type 0
+JudgeTold text list entry = Tells (JudgePromised text list entry) (λ r. judged (judgementSays r))
+
+-- with what the buffer holds at exit
+abbrev pub TranslateTold : List ℕ → List ℕ → List ℕ → List ℕ → PolluxAnswer → Type 0
+TranslateTold text list buffer exit =
+    Tells (λ r. TranslatePromised text list buffer (record { answer = r; buffer = exit })) (λ r. counted (translationSays r))
+
+abbrev pub LoadTold : List ℕ → List ℕ → PolluxAnswer → Type 0
+LoadTold list blocks = Tells (LoadPromised list blocks) (λ r. counted (loadingSays r))
+
+abbrev pub RunTold : List ℕ → List ℕ → List ℕ → PolluxAnswer → Type 0
+RunTold list blocks entry = Tells (RunPromised list blocks entry) (λ r. judged (judgementSays r))
+
+-- so for all inputs C is told one thing, and no second; of `translate`, one answer with one buffer at exit
+pub record OneAnswerForC : Type 0 where
+  pub read : (text : List ℕ) → Sole (ReadTold text)
+  pub check : (text list : List ℕ) → Sole (CheckTold text list)
+  pub judge : (text list entry : List ℕ) → Sole (JudgeTold text list entry)
+  pub translate : (text list buffer exit other : List ℕ) (a b : PolluxAnswer) → TranslateTold text list buffer exit a
+      → TranslateTold text list buffer other b → (a ≡ b) × (exit ≡ other)
+  pub load : (list blocks : List ℕ) → Sole (LoadTold list blocks)
+  pub run : (list blocks entry : List ℕ) → Sole (RunTold list blocks entry)
 
 -- the way back, by which a caller reads an answer
 

@@ -1,54 +1,57 @@
 // The six calls for C: include/pollux.h says the same in its words.
 //
-// Each takes every input as a pointer and a length, and answers four numbers by value. Each promises, for all inputs, what the call
-// of `valve` below it promises; `translate` also what each byte of the buffer holds afterwards.
+// Each takes every input as a pointer and a length, and answers four numbers by value, which stand for a result that keeps the promise of
+// the call of `valve` below it (specs/Told); `translate` also promises what each byte of the buffer holds afterwards.
 mod answer;
 mod told;
 
-ghost use mathlib.Core.Path.{_≡_};
-ghost use Rattle.paper.specs.Calls.{readAnswer, checkAnswer, judgeAnswer, translateAnswer, translateBuffer, loadAnswer, runAnswer};
-ghost use Rattle.abi.specs.Told.{counted, passed, judged};
+ghost use Rattle.abi.specs.Told.{ReadTold, CheckTold, JudgeTold, TranslateTold, LoadTold, RunTold};
 use crate::answer::PolluxAnswer;
 
+// How many nodes the text's tree has.
 #[no_mangle]
 pub extern "C" fn pollux_read(text: &[u8]) -> PolluxAnswer
-    ensures { λ r. ⌜ r ≡ counted (readAnswer (now (text .entry))) ⌝ }
+    ensures { λ r. ⌜ ReadTold (now (text .entry)) r ⌝ }
 {
     answer::of_reading(valve::read(text))
 }
 
+// Whether the text is good for the list.
 #[no_mangle]
 pub extern "C" fn pollux_check(text: &[u8], list: &[u8]) -> PolluxAnswer
-    ensures { λ r. ⌜ r ≡ passed (checkAnswer (now (text .entry)) (now (list .entry))) ⌝ }
+    ensures { λ r. ⌜ CheckTold (now (text .entry)) (now (list .entry)) r ⌝ }
 {
     answer::of_checking(valve::check(text, list))
 }
 
+// What the text says of an entry.
 #[no_mangle]
 pub extern "C" fn pollux_judge(text: &[u8], list: &[u8], entry: &[u8]) -> PolluxAnswer
-    ensures { λ r. ⌜ r ≡ judged (judgeAnswer (now (text .entry)) (now (list .entry)) (now (entry .entry))) ⌝ }
+    ensures { λ r. ⌜ JudgeTold (now (text .entry)) (now (list .entry)) (now (entry .entry)) r ⌝ }
 {
     answer::of_judgement(valve::judge(text, list, entry))
 }
 
+// How many instructions were written to the buffer.
 #[no_mangle]
 pub extern "C" fn pollux_translate(text: &[u8], list: &[u8], buffer: &mut [u8]) -> PolluxAnswer
-    ensures { λ r. ⌜ r ≡ counted (translateAnswer (now (text .entry)) (now (list .entry)) (now (buffer .entry))) ⌝ }
-    ensures { λ _. ⌜ now (buffer .exit) ≡ translateBuffer (now (text .entry)) (now (list .entry)) (now (buffer .entry)) ⌝ }
+    ensures { λ r. ⌜ TranslateTold (now (text .entry)) (now (list .entry)) (now (buffer .entry)) (now (buffer .exit)) r ⌝ }
 {
     answer::of_translation(valve::translate(text, list, buffer))
 }
 
+// How many instructions the blocks hold.
 #[no_mangle]
 pub extern "C" fn pollux_load(list: &[u8], blocks: &[u8]) -> PolluxAnswer
-    ensures { λ r. ⌜ r ≡ counted (loadAnswer (now (list .entry)) (now (blocks .entry))) ⌝ }
+    ensures { λ r. ⌜ LoadTold (now (list .entry)) (now (blocks .entry)) r ⌝ }
 {
     answer::of_loading(valve::load(list, blocks))
 }
 
+// What the blocks say of an entry.
 #[no_mangle]
 pub extern "C" fn pollux_run(list: &[u8], blocks: &[u8], entry: &[u8]) -> PolluxAnswer
-    ensures { λ r. ⌜ r ≡ judged (runAnswer (now (list .entry)) (now (blocks .entry)) (now (entry .entry))) ⌝ }
+    ensures { λ r. ⌜ RunTold (now (list .entry)) (now (blocks .entry)) (now (entry .entry)) r ⌝ }
 {
     answer::of_judgement(valve::run(list, blocks, entry))
 }

@@ -1,8 +1,8 @@
 -- Whole strings: so many parts, and groups on both sides of a "::".
 use Prim.Native.Nat.{ℕ, zero, suc, _+_, _-_, _%_, _^_, _≤_, _<_}
-use mathlib.Core.Path.{_≡_, refl, sym, ap, _∙_}
-use mathlib.Core.Bool.{Bool, true, false, _&&_, and-false}
-use mathlib.Core.Option.{none, some}
+use mathlib.Core.Path.{_≡_, refl, sym, ap, _∙_, subst}
+use mathlib.Core.Bool.{Bool, true, false, _&&_, and-false, true≢false}
+use mathlib.Core.Option.{Option, none, some}
 use mathlib.Core.List.{List, [], _∷_, _++_}
 use native.Mathlib.Nat.{mod-mod, mod-eq-of-lt, lt-of-lt-of-le}
 use native.Mathlib.Omega.{arith}
@@ -12,9 +12,17 @@ use lib.Dec.{eqb, lit<}
 use Rattle.paper.specs.Numbers.{digitsAfter, inBase}
 use Rattle.paper.specs.Addresses.{Scheme, ipv6, only, every, isGroup, groups, eightGroups, gapped}
 use Rattle.number.specs.Values.{value}
+use Rattle.addresses.specs.declared.Address.{Address}
 use Rattle.addresses.specs.declared.groups.Counted.{Counted}
-use Rattle.addresses.specs.Reads.{isPart, scaleOf, numbers, partsOf, wholeOf, Grouped}
+use Rattle.addresses.specs.Reads.{ReadAs, isPart, scaleOf, numbers, partsOf, wholeOf, Grouped}
 use Rattle.addresses.proofs.Digits.{Below, after-lt, after-mod, after-append, parts-below, parts-lt}
+
+-- what a string is read as is what another equation says it is
+pub read-as : {n m : Option ℕ} {r : Address} → n ≡ m → ReadAs n r → ReadAs m r
+read-as {r} e h = subst (λ o. ReadAs o r) e h
+
+pub read-good : (r : Address) {n : Option ℕ} → r .ok ≡ true → some (value (r .number)) ≡ n → ReadAs n r
+read-good r o e = record { says = rw o e; clear = λ h. absurd (true≢false (sym o ∙ h)) }
 
 pub whole-bad : (k : Scheme) (wanted : ℕ) (ps : List (List ℕ)) → every (isPart k) ps ≡ false → wholeOf k wanted ps ≡ none
 whole-bad k wanted ps e = rw (e, and-false)

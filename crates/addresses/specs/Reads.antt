@@ -30,6 +30,11 @@ named N.Other = none
 abbrev pub address : Address → Option ℕ
 address r = only (r .ok) (value (r .number))
 
+-- the paper's number, and no other beside a bad string
+pub record ReadAs (n : Option ℕ) (r : Address) : Type 0 where
+  pub says : address r ≡ n
+  pub clear : r .ok ≡ false → value (r .number) ≡ 0
+
 -- of each scheme: the byte between two parts, what a part may be, the base of its digits, and how far a part moves those before it
 
 abbrev pub separates : A.Scheme → ℕ

@@ -4,9 +4,10 @@ ghost use Prim.Native.Nat.{_+_, _≤_, _^_};
 ghost use lib.ListN.{length, drop};
 ghost use Rattle.paper.specs.Tokens.{span};
 ghost use Rattle.number.specs.Values.{value};
-ghost use Rattle.addresses.specs.Reads.{scheme, address, separates, within, partsOf, baseOf, scaleOf, Grouped, wholeOf};
+ghost use Rattle.addresses.specs.Reads.{scheme, ReadAs, separates, within, partsOf, baseOf, scaleOf, Grouped, wholeOf};
 use crate::Address;
 use crate::Scheme;
+use crate::bad;
 use crate::parts::is_part;
 use crate::parts::value_of;
 use number::Magnitude;
@@ -63,7 +64,8 @@ fn part_end(string: &[u8], at: usize, separator: u8) -> usize
     i
 }
 
-pub fn groups(kind: Scheme, string: &[u8], before: Magnitude) -> Counted
+// Reads all parts of a string, and the number that they are after another one.
+pub(crate) fn groups(kind: Scheme, string: &[u8], before: Magnitude) -> Counted
     ensures { λ r. ⌜ Grouped (scheme kind) (partsOf (scheme kind) (now (string .entry))) (value before) r ⌝ }
     ensures { λ r. ⌜ r .count ≤ length (now (string .entry)) ⌝ }
 {
@@ -94,21 +96,21 @@ pub fn groups(kind: Scheme, string: &[u8], before: Magnitude) -> Counted
     }
 }
 
-// A string of so many parts.
-pub fn whole(kind: Scheme, string: &[u8], wanted: usize) -> Address
+// Reads a string of so many parts.
+pub(crate) fn whole(kind: Scheme, string: &[u8], wanted: usize) -> Address
     requires { ⌜ scaleOf (scheme kind) ^ wanted ≤ 2 ^ 128 ⌝ }
-    ensures { λ r. ⌜ address r ≡ wholeOf (scheme kind) wanted (partsOf (scheme kind) (now (string .entry))) ⌝ }
+    ensures { λ r. ⌜ ReadAs (wholeOf (scheme kind) wanted (partsOf (scheme kind) (now (string .entry)))) r ⌝ }
 {
     let all = groups(kind, string, Magnitude::zero());
-    let number = all.number;
     if !all.ok {
-        return Address {
-            ok: false,
-            number: number,
-        };
+        return bad();
     }
+    if all.count != wanted {
+        return bad();
+    }
+    let number = all.number;
     Address {
-        ok: all.count == wanted,
+        ok: true,
         number: number,
     }
 }

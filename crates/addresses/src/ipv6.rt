@@ -1,14 +1,14 @@
 // RFC 4291, section 2.2, forms 1 and 2: eight groups, or "::" in the place of those that are missing.
 ghost use mathlib.Core.Path.{_≡_};
-ghost use mathlib.Core.Option.{none};
 ghost use Prim.Native.Nat.{_+_, _%_, _^_, _≤_, _<_};
 ghost use lib.ListN.{length, drop, replicate};
 ghost use Rattle.paper.specs.Numbers.{digitsAfter};
 ghost use Rattle.paper.specs.Addresses as paper;
 ghost use Rattle.number.specs.Values.{value};
-ghost use Rattle.addresses.specs.Reads.{address, gapAt, Grouped};
+ghost use Rattle.addresses.specs.Reads.{ReadAs, gapAt, Grouped};
 use crate::Address;
 use crate::Scheme;
+use crate::bad;
 use crate::groups::Counted;
 use crate::groups::groups;
 use crate::groups::whole;
@@ -71,18 +71,9 @@ fn with_zeros(before: Magnitude, count: usize) -> Magnitude
     number
 }
 
-fn bad() -> Address
-    ensures { λ r. ⌜ address r ≡ none ⌝ }
-{
-    Address {
-        ok: false,
-        number: Magnitude::zero(),
-    }
-}
-
 // What stands before a "::" and behind it.
 fn gapped(left: &[u8], right: &[u8]) -> Address
-    ensures { λ r. ⌜ address r ≡ paper.gapped (paper.groups (now (left .entry))) (paper.groups (now (right .entry))) ⌝ }
+    ensures { λ r. ⌜ ReadAs (paper.gapped (paper.groups (now (left .entry))) (paper.groups (now (right .entry)))) r ⌝ }
 {
     let first = side(left, Magnitude::zero());
     let second = side(right, Magnitude::zero());
@@ -105,8 +96,9 @@ fn gapped(left: &[u8], right: &[u8]) -> Address
     }
 }
 
-pub fn read_ipv6(string: &[u8]) -> Address
-    ensures { λ r. ⌜ address r ≡ paper.ipv6Of (now (string .entry)) ⌝ }
+// Reads the string of an ipv6 address.
+pub(crate) fn read_ipv6(string: &[u8]) -> Address
+    ensures { λ r. ⌜ ReadAs (paper.ipv6Of (now (string .entry))) r ⌝ }
 {
     let gap = before_gap(string);
     if gap == string.len() {

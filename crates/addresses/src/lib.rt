@@ -7,8 +7,9 @@ mod ipv6;
 mod parts;
 
 ghost use mathlib.Core.Path.{_≡_};
+ghost use mathlib.Core.Option.{none};
 ghost use Rattle.paper.specs.Addresses as paper;
-ghost use Rattle.addresses.specs.Reads.{named, scheme, address};
+ghost use Rattle.addresses.specs.Reads.{named, scheme, ReadAs};
 use keys::bytes::same_bytes;
 use number::Magnitude;
 
@@ -24,12 +25,23 @@ pub enum Named {
     Other,
 }
 
-// Whether a string is good; if so, its number.
+// Whether a string is good; if so, its number, and else zero.
 pub struct Address {
     pub ok: bool,
     pub number: Magnitude,
 }
 
+// What a bad string is read as.
+fn bad() -> Address
+    ensures { λ r. ⌜ ReadAs none r ⌝ }
+{
+    Address {
+        ok: false,
+        number: Magnitude::zero(),
+    }
+}
+
+// The scheme of which a word begins an address.
 pub fn scheme_of(word: &[u8]) -> Named
     ensures { λ r. ⌜ named r ≡ paper.schemeOf (now (word .entry)) ⌝ }
 {
@@ -45,8 +57,9 @@ pub fn scheme_of(word: &[u8]) -> Named
     Named::Other
 }
 
+// Reads the string of an address.
 pub fn read(kind: Scheme, string: &[u8]) -> Address
-    ensures { λ r. ⌜ address r ≡ paper.address (scheme kind) (now (string .entry)) ⌝ }
+    ensures { λ r. ⌜ ReadAs (paper.address (scheme kind) (now (string .entry))) r ⌝ }
 {
     match kind {
         Scheme::Ipv4 => groups::whole(kind, string, 4),

@@ -15,7 +15,8 @@ fn all_digits(part: &[u8], base: u8) -> bool
     run_end(part, 0, Run::Digits(base)) == part.len()
 }
 
-pub fn value_of(part: &[u8], base: u8) -> u32
+// The number that a part of at most four digits is in a base.
+pub(crate) fn value_of(part: &[u8], base: u8) -> u32
     requires { ⌜ (length (now part) ≤ 4) × (base ≤ 16) ⌝ }
     ensures { λ r. ⌜ r ≡ paper.valueOf base (now (part .entry)) ⌝ }
 {
@@ -78,7 +79,8 @@ fn is_group(part: &[u8]) -> bool
     all_digits(part, 16)
 }
 
-pub fn is_part(kind: Scheme, part: &[u8]) -> bool
+// Whether bytes are a part of an address of a scheme.
+pub(crate) fn is_part(kind: Scheme, part: &[u8]) -> bool
     ensures { λ r. ⌜ r ≡ isPart (scheme kind) (now (part .entry)) ⌝ }
 {
     match kind {

@@ -1,1 +1,3 @@
 pub mod Adler
+pub mod Calls
+pub mod Framing

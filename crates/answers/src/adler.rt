@@ -9,7 +9,8 @@ fn wide(x: u8) -> u64
     x as u64
 }
 
-pub fn adler_of(s: &[u8]) -> u64
+// The Adler-32 sum of some bytes.
+pub(crate) fn adler_of(s: &[u8]) -> u64
     ensures { λ r. ⌜ r ≡ adler 1 0 (now (s .entry)) ⌝ }
 {
     let mut a: u64 = 1;

@@ -1,4 +1,7 @@
 // A call by its number, and its answer as a line.
+ghost use mathlib.Core.Path.{_≡_};
+ghost use Rattle.paper.specs.Calls.{translateBuffer};
+ghost use Rattle.answers.specs.Calls.{afterCall};
 use crate::adler;
 use crate::framing;
 
@@ -15,15 +18,19 @@ fn reading_call(call: u8, first: &[u8], second: &[u8], third: &[u8]) {
     lines::say(b"\n");
 }
 
-fn translate(text: &[u8], list: &[u8], buffer: &mut [u8]) {
+fn translate(text: &[u8], list: &[u8], buffer: &mut [u8])
+    ensures { λ _. ⌜ now (buffer .exit) ≡ translateBuffer (now (text .entry)) (now (list .entry)) (now (buffer .entry)) ⌝ }
+{
     lines::say_translation(valve::translate(text, list, buffer));
     lines::say(b" ");
     lines::say_number(adler::adler_of(buffer));
     lines::say(b"\n");
 }
 
-// The third input is the first n bytes of what is lent for it.
-pub fn answer(call: u8, first: &[u8], second: &[u8], third: &mut [u8], n: usize) {
+// Makes a call, and writes its answer as a line. The third input is the first n bytes of what is lent for it.
+pub(crate) fn answer(call: u8, first: &[u8], second: &[u8], third: &mut [u8], n: usize)
+    ensures { λ _. ⌜ now (third .exit) ≡ afterCall call (now (first .entry)) (now (second .entry)) (now (third .entry)) n ⌝ }
+{
     if call != 4 {
         return reading_call(call, first, second, lines::start(third, n));
     }

@@ -1,7 +1,10 @@
 // One input of a request: its length in four bytes, then its bytes.
 ghost use Prim.Native.Nat.{_≤_, _<_};
 ghost use mathlib.Core.Path.{_≡_};
+ghost use mathlib.Core.Bool.{true};
 ghost use lib.ListN.{length};
+ghost use Rattle.paper.specs.Numbers.{numberAt};
+ghost use Rattle.answers.specs.Framing.{isCut};
 use libc::STDIN_FILENO;
 
 pub enum Taken {
@@ -10,7 +13,10 @@ pub enum Taken {
     Cut,
 }
 
-pub fn is_cut(t: Taken) -> bool {
+// Whether the input ended within a request.
+pub(crate) fn is_cut(t: Taken) -> bool
+    ensures { λ r. ⌜ r ≡ isCut t ⌝ }
+{
     match t {
         Taken::Whole(_) => false,
         Taken::TooLong => false,
@@ -18,7 +24,10 @@ pub fn is_cut(t: Taken) -> bool {
     }
 }
 
-pub fn too_long() -> bool {
+// Says that an input was too long; another request may follow.
+pub(crate) fn too_long() -> bool
+    ensures { λ r. ⌜ r ≡ true ⌝ }
+{
     lines::say(b"too long\n");
     true
 }
@@ -29,7 +38,10 @@ fn wide(x: u8) -> usize
     x as usize
 }
 
-fn size_of(head: [u8; 4]) -> usize {
+// The number that four bytes are, big-endian.
+fn size_of(head: [u8; 4]) -> usize
+    ensures { λ r. ⌜ r ≡ numberAt head 0 4 ⌝ }
+{
     ((wide(head[0]) * 256 + wide(head[1])) * 256 + wide(head[2])) * 256 + wide(head[3])
 }
 
@@ -59,7 +71,8 @@ fn pass_over(size: usize, room: &mut [u8]) -> bool
     fill_start(room, left)
 }
 
-pub fn take_input(room: &mut [u8]) -> Taken
+// Reads one input of a request into a room; one that is longer than the room is passed over.
+pub(crate) fn take_input(room: &mut [u8]) -> Taken
     requires { ⌜ 0 < length (now room) ⌝ }
 {
     let mut head = [0u8; 4];

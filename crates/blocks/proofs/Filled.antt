@@ -1,16 +1,14 @@
--- The stores that fill a block, one behind the other, leave the block that the paper defines.
-use Prim.Native.Nat.{ℕ, _*_, _-_, _/_, _≤_}
+-- The stores that fill a block, one after another, leave the block of the code.
+use Prim.Native.Nat.{ℕ, _/_, _≤_}
 use native.Mathlib.Omega.{arith}
-use mathlib.Core.Path.{_≡_, refl, sym, _∙_, ap, ap₂}
-use mathlib.Core.List.{List, _++_, append-assoc, append-nil}
-use lib.ListN.{length, take, replicate, drop-of-length-le}
+use mathlib.Core.Path.{_≡_, refl, sym, _∙_, ap}
+use mathlib.Core.List.{List, _++_, append-nil}
+use lib.ListN.{length, take, drop-of-length-le}
 use lib.Seq.{sets, length-sets}
 use Rattle.paper.specs.Numbers.{bigEndian}
-use Rattle.paper.specs.Code.{Instruction}
-use Rattle.paper.specs.Blocks.{checkOf, sealed, encodeAll, blockOf}
-use Rattle.paper.proofs.Encoded.{row-length}
+use Rattle.paper.specs.Blocks.{checkOf, sealed}
 use Rattle.blocks.specs.Sealed.{sealedAt}
-use Rattle.blocks.specs.Written.{padded}
+use Rattle.blocks.specs.Written.{padded, codedBlock}
 use Rattle.blocks.proofs.Layouts.{check-due}
 use Rattle.blocks.proofs.Stores.{padded-length, stored, stored-behind}
 
@@ -63,14 +61,5 @@ module _ (b code : List ℕ) (k total keys : ℕ) (size : length b ≡ 512) (few
       (stored-behind numbered 2 2 (bigEndian 2 count) refl (omega (arith, numbered-size)) _
       (stored-behind b 0 2 (bigEndian 2 k) refl (omega arith) _ refl))))
 
-  pub filled-sealed : (is : List Instruction) → code ≡ encodeAll is → sealedAt filled ≡ blockOf total keys k is
-  filled-sealed is e =
-      let bytes : length code ≡ 20 * length is = ap length e ∙ row-length is in
-      let right : count ≡ length is = omega arith in
-      let left : 500 - length code ≡ 500 - 20 * length is = omega arith in
-      let head = bigEndian 2 k ++ bigEndian 2 (length is) in
-      let body =
-      ap (λ (n : ℕ). bigEndian 2 k ++ bigEndian 2 n ++ padded code) right
-      ∙ ap₂ (λ (c : List ℕ) (n : ℕ). head ++ (c ++ replicate n 0)) e left ∙ sym (append-assoc head (encodeAll is) _)
-      in
-      seal-last filled filled-size ∙ ap sealed (filled-front ∙ ap (λ (p : List ℕ). p ++ bigEndian 2 total ++ bigEndian 2 keys) body)
+  pub filled-sealed : sealedAt filled ≡ codedBlock total keys k code
+  filled-sealed = seal-last filled filled-size ∙ ap sealed filled-front

@@ -1,18 +1,17 @@
--- A block's check and counts, and how the layout goes on from block to block.
+-- A block's check and counts, and the way past refusal 16.
 use Prim.Native.Nat.{ℕ, zero, suc, _+_, _*_, _-_, _/_, _%_, _≤_, _<_}
-use native.Mathlib.Nat.{div-one, add-zero}
-use native.Mathlib.Numerals.{add-one}
+use native.Mathlib.Nat.{div-one}
 use native.Mathlib.Omega.{arith}
 use mathlib.Core.Path.{_≡_, refl, sym, _∙_, ap, ap₂}
 use mathlib.Core.Bool.{Bool, true, false, cond, _&&_}
 use mathlib.Core.List.{List, [], _∷_}
-use lib.ListN.{length, getD, take, drop, length-drop}
+use lib.ListN.{length, getD, take, drop}
 use lib.Dec.{eqb, leb}
-use borrow.Author.Tests.{leb-true, eqb-true, eq-eqb, ne-eqb, lt-ltb, le-ltb, le-leb, lt-leb}
-use Rattle.paper.specs.Answers.{Answer, ok, refused, _>>=_, inBlocks}
+use borrow.Author.Tests.{eq-eqb, ne-eqb, lt-ltb, le-ltb, le-leb, lt-leb}
+use Rattle.paper.specs.Answers.{ok, refused, _>>=_, inTurn, inBlocks}
 use Rattle.paper.specs.Numbers.{bytesAt}
 use Rattle.paper.specs.Tokens.{sameBytes}
-use Rattle.paper.specs.Blocks.{Sums, sumsOf, checkOf, countOk, countAt, countsFrom, totalOf, blockOk, layoutFrom, layout}
+use Rattle.paper.specs.Blocks.{Sums, sumsOf, checkOf, countOk, countAt, countsFrom, blocksIn, totalOf, blockOk, blockTest, layout}
 use Rattle.paper.specs.Keys.{allZero}
 use Rattle.blocks.specs.declared.fields.Block.{Block}
 use Rattle.blocks.specs.Fields.{BlockOf}
@@ -26,15 +25,6 @@ count-last (suc n) count e = absurd (omega arith)
 pub count-other : (later count : ℕ) → (later ≡ 0 → ⊥) → eqb count 25 ≡ countOk later count
 count-other zero count e = absurd (e refl)
 count-other (suc n) count e = refl
-
-and-right : (a b : Bool) → (a && b) ≡ true → b ≡ true
-and-right true b e = e
-and-right false true e = refl
-and-right false false e = e
-
-pub count-most : (later count : ℕ) → countOk later count ≡ true → count ≤ 25
-count-most zero count e = leb-true count 25 (and-right (leb 1 count) (leb count 25) e)
-count-most (suc n) count e = let h = eqb-true count 25 e in omega arith
 
 -- the four bytes of the check, as they stand and as they must be
 pub check-there : (b : List ℕ) → length b ≡ 512 →
@@ -50,14 +40,6 @@ check-due b = rw (div-one (sumsOf b .second), div-one (sumsOf b .first))
 module _ (blocks : List ℕ) (k n : ℕ) where
   pub counts-on : k < n → countsFrom blocks k (n - k) ≡ countAt blocks k + countsFrom blocks (k + 1) (n - (k + 1))
   counts-on h = let e : n - k ≡ suc (n - (k + 1)) = omega arith in rw e
-
-  pub layout-on : (keys : ℕ) → k < n → blockOk keys blocks k (n - (k + 1)) ≡ true →
-      layoutFrom keys blocks k (n - k) ≡ layoutFrom keys blocks (k + 1) (n - (k + 1))
-  layout-on keys h r = let e : n - k ≡ suc (n - (k + 1)) = omega arith in rw (e, r)
-
-  pub layout-stop : (keys : ℕ) → k < n → blockOk keys blocks k (n - (k + 1)) ≡ false →
-      layoutFrom keys blocks k (n - k) ≡ refused 17 inBlocks (k * 512)
-  layout-stop keys h r = let e : n - k ≡ suc (n - (k + 1)) = omega arith in rw (e, r)
 
 -- the comparison of the two, byte by byte
 abbrev pub sameCheck : List ℕ → Sums → Bool
@@ -101,13 +83,13 @@ module _ (keys : ℕ) (blocks : List ℕ) where
       rw (lt-ltb 0 (length blocks) p, eq-eqb (length blocks % 512) 0 e, lt-leb (length blocks) (82 * 512) h)
 
   pub laid-through : 0 < length blocks → length blocks % 512 ≡ 0 → length blocks ≤ 82 * 512 →
-      laidOut keys blocks ≡ (layoutFrom keys blocks 0 (length blocks / 512) >>= λ _. ok (totalOf blocks))
+      laidOut keys blocks ≡ (inTurn (blockTest keys blocks) 0 (blocksIn blocks) >>= λ _. ok (totalOf blocks))
   unfolding layout
   laid-through p e h = rw (lt-ltb 0 (length blocks) p, eq-eqb (length blocks % 512) 0 e, le-leb (length blocks) (82 * 512) h)
 
   -- a block of the blocks is right as the block by itself is
-  pub block-there : (k later total from : ℕ) → total ≡ totalOf blocks → from ≡ k * 512 →
-      blockOk keys blocks k later ≡ blockRight keys total k later (take (from + 512 - from) (drop from blocks))
-  block-there k later total from e f =
+  pub block-there : (k total from : ℕ) → total ≡ totalOf blocks → from ≡ k * 512 →
+      blockOk keys blocks k ≡ blockRight keys total k (blocksIn blocks - (k + 1)) (take (from + 512 - from) (drop from blocks))
+  block-there k total from e f =
       let s : from + 512 - from ≡ 512 = omega arith in
       rw (s, e, f)

@@ -3,10 +3,10 @@ use Prim.Native.Nat.{ℕ, zero, suc, _+_, _-_, _/_, _%_, _≤_, _<_}
 use native.Mathlib.Nat.{div-one}
 use native.Mathlib.Numerals.{add-one}
 use native.Mathlib.Omega.{arith}
-use mathlib.Core.Path.{_≡_, refl, sym, _∙_, ap, ap₂}
+use mathlib.Core.Path.{_≡_, refl, sym, _∙_, ap}
 use mathlib.Core.List.{List, [], _∷_, _++_, append-assoc}
 use lib.ListN.{length, getD, take, drop, set, replicate, length-append, length-drop, length-replicate}
-use lib.Seq.{length-take-le, take-all, take-at, take-add, drop-drop, drop-append-add, sets, sets-eq, paste, paste-suc}
+use lib.Seq.{length-take-le, take-all, take-at, drop-drop, sets, sets-eq, paste, paste-suc}
 use Rattle.paper.specs.Numbers.{bigEndian, bytesAt}
 use Rattle.blocks.specs.Written.{padded}
 
@@ -27,21 +27,6 @@ module _ (l : List ℕ) (i n : ℕ) (vs : List ℕ) (size : length vs ≡ n) (ro
   pub put-back : take i l ++ (vs ++ drop n (drop i l)) ≡ sets l i vs
   put-back =
       ap (λ (r : List ℕ). take i l ++ (vs ++ r)) (drop-drop n i l) ∙ sym (append-assoc (take i l) vs (drop (i + n) l)) ∙ sym stored
-
--- new bytes over the first m of the old, and the next n of the new behind them
-pub over-on : (new old : List ℕ) (m n : ℕ) → m + n ≤ length new → m + n ≤ length old
-    → sets (take m new ++ drop m old) m (bytesAt new m n) ≡ take (m + n) new ++ drop (m + n) old
-over-on new old m n h g =
-    let so-far = take m new ++ drop m old in
-    let next = bytesAt new m n in
-    let front = length-take-le m new (omega arith) in
-    let whole : length so-far ≡ length old = length-append (take m new) (drop m old) ∙ omega (arith, front, length-drop m old) in
-    let behind : drop (m + n) so-far ≡ drop (m + n) old =
-    ap (λ (k : ℕ). drop (k + n) so-far) (sym front) ∙ drop-append-add (take m new) (drop m old) n ∙ drop-drop n m old
-    in
-    stored so-far m n next (length-take-le n (drop m new) (omega (arith, length-drop m new))) (omega (arith, whole))
-    ∙ ap₂ (λ (a b : List ℕ). a ++ next ++ b) (take-at (take m new) (drop m old) m front) behind
-    ∙ ap (λ (a : List ℕ). a ++ drop (m + n) old) (sym (take-add m n new))
 
 -- a part that ends where the slice does
 pub short-part : (s : List ℕ) (from n : ℕ) → length s - from ≤ n → take (length s - from) (drop from s) ≡ bytesAt s from n

@@ -20,7 +20,7 @@ fn wide(x: u8) -> usize
     x as usize
 }
 
-// A number of two bytes, big-endian.
+// The number that two bytes from an offset on are, big-endian.
 pub fn two_bytes(s: &[u8], at: usize) -> usize
     requires { ⌜ at + 2 ≤ length (now s) ⌝ }
     ensures { λ r. ⌜ (r ≡ numberAt (now (s .entry)) at 2) × (r < 65536) ⌝ }
@@ -45,7 +45,8 @@ impl Block {
 
     pub const MOST: usize = 82;
 
-    pub fn read(block: &[u8]) -> Block
+    // Reads what a block says of itself.
+    pub(crate) fn read(block: &[u8]) -> Block
         requires { ⌜ length (now block) ≡ 512 ⌝ }
         ensures { λ r. ⌜ BlockOf (now (block .entry)) r ⌝ }
     {

@@ -91,6 +91,7 @@ fn total_of(blocks: &[u8], n: usize) -> usize
     sum
 }
 
+// How many instructions the blocks hold for a number of keys, or their refusal, 16 or 17.
 pub fn layout(blocks: &[u8], keys: usize) -> Laid
     ensures { λ r. ⌜ laidSays r ≡ laidOut keys (now (blocks .entry)) ⌝ }
 {

@@ -2,7 +2,7 @@
 //
 // `layout` answers for any bytes: the count of instructions that the blocks hold, or refusal 16 or 17 at its place. It reads
 // nothing past the bytes it is lent. `write_blocks` fills exactly the blocks that the instructions of the bytes it is lent need, and
-// leaves every later byte of the buffer. `seal` stores a block's check and leaves every other byte.
+// leaves every later byte of the buffer.
 mod fields;
 mod laying;
 mod sums;
@@ -12,7 +12,4 @@ pub use fields::Block;
 pub use fields::two_bytes;
 pub use laying::Laid;
 pub use laying::layout;
-pub use sums::Sums;
-pub use sums::seal;
-pub use sums::sums_of;
 pub use writing::write_blocks;

@@ -17,16 +17,21 @@ fn wide(x: u8) -> u32
 }
 
 // They are reduced once, at the end: unreduced sums of 508 bytes stay below 2^32.
-pub fn sums_of(s: &[u8]) -> Sums
+pub(crate) fn sums_of(s: &[u8]) -> Sums
     requires { ⌜ length (now s) ≤ 508 ⌝ }
     ensures { λ r. ⌜ (sumsMeant r ≡ sumsOf (now (s .entry))) × (r .first < 65535) × (r .second < 65535) ⌝ }
 {
     let mut first: u32 = 0;
     let mut second: u32 = 0;
+    // The second sum adds each word as often as there are words from it on. Multiplied, no word waits for the sums before it, so that
+    // the compiler takes several words at a time.
+    let mut left = (s.len() / 2) as u32;
     let mut i = 0;
-    while 2 <= s.len() - i {
-        first += wide(s[i]) * 256 + wide(s[i + 1]);
-        second += first;
+    while 0 < left {
+        let word = wide(s[i]) * 256 + wide(s[i + 1]);
+        first += word;
+        second += left * word;
+        left -= 1;
         i += 2;
     }
     Sums {
@@ -36,7 +41,7 @@ pub fn sums_of(s: &[u8]) -> Sums
 }
 
 // Stores the check of a block's first 508 bytes behind them.
-pub fn seal(block: &mut [u8])
+pub(crate) fn seal(block: &mut [u8])
     requires { ⌜ length (now block) ≡ 512 ⌝ }
     ensures { λ _. ⌜ now (block .exit) ≡ sealedAt (now (block .entry)) ⌝ }
 {

@@ -1,14 +1,12 @@
 // Writing blocks: the bytes of instructions, 25 to a block, with the block's numbers and its check.
 ghost use mathlib.Core.Path.{_≡_};
-ghost use mathlib.Core.List.{List};
 ghost use Prim.Native.Nat.{_+_, _*_, _/_, _≤_};
 ghost use lib.ListN.{length, getD};
 ghost use lib.Seq.{sets};
 ghost use Rattle.paper.specs.Numbers.{bigEndian, bytesAt};
-ghost use Rattle.paper.specs.Code.{Instruction};
-ghost use Rattle.paper.specs.Blocks.{blocksNeeded, encodeAll, blockOf, blocksOf};
+ghost use Rattle.paper.specs.Blocks.{blocksNeeded};
 ghost use Rattle.paper.specs.Calls.{over};
-ghost use Rattle.blocks.specs.Written.{held, padded};
+ghost use Rattle.blocks.specs.Written.{padded, codedBlock, blockAt, codedBlocks};
 use crate::fields::Block;
 use crate::sums::seal;
 
@@ -42,7 +40,7 @@ fn put_code(code: &[u8], block: &mut [u8])
 // Block k of a total count of instructions for a number of keys: all its 512 bytes.
 fn write_block(code: &[u8], k: usize, total: usize, keys: usize, block: &mut [u8])
     requires { ⌜ (length (now block) ≡ 512) × (length (now code) ≤ 500) ⌝ }
-    ensures { λ _. ⌜ ((is : List Instruction) → now (code .entry) ≡ encodeAll is → now (block .exit) ≡ blockOf total keys k is) ⌝ }
+    ensures { λ _. ⌜ now (block .exit) ≡ codedBlock total keys k (now (code .entry)) ⌝ }
 {
     put_two_bytes(block, 0, k);
     put_two_bytes(block, 2, code.len() / Block::INSTRUCTION);
@@ -67,7 +65,7 @@ fn code_of(code: &[u8], k: usize) -> &[u8]
 // Block k, at its place among the blocks.
 fn put_block(code: &[u8], k: usize, total: usize, keys: usize, buffer: &mut [u8])
     requires { ⌜ (k * 500 ≤ length (now code)) × (k * 512 + 512 ≤ length (now buffer)) ⌝ }
-    ensures { λ _. ⌜ ((is : List Instruction) → now (code .entry) ≡ encodeAll is → now (buffer .exit) ≡ sets (now (buffer .entry)) (k * 512) (blockOf total keys k (held k is))) ⌝ }
+    ensures { λ _. ⌜ now (buffer .exit) ≡ sets (now (buffer .entry)) (k * 512) (blockAt total keys (now (code .entry)) k) ⌝ }
 {
     let at = k * Block::SIZE;
     write_block(
@@ -79,10 +77,10 @@ fn put_block(code: &[u8], k: usize, total: usize, keys: usize, buffer: &mut [u8]
     );
 }
 
-// The blocks of the instructions whose bytes are lent, in the buffer's first bytes; every later byte stays.
+// Writes the blocks of the instructions whose bytes are lent into the buffer's first bytes; every later byte stays.
 pub fn write_blocks(code: &[u8], keys: usize, buffer: &mut [u8])
     requires { ⌜ 512 * blocksNeeded (length (now code) / 20) ≤ length (now buffer) ⌝ }
-    ensures { λ _. ⌜ ((is : List Instruction) → now (code .entry) ≡ encodeAll is → now (buffer .exit) ≡ over (blocksOf keys is) (now (buffer .entry))) ⌝ }
+    ensures { λ _. ⌜ now (buffer .exit) ≡ over (codedBlocks keys (now (code .entry))) (now (buffer .entry)) ⌝ }
 {
     let total = code.len() / Block::INSTRUCTION;
     let n = Block::needed(total);

@@ -57,7 +57,7 @@ fn first_input(call: usize) -> usize {
 }
 
 // Makes the call of the line at an offset, on the inputs that are given there.
-pub fn make(call: usize, file: &[u8], at: usize, room: &mut [u8]) {
+pub(crate) fn make(call: usize, file: &[u8], at: usize, room: &mut [u8]) {
     let mut all = io::large_buffer();
     let t = put_input(file, at, first_input(call), &mut all, 0);
     let l = put_input(file, at, LIST, &mut all, t);

@@ -77,7 +77,8 @@ fn step(file: &[u8], at: usize, room: &mut [u8])
     not_understood()
 }
 
-pub fn run(file: &[u8]) {
+// Goes through a file of cases, line by line.
+pub(crate) fn run(file: &[u8]) {
     let mut room = io::large_buffer();
     let mut at = 0;
     while at < file.len() {

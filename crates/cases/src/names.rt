@@ -1,6 +1,8 @@
 // The commands, by the places of their names in a list: the first four give what calls are lent, and the last six print an answer.
 ghost use Prim.Native.Nat.{_≤_};
+ghost use mathlib.Core.Path.{_≡_};
 ghost use lib.ListN.{length};
+ghost use Rattle.cases.specs.Names.{wordsOf, placeIn, commandAt};
 use crate::scan::part;
 use crate::scan::scan;
 use keys::bytes::same_bytes;
@@ -34,7 +36,9 @@ pub const LOAD: usize = 12;
 pub const RUN: usize = 13;
 
 // Which of some words a word is, counted from 0; their count for none of them.
-fn place_in(words: &[u8], word: &[u8]) -> usize {
+fn place_in(words: &[u8], word: &[u8]) -> usize
+    ensures { λ r. ⌜ r ≡ placeIn (wordsOf (now (words .entry))) (now (word .entry)) ⌝ }
+{
     let mut place = 0;
     let mut at = 0;
     while at < words.len() {
@@ -49,8 +53,9 @@ fn place_in(words: &[u8], word: &[u8]) -> usize {
 }
 
 // The command of the line at an offset.
-pub fn command_at(file: &[u8], at: usize) -> usize
+pub(crate) fn command_at(file: &[u8], at: usize) -> usize
     requires { ⌜ at ≤ length (now file) ⌝ }
+    ensures { λ r. ⌜ r ≡ commandAt (now (file .entry)) at ⌝ }
 {
     place_in(
         b"text list entry room title change code blocks translate read check judge load run",

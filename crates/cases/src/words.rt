@@ -1,14 +1,18 @@
-// Bytes, written as words between blanks: pairs of hexadecimal digits (`00ff`), or behind a quote as they stand (`'true`); either may
-// stand behind a count (`13*00`).
+// Bytes, written as words between blanks: pairs of hexadecimal digits (`00ff`), or after a quote as they stand (`'true`); either may
+// stand after a count (`13*00`).
 ghost use Prim.Native.Nat.{_+_, _≤_, _<_};
+ghost use mathlib.Core.Path.{_≡_};
 ghost use lib.ListN.{length};
+ghost use Rattle.paper.specs.Numbers.{byteAt};
+ghost use Rattle.paper.specs.Tokens.{digitOf};
+ghost use Rattle.cases.specs.Words.{numberIn, valueAt, spelled, quotesAt, quoted, copies, wordBytes, nextWord, lineBytes, Put};
 use crate::scan::byte_at;
 use crate::scan::not_understood;
 use crate::scan::scan;
 use spelling::bytes::digit_of;
 
 fn digit(s: &[u8], at: usize, base: u8) -> usize
-    ensures { λ r. ⌜ r < 256 ⌝ }
+    ensures { λ r. ⌜ (r ≡ digitOf (byteAt (now (s .entry)) at)) × (r < 256) ⌝ }
 {
     let d = digit_of(byte_at(s, at));
     if base <= d {
@@ -18,8 +22,9 @@ fn digit(s: &[u8], at: usize, base: u8) -> usize
 }
 
 // The decimal number of at most six digits that stands at an offset, before a blank or a star.
-pub fn number(s: &[u8], at: usize) -> usize
+pub(crate) fn number(s: &[u8], at: usize) -> usize
     requires { ⌜ at ≤ length (now s) ⌝ }
+    ensures { λ r. ⌜ r ≡ numberIn (now (s .entry)) at ⌝ }
 {
     let to = scan(s, at, b'*');
     let mut n = 0;
@@ -34,6 +39,7 @@ pub fn number(s: &[u8], at: usize) -> usize
 // The byte that stands at an offset: a character, or two hexadecimal digits.
 fn value(s: &[u8], at: usize, width: usize) -> u8
     requires { ⌜ at < length (now s) ⌝ }
+    ensures { λ r. ⌜ r ≡ valueAt width (now (s .entry)) at ⌝ }
 {
     if width == 1 {
         return s[at];
@@ -41,9 +47,17 @@ fn value(s: &[u8], at: usize, width: usize) -> u8
     ((digit(s, at, 16) * 16 + digit(s, at + 1, 16)) % 256) as u8
 }
 
-// Puts bytes that are 1 or 2 characters wide into a room from an offset on, and answers the offset behind them.
-pub fn put(s: &[u8], from: usize, to: usize, width: usize, room: &mut [u8], at: usize) -> usize
+// Puts bytes that are 1 or 2 characters wide into a room from an offset on, and answers the offset after them.
+pub(crate) fn put(
+    s: &[u8],
+    from: usize,
+    to: usize,
+    width: usize,
+    room: &mut [u8],
+    at: usize,
+) -> usize
     requires { ⌜ (0 < width) × (width ≤ 2) × (to ≤ length (now s)) ⌝ }
+    ensures { λ r. ⌜ Put (now (room .entry)) at (spelled width (now (s .entry)) from to) (now (room .exit)) r ⌝ }
 {
     let mut end = at;
     let mut i = from;
@@ -61,7 +75,7 @@ pub fn put(s: &[u8], from: usize, to: usize, width: usize, room: &mut [u8], at: 
 
 // How many quotes stand before the bytes of a word.
 fn quotes_at(s: &[u8], at: usize) -> usize
-    ensures { λ r. ⌜ r ≤ 1 ⌝ }
+    ensures { λ r. ⌜ (r ≡ quotesAt (now (s .entry)) at) × (r ≤ 1) ⌝ }
 {
     if byte_at(s, at) == b'\'' { 1 } else { 0 }
 }
@@ -69,6 +83,7 @@ fn quotes_at(s: &[u8], at: usize) -> usize
 // Puts the bytes of a word without its count.
 fn put_times(s: &[u8], from: usize, to: usize, times: usize, room: &mut [u8], at: usize) -> usize
     requires { ⌜ (from ≤ length (now s) + 1) × (to ≤ length (now s)) ⌝ }
+    ensures { λ r. ⌜ Put (now (room .entry)) at (copies times (quoted (now (s .entry)) from to)) (now (room .exit)) r ⌝ }
 {
     let quotes = quotes_at(s, from);
     let mut end = at;
@@ -80,9 +95,10 @@ fn put_times(s: &[u8], from: usize, to: usize, times: usize, room: &mut [u8], at
     end
 }
 
-// Of the bytes up to a star the first is the star of a count, the quote of a word without one, or the blank behind a word.
+// Puts the bytes of a word. Of its bytes up to a star the first is the star of a count, the quote of a word without one, or the blank after it.
 fn put_word(s: &[u8], from: usize, to: usize, room: &mut [u8], at: usize) -> usize
     requires { ⌜ (from ≤ to) × (to ≤ length (now s)) ⌝ }
+    ensures { λ r. ⌜ Put (now (room .entry)) at (wordBytes (now (s .entry)) from to) (now (room .exit)) r ⌝ }
 {
     let star = scan(s, from, b'*');
     if byte_at(s, star) != b'*' {
@@ -91,10 +107,10 @@ fn put_word(s: &[u8], from: usize, to: usize, room: &mut [u8], at: usize) -> usi
     put_times(s, star + 1, to, number(s, from), room, at)
 }
 
-// Where the next word may stand: behind a blank, or in a line that begins with a blank, and else nowhere.
+// Where the next word may stand: after a blank, or in a line that begins with a blank, and else nowhere.
 fn next_word(s: &[u8], end: usize) -> usize
     requires { ⌜ end ≤ length (now s) ⌝ }
-    ensures { λ r. ⌜ end < r ⌝ }
+    ensures { λ r. ⌜ (r ≡ nextWord (now (s .entry)) end) × (end < r) ⌝ }
 {
     if byte_at(s, end) != b'\n' {
         return end + 1;
@@ -106,7 +122,9 @@ fn next_word(s: &[u8], end: usize) -> usize
 }
 
 // Puts the bytes of all words of a line and of the lines that go on with it.
-pub fn put_words(s: &[u8], from: usize, room: &mut [u8], at: usize) -> usize {
+pub(crate) fn put_words(s: &[u8], from: usize, room: &mut [u8], at: usize) -> usize
+    ensures { λ r. ⌜ Put (now (room .entry)) at (lineBytes (now (s .entry)) from) (now (room .exit)) r ⌝ }
+{
     let mut end = at;
     let mut i = from;
     while i < s.len() {

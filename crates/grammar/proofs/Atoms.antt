@@ -1,24 +1,26 @@
 -- Leaves: what the definition makes of the tokens of a leaf, kind by kind.
 use Prim.Native.Nat.{ℕ, _+_, _*_, _-_, _≤_, _<_}
-use mathlib.Core.Path.{_≡_, refl}
-use mathlib.Core.Bool.{Bool, true, false, _&&_, and-false}
+use mathlib.Core.Path.{_≡_, refl, sym, ap, _∙_}
+use mathlib.Core.Bool.{Bool, true, false, cond, _&&_, and-false}
 use mathlib.Core.Logic.{_⊎_, ⊎-elim}
 use mathlib.Core.Option.{none, some}
 use mathlib.Core.List.{List, _∷_}
 use native.Mathlib.Omega.{arith}
 use native.Mathlib.Decide.{decLt}
 use borrow.Author.Tests.{eqb-true, ltb-true, eq-eqb, ne-eqb, lt-ltb, le-ltb}
-use lib.ListN.{getD}
+use lib.ListN.{length, getD, take, length-take, length-drop}
 use lib.Seq.{sets, slice}
 use lib.Dec.{eqb, ltb}
-use Rattle.paper.specs.Tokens.{Sign, join, comparison, prefix, opening, closing, colons, word, string, sign, Token, undotted}
+use Rattle.paper.specs.Tokens.{Sign, join, comparison, prefix, opening, closing, colons, Tok, word, string, sign, Token, undotted, plain}
 use Rattle.paper.specs.Addresses.{Scheme, schemeOf, address}
 use Rattle.paper.specs.Grammar as G
-use Rattle.paper.specs.Grammar.{Tree, Out, got, stuck, deep, Reader, named, nameAt, keyed, keyAt, markOf, addressed, addressAt, addressWith, worded, operandAt, signed, prefixes}
+use Rattle.paper.specs.Grammar.{Tree, Out, got, stuck, deep, Reader, named, nameAt, keyed, isSign, opensAddress, addressed, addressAt, addressWith, worded, operandAt, signed, prefixes}
 use Rattle.tokens.specs.Tape.{Tape, tokensOn, tokenOn, limbsAt}
 use Rattle.grammar.specs.declared.tape.Next.the-variants.{Other}
 use Rattle.grammar.specs.Ladder as L
-use Rattle.grammar.specs.Plan.{Plan, treeOf, size, words, placeOn, wordOn}
+use Rattle.tokens.specs.Scanned.{Spans}
+use Rattle.trees.specs.Words.{words, Spells, Spelled}
+use Rattle.grammar.specs.Places.{placeOn, wordOn}
 use Rattle.grammar.specs.Reading.{Found, Finds, Took, isName, past}
 use Rattle.spelling.proofs.Tests.{and-both}
 use Rattle.grammar.proofs.Operators.{join-no, comparison-no}
@@ -26,12 +28,13 @@ use Rattle.grammar.proofs.Operands.{prefix-no}
 use Rattle.grammar.proofs.Tapes.{tokens-here, tokens-none, Stands, by-kind, sign-at}
 
 -- one node, for the tokens from `at` up to i
-module _ {T : Tape} {n at b : ℕ} {o : Out} {before after : List ℕ} (p : Plan) (i j : ℕ) where
-  pub took-leaf : i ≡ j → o ≡ G.ends (got (treeOf T p)) (tokensOn T j (n - j)) → size p ≡ 1 → after ≡ sets before (b * 7) (words b p)
-      → at < i → i ≤ n → Took T n at b o before after (b + 1) i
-  took-leaf same out one put l inside =
+module _ {T : Tape} {n at b : ℕ} {o : Out} {before after : List ℕ} (t : Tree) (i j : ℕ) where
+  pub took-leaf : i ≡ j → o ≡ G.ends (got t) (tokensOn T j (n - j)) → G.nodes t ≡ 1 → after ≡ sets before (b * 8) (words b t)
+      → Spelled (T .text) t → at < i → i ≤ n → Took T n at b o before after (b + 1) i
+  took-leaf same out one put spelled l inside =
       record {
-        plan = p;
+        tree = t;
+        spelled = spelled;
         out = rw same out;
         built = record { next = omega arith; stored = put; grown = omega arith; moved = omega arith; inside = inside };
       }
@@ -66,6 +69,17 @@ module _ (T : Tape) (n i : ℕ) where
   pub word-is : kind ≡ 0 → wordOn T i ≡ bytes
   word-is e = rw e
 
+  -- a word ends where its token does, and is in the text at its place
+  module _ (e : kind ≡ 0) (s : Spans (T .text) kind (getD (T .starts) i 0) (getD (T .ends) i 0)) where
+    pub word-end : placeOn T i + length (wordOn T i) ≡ getD (T .ends) i 0
+    word-end =
+        let f = getD (T .starts) i 0 in
+        let t = getD (T .ends) i 0 in
+        ap (λ (w : List ℕ). f + length w) (word-is e) ∙ omega (arith, length-drop f (take t (T .text)), length-take t (T .text), s .taken, s .inside)
+
+    pub word-spells : Spells (T .text) (placeOn T i) (wordOn T i)
+    word-spells = rw word-end (sym (word-is e))
+
   -- a name
 
   abbrev name : Bool
@@ -76,6 +90,11 @@ module _ (T : Tape) (n i : ℕ) where
       let f = and-both (ltb i n && eqb kind 0) (undotted bytes) e in
       let g = and-both (ltb i n) (eqb kind 0) (f .0) in
       rw (tokens-here T n i (ltb-true i n (g .0)), eqb-true kind 0 (g .1), f .1)
+
+  pub name-kind : name ≡ true → kind ≡ 0
+  name-kind e =
+      let f = and-both (ltb i n && eqb kind 0) (undotted bytes) e in
+      eqb-true kind 0 (and-both (ltb i n) (eqb kind 0) (f .0) .1)
 
   pub name-here : name ≡ true → i < n
   name-here e =
@@ -93,7 +112,7 @@ module _ (T : Tape) (n i : ℕ) where
         | no l ↦ rw (tokens-none T n i (omega arith))
       ]
 
-  -- behind a key
+  -- after a key
 
   module _ (read : Reader) (place : ℕ) (w : List ℕ) where
     pub keyed-colons : {k : ℕ} → Found (T .kinds) n i 17 17 k → keyed read place w here ≡ named (G.field place w) (past T n i)
@@ -105,19 +124,26 @@ module _ (T : Tape) (n i : ℕ) where
     pub keyed-address : {k : ℕ} → Found (T .kinds) n i 15 15 k → (s : Scheme) → schemeOf w ≡ some s → keyed read place w here ≡ addressed read s place (past T n i)
     keyed-address h s e = rw (tokens-here T n i (h .here), sign-at T i opening (omega arith), e)
 
+    -- by the token there
+    abbrev follows : Tok → Out
+    follows t =
+        cond (isSign colons t) (named (G.field place w) (past T n i))
+        (cond (isSign opening t) (opensAddress read (schemeOf w) place w (tokenOn T i) (past T n i))
+        (G.ends (got (G.key place w)) (tokenOn T i ∷ past T n i)))
+
     pub keyed-not : Finds (T .kinds) n i 17 17 Other → Finds (T .kinds) n i 15 15 Other → (i < n → kind ≤ 17)
         → keyed read place w here ≡ G.ends (got (G.key place w)) here
     keyed-not h g known =
         elim (decLt i n) [
           | yes l ↦
               rw (tokens-here T n i l)
-              (by-kind T i (λ t. keyAt read place w (markOf t) (tokenOn T i) (past T n i) ≡ G.ends (got (G.key place w)) (tokenOn T i ∷ past T n i))
+              (by-kind T i (λ t. follows t ≡ G.ends (got (G.key place w)) (tokenOn T i ∷ past T n i))
               (λ _. refl) (λ _. refl) (λ _. refl) (go (h l) (g l) (known l)))
           | no l ↦ rw (tokens-none T n i (omega arith))
         ]
       where
         go : (kind < 17) ⊎ (17 < kind) → (kind < 15) ⊎ (15 < kind) → kind ≤ 17 → (g : Sign) → Stands kind g
-            → keyAt read place w (markOf (sign g)) (tokenOn T i) (past T n i) ≡ G.ends (got (G.key place w)) (tokenOn T i ∷ past T n i)
+            → follows (sign g) ≡ G.ends (got (G.key place w)) (tokenOn T i ∷ past T n i)
         go c o k (join j) e = refl
         go c o k (comparison d) e = refl
         go c o k (prefix p) e = refl
@@ -125,7 +151,7 @@ module _ (T : Tape) (n i : ℕ) where
         go c o k closing e = refl
         go c o k colons e = ⊎-elim (λ l. absurd (omega arith)) (λ l. absurd (omega arith)) c
 
-  -- behind the word and "(" of an address
+  -- after the word and "(" of an address
 
   module _ (read : Reader) (s : Scheme) (place : ℕ) where
     pub addressed-here : {k : ℕ} → Found (T .kinds) n i 2 2 k
@@ -150,7 +176,7 @@ module _ (T : Tape) (n i : ℕ) where
     unfolding prefixes
     leaf-word e = rw (tokens-here T n i l, e)
 
-    pub leaf-numeral : kind ≡ 1 → L.prefix 0 here ≡ G.ends (got (G.number (placeOn T i) (limbsAt (T .limbs) (i * 4)))) (past T n i)
+    pub leaf-numeral : kind ≡ 1 → L.prefix 0 here ≡ G.ends (got (G.number (placeOn T i) (plain (limbsAt (T .limbs) (i * 4))))) (past T n i)
     unfolding prefixes
     leaf-numeral e = rw (tokens-here T n i l, e)
 

@@ -13,26 +13,28 @@ use Rattle.paper.specs.Tokens.{Token}
 use Rattle.paper.specs.Grammar as G
 use Rattle.paper.specs.Grammar.{Tree, Out, got, Parser, _>>>_, onceMore, behind}
 use Rattle.tokens.specs.Tape.{Tape, tokensOn}
-use Rattle.grammar.specs.Plan.{Plan, treeOf, size, words, nodeWords}
+use Rattle.trees.specs.Words.{words, operatorWords, Spelled}
+use Rattle.trees.proofs.Stored.{words-length}
+use Rattle.grammar.specs.Places.{placeOn}
 use Rattle.grammar.specs.Reading.{past, Built, Took}
 use Rattle.grammar.proofs.Tapes.{tokens-here, tokens-none, length-tokens}
-use Rattle.grammar.proofs.Stores.{words-length, sets-on}
+use Rattle.grammar.proofs.Stores.{sets-on}
 use Rattle.grammar.proofs.Outcomes.{Up, refuses}
 use Rattle.grammar.proofs.Operators.{Operator, Joining, first, Apart}
 
--- the node of an operator behind those of its operands
-pub built-joined : {T : Tape} {n i k at b f g j : ℕ} {op : Operator} {before mid after last : List ℕ} {p q : Plan}
-    → Built n at b before mid p f i → (J : Joining T n i op k) → Built n (i + 1) f mid after q g j
-    → last ≡ sets after (g * 7) (nodeWords (k + 4) i (f - 1)) → Built n at b before last (J .plan p q) (g + 1) j
-built-joined {b = b} {f = f} {g = g} {before = before} {mid = mid} {after = after} {last = last} {p = p} {q = q} l J r put =
-    let s = J .sizes p q in
+-- the node of an operator after those of its operands
+pub built-joined : {T : Tape} {n i k at b f g j : ℕ} {op : Operator} {before mid after last : List ℕ} {x y : Tree}
+    → Built n at b before mid x f i → (J : Joining T n i op k) → Built n (i + 1) f mid after y g j
+    → last ≡ sets after (g * 8) (operatorWords (k + 4) (placeOn T i) (f - 1)) → Built n at b before last (J .make x y) (g + 1) j
+built-joined {b = b} {f = f} {g = g} {before = before} {mid = mid} {after = after} {last = last} {x = x} {y = y} l J r put =
+    let s = J .sizes x y in
     record {
       next = omega arith;
       stored =
-          rw (J .stored b p q, ← l .next)
-          (sets-on before after last (words b p ++ words f q) _ b g (size p + size q)
-          (sets-on before mid after (words b p) (words f q) b f (size p) (l .stored) (words-length b p) (l .next) (r .stored))
-          (simp length-append (omega (arith, words-length b p, words-length f q)))
+          rw (J .stored b x y, ← l .next)
+          (sets-on before after last (words b x ++ words f y) _ b g (G.nodes x + G.nodes y)
+          (sets-on before mid after (words b x) (words f y) b f (G.nodes x) (l .stored) (words-length b x) (l .next) (r .stored))
+          (simp length-append (omega (arith, words-length b x, words-length f y)))
           (omega arith)
           put);
       grown = omega arith;
@@ -45,15 +47,15 @@ built-joined {b = b} {f = f} {g = g} {before = before} {mid = mid} {after = afte
 module _ (op : Operator) (p : Parser) (ts : List Token) {T : Tape} {n at b : ℕ} {before mid : List ℕ} {f i : ℕ} where
   pub once-stop : Took T n at b (p ts) before mid f i → Apart T n i op → Took T n at b (G.once op p ts) before mid f i
   unfolding G.once
-  once-stop h e = record { plan = h .plan; out = stop (tokensOn T i (n - i)) (h .out) e; built = h .built }
+  once-stop h e = record { tree = h .tree; out = stop (tokensOn T i (n - i)) (h .out) e; spelled = h .spelled; built = h .built }
     where
-      stop : (us : List Token) → p ts ≡ G.ends (got (treeOf T (h .plan))) us → first op us ≡ none
-          → (p ts >>> onceMore op p) ≡ G.ends (got (treeOf T (h .plan))) us
+      stop : (us : List Token) → p ts ≡ G.ends (got (h .tree)) us → first op us ≡ none
+          → (p ts >>> onceMore op p) ≡ G.ends (got (h .tree)) us
       stop [] h e = rw h
       stop (u ∷ us) h e = rw (h, e)
 
   module _ (h : Took T n at b (p ts) before mid f i) {k : ℕ} (J : Joining T n i op k) where
-    once-more : G.once op p ts ≡ (p (past T n i) >>> λ r vs. G.ends (got (J .make (treeOf T (h .plan)) r)) vs)
+    once-more : G.once op p ts ≡ (p (past T n i) >>> λ r vs. G.ends (got (J .make (h .tree) r)) vs)
     unfolding G.once
     once-more = rw (h .out, tokens-here T n i (J .here), J .told)
 
@@ -61,11 +63,12 @@ module _ (op : Operator) (p : Parser) (ts : List Token) {T : Tape} {n at b : ℕ
     once-second = rw once-more (refuses (length (T .text)) (p (past T n i)) _)
 
     pub once-both : {after last : List ℕ} {g j : ℕ} → Took T n (i + 1) f (p (past T n i)) mid after g j
-        → last ≡ sets after (g * 7) (nodeWords (k + 4) i (f - 1)) → Took T n at b (G.once op p ts) before last (g + 1) j
+        → last ≡ sets after (g * 8) (operatorWords (k + 4) (placeOn T i) (f - 1)) → Took T n at b (G.once op p ts) before last (g + 1) j
     once-both r put =
         record {
-          plan = J .plan (h .plan) (r .plan);
-          out = once-more ∙ rw (r .out, J .tree (h .plan) (r .plan));
+          tree = J .make (h .tree) (r .tree);
+          out = once-more ∙ rw (r .out);
+          spelled = J .spelled (h .tree) (r .tree) (h .spelled) (r .spelled);
           built = built-joined (h .built) J (r .built) put;
         }
 
@@ -82,11 +85,12 @@ chain-first size top op p ts = refuses size (p ts) (λ t us. G.more top op p (le
 -- what is left of a chain once its tokens up to i are read; at each turn a token goes, and as many turns are left as tokens
 pub record Going (T : Tape) (n : ℕ) (top : Bool) (op : Operator) (p : Parser) (at b : ℕ) (o : Out) (before after : List ℕ) (f i : ℕ)
     : Type 0 where
-  pub plan : Plan
+  pub tree : Tree
   pub turns : ℕ
   pub enough : n ≤ i + turns
-  pub out : o ≡ G.more top op p turns (treeOf T plan) (tokensOn T i (n - i))
-  pub built : Built n at b before after plan f i
+  pub out : o ≡ G.more top op p turns tree (tokensOn T i (n - i))
+  pub spelled : Spelled (T .text) tree
+  pub built : Built n at b before after tree f i
 
 more-stop : (top : Bool) (op : Operator) (p : Parser) (m : ℕ) (t : Tree) (us : List Token) → first op us ≡ none
     → G.more top op p m t us ≡ G.ends (got t) us
@@ -95,7 +99,7 @@ more-stop top op p zero t us e = refl
 more-stop top op p (suc m) t [] e = refl
 more-stop top op p (suc m) t (u ∷ us) e = rw e
 
--- where the text does not end behind the operator
+-- where the text does not end after the operator
 behind-on : (top : Bool) (T : Tape) (n i : ℕ) (t : Tree) (o : Out) → i ≤ n → (top && eqb i n) ≡ false
     → behind top t (tokensOn T i (n - i)) o ≡ o
 behind-on false T n i t o h e = refl
@@ -111,7 +115,8 @@ module _ {T : Tape} {n : ℕ} {top : Bool} {op : Operator} {p : Parser} {at b : 
   unfolding G.chain
   going-start ts {i = i} h =
       record {
-        plan = h .plan;
+        tree = h .tree;
+        spelled = h .spelled;
         turns = length (tokensOn T i (n - i));
         enough = omega (arith, length-tokens T i (n - i));
         out = rw (h .out);
@@ -121,14 +126,14 @@ module _ {T : Tape} {n : ℕ} {top : Bool} {op : Operator} {p : Parser} {at b : 
   module _ {o : Out} {before after : List ℕ} {f i : ℕ} (w : Going T n top op p at b o before after f i) where
     pub going-stop : Apart T n i op → Took T n at b o before after f i
     going-stop e =
-        record { plan = w .plan; out = w .out ∙ more-stop top op p (w .turns) _ _ e; built = w .built }
+        record { tree = w .tree; spelled = w .spelled; out = w .out ∙ more-stop top op p (w .turns) _ _ e; built = w .built }
 
     module _ {k : ℕ} (J : Joining T n i op k) where
       left : w .turns ≡ suc (w .turns - 1)
       left = omega (arith, w .enough, J .here)
 
       turn : (m : ℕ) → w .turns ≡ suc m
-          → o ≡ behind top (treeOf T (w .plan)) (past T n i) (p (past T n i) >>> λ r vs. G.more top op p m (J .make (treeOf T (w .plan)) r) vs)
+          → o ≡ behind top (w .tree) (past T n i) (p (past T n i) >>> λ r vs. G.more top op p m (J .make (w .tree) r) vs)
       unfolding G.more
       turn m e = w .out ∙ rw (e, tokens-here T n i (J .here), J .told)
 
@@ -136,7 +141,8 @@ module _ {T : Tape} {n : ℕ} {top : Bool} {op : Operator} {p : Parser} {at b : 
       going-end e =
           let l : i + 1 ≡ n = eqb-true (i + 1) n (both top _ e .1) in
           record {
-            plan = w .plan;
+            tree = w .tree;
+            spelled = w .spelled;
             out = turn _ left ∙ rw (both top _ e .0, tokens-none T n (i + 1) (omega arith));
             built =
                 record {
@@ -149,21 +155,22 @@ module _ {T : Tape} {n : ℕ} {top : Bool} {op : Operator} {p : Parser} {at b : 
           }
 
       module _ (on : (top && eqb (i + 1) n) ≡ false) where
-        going-more : o ≡ (p (past T n i) >>> λ r vs. G.more top op p (w .turns - 1) (J .make (treeOf T (w .plan)) r) vs)
+        going-more : o ≡ (p (past T n i) >>> λ r vs. G.more top op p (w .turns - 1) (J .make (w .tree) r) vs)
         going-more =
-            turn _ left ∙ behind-on top T n (i + 1) (treeOf T (w .plan)) _ (omega (arith, J .here)) on
+            turn _ left ∙ behind-on top T n (i + 1) (w .tree) _ (omega (arith, J .here)) on
 
         pub going-next : Up (length (T .text)) (p (past T n i)) o
         going-next = rw going-more (refuses (length (T .text)) (p (past T n i)) _)
 
         pub going-on : {mid last : List ℕ} {g j : ℕ} → Took T n (i + 1) f (p (past T n i)) after mid g j
-            → last ≡ sets mid (g * 7) (nodeWords (k + 4) i (f - 1)) → Going T n top op p at b o before last (g + 1) j
+            → last ≡ sets mid (g * 8) (operatorWords (k + 4) (placeOn T i) (f - 1)) → Going T n top op p at b o before last (g + 1) j
         going-on r put =
             record {
-              plan = J .plan (w .plan) (r .plan);
+              tree = J .make (w .tree) (r .tree);
+              spelled = J .spelled (w .tree) (r .tree) (w .spelled) (r .spelled);
               turns = w .turns - 1;
               enough = omega (arith, w .enough, w .built, r .built, J .here);
-              out = going-more ∙ rw (r .out, J .tree (w .plan) (r .plan));
+              out = going-more ∙ rw (r .out);
               built = built-joined (w .built) J (r .built) put;
             }
 
@@ -189,7 +196,7 @@ module _ {T : Tape} {n : ℕ} {top : Bool} {op : Operator} {p : Parser} {at b : 
 
   module _ {start nodes : List ℕ} {f₀ i₀ f i : ℕ} (w : Turned T n top op p at b start f₀ i₀ nodes f i) where
     pub turned-on : {k : ℕ} → Joining T n i op k → (top && eqb (i + 1) n) ≡ false → {mid last : List ℕ} {g j : ℕ} → Took T n (i + 1) f (p (past T n i)) nodes mid g j
-        → last ≡ sets mid (g * 7) (nodeWords (k + 4) i (f - 1)) → Turned T n top op p at b start f₀ i₀ last (g + 1) j
+        → last ≡ sets mid (g * 8) (operatorWords (k + 4) (placeOn T i) (f - 1)) → Turned T n top op p at b start f₀ i₀ last (g + 1) j
     turned-on J on {mid} {last} {g} r put =
         record {
           kept =

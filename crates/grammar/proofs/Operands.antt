@@ -1,7 +1,7 @@
--- Operands: behind a prefix operator, in parentheses, and where neither is the next token.
+-- Operands: after a prefix operator, in parentheses, and where neither is the next token.
 use Prim.Native.Nat.{ℕ, zero, suc, _+_, _*_, _-_, _≤_, _<_}
 use mathlib.Core.Path.{_≡_, refl, sym, ap, _∙_}
-use mathlib.Core.Bool.{false}
+use mathlib.Core.Bool.{false, cond}
 use mathlib.Core.Logic.{_⊎_, ⊎-elim}
 use mathlib.Core.List.{List, _∷_}
 use native.Mathlib.Omega.{arith}
@@ -9,19 +9,21 @@ use native.Mathlib.Decide.{decLt}
 use lib.ListN.{length, getD}
 use lib.Seq.{sets}
 use Rattle.paper.specs.declared.Place.{Place}
-use Rattle.paper.specs.Tokens.{Sign, join, comparison, prefix, opening, closing, colons, Prefix, notSign, minusSign, sign, Token}
+use Rattle.paper.specs.Tokens.{Sign, join, comparison, prefix, opening, closing, colons, Prefix, notSign, minusSign, Tok, sign, Token}
 use Rattle.paper.specs.Addresses.{address}
 use Rattle.paper.specs.Grammar as G
-use Rattle.paper.specs.Grammar.{Tree, Out, got, stuck, deep, Parser, Reader, _>>>_, closed, closeAt, markOf, operand, operandAt, signed, prefixes, sequence}
+use Rattle.paper.specs.Grammar.{Tree, Out, got, stuck, deep, Parser, Reader, _>>>_, closed, isSign, operand, operandAt, signed, prefixes, sequence}
 use Rattle.tokens.specs.Tape.{Tape, tokensOn, tokenOn, signNo}
 use Rattle.grammar.specs.declared.steps.Taken.{Taken}
 use Rattle.grammar.specs.declared.steps.Taken.the-variants as A
 use Rattle.grammar.specs.declared.tape.Next.the-variants.{Other}
 use Rattle.grammar.specs.Ladder as L
-use Rattle.grammar.specs.Plan.{prefixed, prefixNo, size, words, nodeWords, placeOn}
+use Rattle.trees.specs.Words.{prefixNo, words, operatorWords}
+use Rattle.trees.proofs.Stored.{words-length}
+use Rattle.grammar.specs.Places.{placeOn}
 use Rattle.grammar.specs.Reading.{past, Found, Finds, Took, Meets, Closes, Closed, Unclosed}
 use Rattle.grammar.proofs.Tapes.{tokens-here, tokens-none, Stands, by-kind, sign-at}
-use Rattle.grammar.proofs.Stores.{words-length, sets-on}
+use Rattle.grammar.proofs.Stores.{sets-on}
 use Rattle.grammar.proofs.Outcomes.{Up, refuses, stuck-at}
 
 -- with a level left
@@ -43,7 +45,7 @@ pub prefix-no : (o : Prefix) → (13 ≤ signNo (prefix o)) × (signNo (prefix o
 prefix-no notSign = omega arith
 prefix-no minusSign = omega arith
 
--- a ")" behind a tree
+-- a ")" after a tree
 
 module _ (T : Tape) (n i : ℕ) where
   abbrev kindAt : ℕ
@@ -58,12 +60,15 @@ module _ (T : Tape) (n i : ℕ) where
       elim (decLt i n) [
         | yes l ↦
             rw (tokens-here T n i l)
-            (by-kind T i (λ t′. closeAt (markOf t′) t (tokenOn T i) (past T n i) ≡ G.ends stuck (tokenOn T i ∷ past T n i))
+            (by-kind T i (λ t′. follows t′ ≡ G.ends stuck (tokenOn T i ∷ past T n i))
             (λ _. refl) (λ _. refl) (λ _. refl) (go l))
         | no l ↦ rw (tokens-none T n i (omega arith))
       ]
     where
-      go : i < n → (g : Sign) → Stands kindAt g → closeAt (markOf (sign g)) t (tokenOn T i) (past T n i) ≡ G.ends stuck (tokenOn T i ∷ past T n i)
+      follows : Tok → Out
+      follows t′ = cond (isSign closing t′) (G.ends (got t) (past T n i)) (G.ends stuck (tokenOn T i ∷ past T n i))
+
+      go : i < n → (g : Sign) → Stands kindAt g → follows (sign g) ≡ G.ends stuck (tokenOn T i ∷ past T n i)
       go l (join j) e = refl
       go l (comparison c) e = refl
       go l (prefix p) e = refl
@@ -76,7 +81,8 @@ module _ (T : Tape) (n at at′ b : ℕ) (o : Out) (before after : List ℕ) (f 
       → Closes (length (T .text)) (T .kinds) (T .starts) n f i r → Meets T n at b (o >>> closed) before after r
   close-on h l (A.Tree f′ i′) c =
       record {
-        plan = h .plan;
+        tree = h .tree;
+        spelled = h .spelled;
         out = rw (h .out) (close-here T n i _ c);
         built =
             record {
@@ -112,18 +118,19 @@ module _ (read : Reader) (inner outer : ℕ → Parser) (T : Tape) (n at : ℕ) 
     prefix-up = rw prefix-here (refuses (length (T .text)) (inner (placeOn T at) (past T n at)) _)
 
     pub prefix-took : {b f i : ℕ} {before after last : List ℕ} → Took T n (at + 1) b (inner (placeOn T at) (past T n at)) before after f i
-        → last ≡ sets after (f * 7) (nodeWords (k - 8) at 0) → Took T n at b (operand read inner outer here) before last (f + 1) i
+        → last ≡ sets after (f * 8) (operatorWords (k - 8) (placeOn T at) 0) → Took T n at b (operand read inner outer here) before last (f + 1) i
     prefix-took {b} {f} {i} {before} {after} {last} r put =
         let no : k - 8 ≡ prefixNo which = ap (λ m. m - 8) (prefix-of k (h .low) (h .high) .1) ∙ sym (prefixed-no which) in
         let g = r .built in
         record {
-          plan = prefixed at which (r .plan);
+          tree = G.prefixed (placeOn T at) which (r .tree);
+          spelled = r .spelled;
           out = prefix-here ∙ rw (r .out);
           built =
               record {
                 next = omega (arith, g .next);
                 stored =
-                    sets-on before after last (words b (r .plan)) _ b f (size (r .plan)) (g .stored) (words-length b (r .plan)) (g .next)
+                    sets-on before after last (words b (r .tree)) _ b f (G.nodes (r .tree)) (g .stored) (words-length b (r .tree)) (g .next)
                     (put ∙ rw no);
                 grown = omega (arith, g .grown);
                 moved = omega (arith, g .moved);
@@ -203,7 +210,7 @@ module _ (l : ℕ) (some : l ≡ 0 → ⊥) (T : Tape) (n at : ℕ) where
     level-up = rw level (prefix-up address _ _ T n at h)
 
     pub level-took : {b f i : ℕ} {before after last : List ℕ} → Took T n (at + 1) b (L.prefix (l - 1) (past T n at)) before after f i
-        → last ≡ sets after (f * 7) (nodeWords (k - 8) at 0) → Took T n at b (L.prefix l (tokensOn T at (n - at))) before last (f + 1) i
+        → last ≡ sets after (f * 8) (operatorWords (k - 8) (placeOn T at) 0) → Took T n at b (L.prefix l (tokensOn T at (n - at))) before last (f + 1) i
     level-took r put = rw level (prefix-took address _ _ T n at h r put)
 
   pub level-not : Finds (T .kinds) n at 13 14 Other → L.prefix l (tokensOn T at (n - at)) ≡ L.atom l (tokensOn T at (n - at))

@@ -10,9 +10,10 @@ use borrow.Author.Tests.{eq-eqb, ne-eqb}
 use lib.ListN.{getD}
 use Rattle.paper.specs.Tokens.{Sign, join, comparison, prefix, opening, closing, colons, Join, sequel, implies, orElse, andAlso, Comparison, equal, unequal, greater, atLeast, less, atMost, Token}
 use Rattle.paper.specs.Grammar as G
-use Rattle.paper.specs.Grammar.{Make, bySign, signJoins, signCompares, joins, compares}
+use Rattle.paper.specs.Grammar.{Tree, Make, bySign, signJoins, signCompares, joins, compares}
 use Rattle.tokens.specs.Tape.{Tape, tokensOn, tokenOn, signNo}
-use Rattle.grammar.specs.Plan.{Plan, joined, compared, treeOf, size, words, nodeWords, placeOn, joinNo, comparisonNo}
+use Rattle.trees.specs.Words.{words, operatorWords, joinNo, comparisonNo, Spelled}
+use Rattle.grammar.specs.Places.{placeOn}
 use Rattle.grammar.specs.declared.tape.Next.the-variants.{Other}
 use Rattle.grammar.specs.Reading.{Found, Finds}
 use Rattle.grammar.proofs.Tapes.{tokens-here, tokens-none, Stands, by-kind, sign-at}
@@ -25,10 +26,10 @@ pub record Joining (T : Tape) (n i : ℕ) (op : Operator) (k : ℕ) : Type 0 whe
   pub here : i < n
   pub make : Make
   pub told : op (tokenOn T i) ≡ some make
-  pub plan : Plan → Plan → Plan
-  pub tree : (p q : Plan) → make (treeOf T p) (treeOf T q) ≡ treeOf T (plan p q)
-  pub sizes : (p q : Plan) → size (plan p q) ≡ size p + size q + 1
-  pub stored : (b : ℕ) (p q : Plan) → words b (plan p q) ≡ words b p ++ words (b + size p) q ++ nodeWords (k + 4) i (b + size p - 1)
+  pub spelled : (l r : Tree) → Spelled (T .text) l → Spelled (T .text) r → Spelled (T .text) (make l r)
+  pub sizes : (l r : Tree) → G.nodes (make l r) ≡ G.nodes l + G.nodes r + 1
+  pub stored : (b : ℕ) (l r : Tree)
+      → words b (make l r) ≡ words b l ++ words (b + G.nodes l) r ++ operatorWords (k + 4) (placeOn T i) (b + G.nodes l - 1)
 
 -- the first of some tokens as an operator
 abbrev pub first : Operator → List Token → Option Make
@@ -109,8 +110,7 @@ module _ (T : Tape) (n i : ℕ) where
         here = h .here;
         make = G.joined (placeOn T i) o;
         told = rw (sign-at T i (join o) (sym (h .told) ∙ e), eq-eqb (G.joinNo o) (G.joinNo o) refl);
-        plan = joined i o;
-        tree = λ p q. refl;
+        spelled = λ l r x y. (x, y);
         sizes = λ p q. refl;
         stored = λ b p q. rw (e, joined-no o);
       }
@@ -124,8 +124,7 @@ module _ (T : Tape) (n i : ℕ) where
             here = h .here;
             make = G.compared (placeOn T i) c;
             told = rw (sign-at T i (comparison c) (sym (h .told) ∙ e));
-            plan = compared i c;
-            tree = λ p q. refl;
+            spelled = λ l r x y. (x, y);
             sizes = λ p q. refl;
             stored = λ b p q. rw (e, compared-no c);
           }

@@ -1,4 +1,4 @@
--- The whole text: one sequence, and no token behind it.
+-- The whole text: one sequence, and no token after it.
 use Prim.Native.Nat.{ℕ, _-_, _≤_, _<_}
 use mathlib.Core.Path.{_≡_, refl, sym, ap, _∙_}
 use mathlib.Core.Bool.{true}
@@ -14,7 +14,6 @@ use Rattle.paper.specs.Grammar as G
 use Rattle.paper.specs.Grammar.{Out, got, stuck, _>>>_, finished, outcome, whole, parsed}
 use Rattle.tokens.specs.Tape.{Tape, tokensOn}
 use Rattle.grammar.specs.Ladder as L
-use Rattle.grammar.specs.Plan.{treeOf}
 use Rattle.grammar.specs.Reading.{Took, Grown, placeFrom}
 use Rattle.grammar.proofs.Tapes.{tokens-here, tokens-none}
 use Rattle.grammar.proofs.Outcomes.{refuses, stuck-at}
@@ -45,13 +44,14 @@ module _ (T : Tape) (n : ℕ) where
         → parsed (length (T .text)) (tokensOn T 0 n) ≡ refused 8 (inputOf p) (offsetOf p)
     parsed-left l p e = parsed-is ∙ ap (outcome (length (T .text))) (ap (λ (o : Out). o >>> finished) (h .out) ∙ rest) ∙ rw e (stuck-at T n i)
       where
-        rest : finished (treeOf T (h .plan)) (tokensOn T i (n - i)) ≡ G.ends stuck (tokensOn T i (n - i))
+        rest : finished (h .tree) (tokensOn T i (n - i)) ≡ G.ends stuck (tokensOn T i (n - i))
         rest = rw (tokens-here T n i l)
 
     pub parsed-tree : n ≤ i → Grown T n before after f
     parsed-tree l =
         record {
-          plan = h .plan;
+          tree = h .tree;
+          spelled = h .spelled;
           out =
               parsed-is ∙ ap (outcome (length (T .text))) (ap (λ (o : Out). o >>> finished) (h .out) ∙ none);
           count = omega (arith, h .built);
@@ -59,5 +59,5 @@ module _ (T : Tape) (n : ℕ) where
           few = omega (arith, h .built);
         }
       where
-        none : finished (treeOf T (h .plan)) (tokensOn T i (n - i)) ≡ G.ends (got (treeOf T (h .plan))) []
+        none : finished (h .tree) (tokensOn T i (n - i)) ≡ G.ends (got (h .tree)) []
         none = rw (tokens-none T n i l)

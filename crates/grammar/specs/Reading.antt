@@ -23,7 +23,7 @@ use Rattle.grammar.specs.declared.steps.Taken.{Taken}
 use Rattle.grammar.specs.declared.steps.Taken.the-variants.{Tree, Refused}
 use Rattle.grammar.specs.declared.tape.Next.{Next}
 use Rattle.grammar.specs.declared.tape.Next.the-variants.{Is, Other}
-use Rattle.grammar.specs.Plan.{Plan, treeOf, size, words}
+use Rattle.trees.specs.Words.{words, Spelled}
 
 -- n tokens, as they come from a text
 pub record Sound (text kinds starts ends : List ℕ) (n : ℕ) : Type 0 where
@@ -37,22 +37,23 @@ pub record Sound (text kinds starts ends : List ℕ) (n : ℕ) : Type 0 where
 pub record Ready (text kinds starts ends limbs : List ℕ) (room n : ℕ) (from : Start) : Type 0 where
   pub sound : Sound text kinds starts ends n
   pub haveLimbs : n * 4 ≤ length limbs
-  pub haveRoom : n * 7 ≤ room
+  pub haveRoom : n * 8 ≤ room
   pub used : from .node ≤ from .token
   pub here : from .token ≤ n
 
--- a plan that was stored in the nodes from b up to f, of the tokens from `at` up to i
-pub record Built (n at b : ℕ) (before after : List ℕ) (p : Plan) (f i : ℕ) : Type 0 where
-  pub next : f ≡ b + size p
-  pub stored : after ≡ sets before (b * 7) (words b p)
+-- a tree that was stored in the nodes from b up to f, of the tokens from `at` up to i
+pub record Built (n at b : ℕ) (before after : List ℕ) (t : G.Tree) (f i : ℕ) : Type 0 where
+  pub next : f ≡ b + G.nodes t
+  pub stored : after ≡ sets before (b * 8) (words b t)
   pub grown : b < f
   pub moved : f + at ≤ i + b
   pub inside : i ≤ n
 
 pub record Took (T : Tape) (n at b : ℕ) (o : Out) (before after : List ℕ) (f i : ℕ) : Type 0 where
-  pub plan : Plan
-  pub out : o ≡ G.ends (got (treeOf T plan)) (tokensOn T i (n - i))
-  pub built : Built n at b before after plan f i
+  pub tree : G.Tree
+  pub out : o ≡ G.ends (got tree) (tokensOn T i (n - i))
+  pub spelled : Spelled (T .text) tree
+  pub built : Built n at b before after tree f i
 
 -- an answer to what the definition gives: a refusal says nothing of the nodes
 abbrev pub Meets : Tape → ℕ → ℕ → ℕ → Out → List ℕ → List ℕ → Taken → Type 0
@@ -64,14 +65,14 @@ abbrev pub Reads : (ℕ → Parser) → Tape → ℕ → Start → List ℕ → 
 Reads p T n from before after r =
     Meets T n (from .token) (from .node) (p (from .levels) (tokensOn T (from .token) (n - from .token))) before after r
 
--- the tokens behind that of index i
+-- the tokens after that of index i
 abbrev pub past : Tape → ℕ → ℕ → List Token
 past T n i = tokensOn T (i + 1) (n - (i + 1))
 
 -- to read a leaf from the token of index `at` on
 pub record Leads (text kinds starts ends : List ℕ) (room n at b : ℕ) : Type 0 where
   pub sound : Sound text kinds starts ends n
-  pub haveRoom : n * 7 ≤ room
+  pub haveRoom : n * 8 ≤ room
   pub used : b ≤ at
   pub here : at < n
 
@@ -105,7 +106,7 @@ Finds kinds n at lowest highest Other = at < n → (getD kinds at 0 < lowest) �
 abbrev pub placeFrom : ℕ → List ℕ → ℕ → ℕ → Place
 placeFrom size starts n at = Text (cond (ltb at n) (getD starts at 0) size)
 
--- what looking for a ")" behind a tree answers
+-- what looking for a ")" after a tree answers
 pub record Closed (kinds : List ℕ) (n free at f i : ℕ) : Type 0 where
   pub here : at < n
   pub told : getD kinds at 0 ≡ 16
@@ -123,10 +124,11 @@ Closes size kinds starts n free at (Refused k p) = Unclosed size kinds starts n 
 
 -- the whole text
 pub record Grown (T : Tape) (n : ℕ) (before after : List ℕ) (m : ℕ) : Type 0 where
-  pub plan : Plan
-  pub out : parsed (length (T .text)) (tokensOn T 0 n) ≡ ok (treeOf T plan)
-  pub count : m ≡ size plan
-  pub stored : after ≡ sets before 0 (words 0 plan)
+  pub tree : G.Tree
+  pub out : parsed (length (T .text)) (tokensOn T 0 n) ≡ ok tree
+  pub spelled : Spelled (T .text) tree
+  pub count : m ≡ G.nodes tree
+  pub stored : after ≡ sets before 0 (words 0 tree)
   pub few : m ≤ n
 
 abbrev pub Parses : Tape → ℕ → List ℕ → List ℕ → Parsed → Type 0

@@ -1,6 +1,6 @@
 // The ladder, from the loosest level to the tightest. Each level reads its first operand by the level below, goes on
 // while its operator is the next token, and passes every refusal up. An atom starts the ladder again inside
-// parentheses, behind a token and with a level less.
+// parentheses, after a token and with a level less.
 //
 // All of them take the tape, the number of its tokens, where to start, and the nodes.
 ghost use mathlib.Core.Path.{_≡_};
@@ -17,19 +17,19 @@ use crate::steps::Start;
 use crate::steps::Taken;
 use crate::store::put_joined;
 use crate::store::put_prefixed;
-use crate::tape::AND;
-use crate::tape::AT_MOST;
-use crate::tape::EQUAL;
-use crate::tape::IMPLIES;
-use crate::tape::MINUS;
-use crate::tape::NOT;
 use crate::tape::Next;
-use crate::tape::OPENING;
-use crate::tape::OR;
-use crate::tape::SEQUEL;
 use crate::tape::next_in;
+use tokens::kinds::AND_ALSO;
+use tokens::kinds::AT_MOST;
+use tokens::kinds::EQUAL;
+use tokens::kinds::IMPLIES;
+use tokens::kinds::MINUS;
+use tokens::kinds::NOT;
+use tokens::kinds::OPENING;
+use tokens::kinds::OR_ELSE;
+use tokens::kinds::SEQUEL;
 
-// At the top the text may also end behind a ";".
+// At the top the text may also end after a ";".
 fn ends_behind(top: bool, at: usize, count: usize) -> bool
     ensures { λ r. ⌜ r ≡ (top && eqb at count) ⌝ }
 {
@@ -74,7 +74,7 @@ pub fn sequence(
         let Taken::Tree(end, rest) = more else {
             return more;
         };
-        put_joined(nodes, end, sign, next, past - 1);
+        put_joined(starts, nodes, end, sign, next, past - 1);
         past = end + 1;
         next = rest;
     }
@@ -108,7 +108,7 @@ fn implication(
     let Taken::Tree(end, rest) = second else {
         return second;
     };
-    put_joined(nodes, end, sign, next, past - 1);
+    put_joined(starts, nodes, end, sign, next, past - 1);
     Taken::Tree(end + 1, rest)
 }
 
@@ -135,7 +135,7 @@ fn disjunction(
     let mut past = f;
     let mut next = i;
     loop {
-        let Next::Is(sign) = next_in(kinds, count, next, OR, OR) else {
+        let Next::Is(sign) = next_in(kinds, count, next, OR_ELSE, OR_ELSE) else {
             return Taken::Tree(past, next);
         };
         let behind = from.moved(next + 1, past);
@@ -143,7 +143,7 @@ fn disjunction(
         let Taken::Tree(end, rest) = more else {
             return more;
         };
-        put_joined(nodes, end, sign, next, past - 1);
+        put_joined(starts, nodes, end, sign, next, past - 1);
         past = end + 1;
         next = rest;
     }
@@ -172,7 +172,7 @@ fn conjunction(
     let mut past = f;
     let mut next = i;
     loop {
-        let Next::Is(sign) = next_in(kinds, count, next, AND, AND) else {
+        let Next::Is(sign) = next_in(kinds, count, next, AND_ALSO, AND_ALSO) else {
             return Taken::Tree(past, next);
         };
         let behind = from.moved(next + 1, past);
@@ -180,7 +180,7 @@ fn conjunction(
         let Taken::Tree(end, rest) = more else {
             return more;
         };
-        put_joined(nodes, end, sign, next, past - 1);
+        put_joined(starts, nodes, end, sign, next, past - 1);
         past = end + 1;
         next = rest;
     }
@@ -214,11 +214,11 @@ fn comparison(
     let Taken::Tree(end, rest) = second else {
         return second;
     };
-    put_joined(nodes, end, sign, next, past - 1);
+    put_joined(starts, nodes, end, sign, next, past - 1);
     Taken::Tree(end + 1, rest)
 }
 
-// An operand behind any number of "!" and "-". With no level left, only a leaf.
+// An operand after any number of "!" and "-". With no level left, only a leaf.
 fn prefix(
     text: &[u8],
     kinds: &[u8],
@@ -246,7 +246,7 @@ fn prefix(
     let Taken::Tree(past, next) = operand else {
         return operand;
     };
-    put_prefixed(nodes, past, sign, at);
+    put_prefixed(starts, nodes, past, sign, at);
     Taken::Tree(past + 1, next)
 }
 

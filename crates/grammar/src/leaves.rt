@@ -2,7 +2,7 @@
 ghost use mathlib.Core.Path.{_≡_};
 ghost use mathlib.Core.List.{[], _∷_};
 ghost use Prim.Native.Nat.{_+_, _*_, _-_, _≤_, _<_};
-ghost use lib.ListN.{length};
+ghost use lib.ListN.{length, getD};
 ghost use lib.Seq.{sets};
 ghost use Rattle.paper.specs.Addresses.{address};
 ghost use Rattle.paper.specs.Grammar as G;
@@ -11,29 +11,20 @@ ghost use Rattle.addresses.specs.Reads as addressed;
 ghost use Rattle.tokens.specs.Tape.{limbsAt, tokensOn};
 ghost use Rattle.tokens.specs.Tokenized.{tape};
 ghost use Rattle.grammar.specs.Ladder as L;
-ghost use Rattle.grammar.specs.Plan as P;
-ghost use Rattle.grammar.specs.Plan.{placeOn, wordOn, words};
+ghost use Rattle.trees.specs.Words.{leafWords, words};
+ghost use Rattle.grammar.specs.Places.{placeOn, wordOn};
 ghost use Rattle.grammar.specs.Reading.{Sound, Ready, Leads, Worded, Reads, Closes, Leaves, isName, past};
 use crate::steps::BAD_ADDRESS;
 use crate::steps::DEEP;
 use crate::steps::STUCK;
 use crate::steps::Start;
 use crate::steps::Taken;
-use crate::store::ATTRIBUTE;
-use crate::store::FIELD;
-use crate::store::KEY;
-use crate::store::TRUTH;
-use crate::store::put;
+use crate::store::put_attribute;
+use crate::store::put_field;
+use crate::store::put_key;
 use crate::store::put_number;
-use crate::tape::CLOSING;
-use crate::tape::COLONS;
-use crate::tape::MINUS;
-use crate::tape::NOT;
-use crate::tape::NUMERAL;
+use crate::store::put_truth;
 use crate::tape::Next;
-use crate::tape::OPENING;
-use crate::tape::STRING;
-use crate::tape::WORD;
 use crate::tape::next_in;
 use crate::tape::place_at;
 use crate::tape::string_at;
@@ -42,6 +33,14 @@ use addresses::Named;
 use addresses::Scheme;
 use keys::bytes::same_bytes;
 use number::Magnitude;
+use tokens::kinds::CLOSING;
+use tokens::kinds::COLONS;
+use tokens::kinds::MINUS;
+use tokens::kinds::NOT;
+use tokens::kinds::NUMERAL;
+use tokens::kinds::OPENING;
+use tokens::kinds::STRING;
+use tokens::kinds::WORD;
 
 // A leaf. What would open a level is refused.
 pub fn leaf(
@@ -67,7 +66,7 @@ pub fn leaf(
     let kind = kinds[at];
     match kind {
         WORD => word(text, kinds, starts, ends, count, at, free, nodes),
-        NUMERAL => numeral(limbs, at, free, nodes),
+        NUMERAL => numeral(starts, limbs, at, free, nodes),
         NOT | MINUS | OPENING => Taken::Refused(DEEP, place_at(text, starts, count, at)),
         COLONS => attribute(text, kinds, starts, ends, count, at, free, nodes),
         _ => Taken::Refused(STUCK, place_at(text, starts, count, at)),
@@ -92,20 +91,31 @@ pub fn close(
     Taken::Tree(free, at + 1)
 }
 
-// The node of a leaf, and the token behind it.
-fn node(nodes: &mut [u32], free: usize, kind: u32, at: usize, next: usize, truth: u32) -> Taken
-    requires { ⌜ (free * 7 + 7 ≤ length (now nodes)) × (at < 65536) ⌝ }
-    ensures { λ r. ⌜ (r ≡ Taken.Tree (free + 1) next)
-        × (now (nodes .exit) ≡ sets (now (nodes .entry)) (free * 7) (kind ∷ at ∷ 0 ∷ truth ∷ 0 ∷ 0 ∷ 0 ∷ [])) ⌝ }
+// The nodes of leaves, each with the token after it.
+
+fn truth_node(starts: &[u16], at: usize, free: usize, truth: bool, nodes: &mut [u32]) -> Taken
+    requires { ⌜ (free * 8 + 8 ≤ length (now nodes)) × (at < length (now starts)) × (at < 65536) ⌝ }
+    ensures { λ r. ⌜ (r ≡ Taken.Tree (free + 1) (at + 1))
+        × (now (nodes .exit) ≡ sets (now (nodes .entry)) (free * 8) (words free (G.truth (getD (now (starts .entry)) at 0) truth))) ⌝ }
 {
-    put(nodes, free, kind, at, 0, truth, 0, 0, 0);
-    Taken::Tree(free + 1, next)
+    put_truth(starts, nodes, free, at, truth);
+    Taken::Tree(free + 1, at + 1)
 }
 
-fn numeral(limbs: &[u32], at: usize, free: usize, nodes: &mut [u32]) -> Taken
-    requires { ⌜ (free * 7 + 7 ≤ length (now nodes)) × (at < 65536) × (at * 4 + 4 ≤ length (now limbs)) ⌝ }
+fn key_node(starts: &[u16], ends: &[u16], at: usize, free: usize, nodes: &mut [u32]) -> Taken
+    requires { ⌜ (free * 8 + 8 ≤ length (now nodes)) × (at < length (now starts)) × (at < length (now ends)) × (at < 65536) ⌝ }
     ensures { λ r. ⌜ (r ≡ Taken.Tree (free + 1) (at + 1))
-        × (now (nodes .exit) ≡ sets (now (nodes .entry)) (free * 7) (words free (P.number at (limbsAt (now (limbs .entry)) (at * 4))))) ⌝ }
+        × (now (nodes .exit) ≡ sets (now (nodes .entry)) (free * 8)
+        (leafWords 2 (getD (now (starts .entry)) at 0) (getD (now (starts .entry)) at 0) (getD (now (ends .entry)) at 0) 0 0)) ⌝ }
+{
+    put_key(starts, ends, nodes, free, at);
+    Taken::Tree(free + 1, at + 1)
+}
+
+fn numeral(starts: &[u16], limbs: &[u32], at: usize, free: usize, nodes: &mut [u32]) -> Taken
+    requires { ⌜ (free * 8 + 8 ≤ length (now nodes)) × (at < length (now starts)) × (at < 65536) × (at * 4 + 4 ≤ length (now limbs)) ⌝ }
+    ensures { λ r. ⌜ (r ≡ Taken.Tree (free + 1) (at + 1))
+        × (now (nodes .exit) ≡ sets (now (nodes .entry)) (free * 8) (words free (G.number (getD (now (starts .entry)) at 0) (tokens.plain (limbsAt (now (limbs .entry)) (at * 4)))))) ⌝ }
 {
     let first = at * 4;
     let number = Magnitude {
@@ -116,7 +126,7 @@ fn numeral(limbs: &[u32], at: usize, free: usize, nodes: &mut [u32]) -> Taken
             limbs[first + 3],
         ],
     };
-    put_number(nodes, free, at, number);
+    put_number(starts, nodes, free, at, number);
     Taken::Tree(free + 1, at + 1)
 }
 
@@ -163,7 +173,8 @@ fn attribute(
     if !is_name(text, kinds, starts, ends, count, at + 1) {
         return Taken::Refused(STUCK, place_at(text, starts, count, at + 1));
     }
-    node(nodes, free, ATTRIBUTE, at, at + 2, 0)
+    put_attribute(starts, ends, nodes, free, at, at + 1);
+    Taken::Tree(free + 1, at + 2)
 }
 
 // A word: a truth, or what a key begins.
@@ -183,10 +194,10 @@ fn word(
 {
     let bytes = word_at(text, starts, ends, at);
     if same_bytes(bytes, b"true") {
-        return node(nodes, free, TRUTH, at, at + 1, 1);
+        return truth_node(starts, at, free, true, nodes);
     }
     if same_bytes(bytes, b"false") {
-        return node(nodes, free, TRUTH, at, at + 1, 0);
+        return truth_node(starts, at, free, false, nodes);
     }
     keyed(text, kinds, starts, ends, count, at, free, nodes)
 }
@@ -210,15 +221,15 @@ fn keyed(
         return field(text, kinds, starts, ends, count, at, free, nodes);
     }
     let Next::Is(_) = next_in(kinds, count, at + 1, OPENING, OPENING) else {
-        return node(nodes, free, KEY, at, at + 1, 0);
+        return key_node(starts, ends, at, free, nodes);
     };
     let Named::Is(kind) = addresses::scheme_of(word_at(text, starts, ends, at)) else {
-        return node(nodes, free, KEY, at, at + 1, 0);
+        return key_node(starts, ends, at, free, nodes);
     };
     addressed(text, kinds, starts, ends, count, kind, at, free, nodes)
 }
 
-// The name behind a key and its "::".
+// The name after a key and its "::".
 fn field(
     text: &[u8],
     kinds: &[u8],
@@ -236,10 +247,11 @@ fn field(
     if !is_name(text, kinds, starts, ends, count, at + 2) {
         return Taken::Refused(STUCK, place_at(text, starts, count, at + 2));
     }
-    node(nodes, free, FIELD, at, at + 3, 0)
+    put_field(starts, ends, nodes, free, at, at + 2);
+    Taken::Tree(free + 1, at + 3)
 }
 
-// The string and the ")" behind the word of an address and its "(".
+// The string and the ")" after the word of an address and its "(".
 fn addressed(
     text: &[u8],
     kinds: &[u8],
@@ -264,6 +276,6 @@ fn addressed(
         return Taken::Refused(BAD_ADDRESS, place_at(text, starts, count, quote));
     }
     let number = read.number;
-    put_number(nodes, free, at, number);
+    put_number(starts, nodes, free, at, number);
     close(text, kinds, starts, count, free + 1, quote + 1)
 }

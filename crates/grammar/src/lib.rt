@@ -1,9 +1,9 @@
 // Tokens to a tree, by the grammar of document 01.
 //
 // The tokens of a text stand on a tape of lent slices: for each a kind, its first byte and the byte past its last, and
-// four limbs, which hold a numeral's number. `parse` reads all of them into one tree, in a lent slice of seven words a
+// four limbs, which hold a numeral's number. `parse` reads all of them into one tree, in a lent slice of eight words a
 // node, or refuses with the first number and place that document 01 gives: 8, 9 or 10. It promises the definition's
-// answer (`parsed`) for every tape, and the tree's words one by one (specs/Plan.antt).
+// answer (`parsed`) for every tape, and the tree's words one by one (`words`, crate trees).
 mod ladder;
 mod leaves;
 mod steps;
@@ -39,7 +39,7 @@ pub fn parse(
 ) -> Parsed
     requires { ⌜ Sound (now text) (now kinds) (now starts) (now ends) count ⌝ }
     requires { ⌜ count * 4 ≤ length (now limbs) ⌝ }
-    requires { ⌜ length (now nodes) ≡ 7168 ⌝ }
+    requires { ⌜ length (now nodes) ≡ 8192 ⌝ }
     ensures { λ r. ⌜ Parses
         (tape (now (text .entry)) (now (kinds .entry)) (now (starts .entry)) (now (ends .entry)) (now (limbs .entry)))
         count (now (nodes .entry)) (now (nodes .exit)) r ⌝ }

@@ -1,79 +1,169 @@
-// Writing nodes.
+// Nodes of tokens: the offsets of a token in the text, and the operator that it is.
 ghost use mathlib.Core.Path.{_≡_};
-ghost use mathlib.Core.List.{[], _∷_};
 ghost use Prim.Native.Nat.{_+_, _*_, _-_, _≤_, _<_};
-ghost use lib.ListN.{length};
+ghost use lib.ListN.{length, getD};
 ghost use lib.Seq.{sets};
+ghost use Rattle.paper.specs.Tokens.{plain};
+ghost use Rattle.paper.specs.Grammar as G;
 ghost use Rattle.number.specs.Values.{value};
-ghost use Rattle.grammar.specs.Plan as P;
-ghost use Rattle.grammar.specs.Plan.{nodeWords, words};
+ghost use Rattle.trees.specs.Standing.{prefixMeant, joinMeant, comparisonMeant};
+ghost use Rattle.trees.specs.Words.{leafWords, operatorWords, words, prefixNo, joinNo, comparisonNo, operatorNo};
 use number::Magnitude;
+use tokens::kinds::AT_LEAST;
+use tokens::kinds::EQUAL;
+use tokens::kinds::GREATER;
+use tokens::kinds::IMPLIES;
+use tokens::kinds::LESS;
+use tokens::kinds::NOT;
+use tokens::kinds::OR_ELSE;
+use tokens::kinds::SEQUEL;
+use tokens::kinds::UNEQUAL;
+use trees::Comparison;
+use trees::Join;
+use trees::Operator;
+use trees::Prefix;
 
-// The kinds of nodes that are leaves.
-pub const TRUTH: u32 = 0;
-
-const NUMBER: u32 = 1;
-
-pub const KEY: u32 = 2;
-
-pub const FIELD: u32 = 3;
-
-pub const ATTRIBUTE: u32 = 4;
-
-// The words of one node: its kind, its token, its left operand, and four more.
-pub fn put(
-    nodes: &mut [u32],
-    node: usize,
-    kind: u32,
-    token: usize,
-    left: usize,
-    a: u32,
-    b: u32,
-    c: u32,
-    d: u32,
-)
-    requires { ⌜ (node * 7 + 7 ≤ length (now nodes)) × (token < 65536) × (left < 65536) ⌝ }
-    ensures { λ _. ⌜ now (nodes .exit) ≡ sets (now (nodes .entry)) (node * 7) (kind ∷ token ∷ left ∷ a ∷ b ∷ c ∷ d ∷ []) ⌝ }
+// An offset in the text, of a token.
+fn offset(of: &[u16], token: usize) -> u32
+    requires { ⌜ token < length (now of) ⌝ }
+    ensures { λ r. ⌜ r ≡ getD (now (of .entry)) token 0 ⌝ }
 {
-    let at = node * 7;
-    nodes[at] = kind;
-    nodes[at + 1] = token as u32;
-    nodes[at + 2] = left as u32;
-    nodes[at + 3] = a;
-    nodes[at + 4] = b;
-    nodes[at + 5] = c;
-    nodes[at + 6] = d;
+    of[token] as u32
 }
 
-pub fn put_number(nodes: &mut [u32], node: usize, token: usize, number: Magnitude)
-    requires { ⌜ (node * 7 + 7 ≤ length (now nodes)) × (token < 65536) ⌝ }
-    ensures { λ _. ⌜ now (nodes .exit) ≡ sets (now (nodes .entry)) (node * 7) (words node (P.number token (value number))) ⌝ }
+pub fn put_truth(starts: &[u16], nodes: &mut [u32], node: usize, token: usize, truth: bool)
+    requires { ⌜ (node * 8 + 8 ≤ length (now nodes)) × (token < length (now starts)) ⌝ }
+    ensures { λ _. ⌜ now (nodes .exit) ≡ sets (now (nodes .entry)) (node * 8) (words node (G.truth (getD (now (starts .entry)) token 0) truth)) ⌝ }
 {
-    put(
+    trees::put_truth(nodes, node, offset(starts, token), truth);
+}
+
+pub fn put_key(starts: &[u16], ends: &[u16], nodes: &mut [u32], node: usize, token: usize)
+    requires { ⌜ (node * 8 + 8 ≤ length (now nodes)) × (token < length (now starts)) × (token < length (now ends)) ⌝ }
+    ensures { λ _. ⌜ now (nodes .exit) ≡ sets (now (nodes .entry)) (node * 8)
+        (leafWords 2 (getD (now (starts .entry)) token 0) (getD (now (starts .entry)) token 0) (getD (now (ends .entry)) token 0) 0 0) ⌝ }
+{
+    trees::put_key(nodes, node, offset(starts, token), offset(ends, token));
+}
+
+pub fn put_field(
+    starts: &[u16],
+    ends: &[u16],
+    nodes: &mut [u32],
+    node: usize,
+    token: usize,
+    name: usize,
+)
+    requires { ⌜ (node * 8 + 8 ≤ length (now nodes)) × (token < length (now starts)) × (token < length (now ends)) × (name < length (now starts)) × (name < length (now ends)) ⌝ }
+    ensures { λ _. ⌜ now (nodes .exit) ≡ sets (now (nodes .entry)) (node * 8)
+        (leafWords 3 (getD (now (starts .entry)) token 0) (getD (now (starts .entry)) token 0) (getD (now (ends .entry)) token 0)
+        (getD (now (starts .entry)) name 0) (getD (now (ends .entry)) name 0)) ⌝ }
+{
+    trees::put_field(
         nodes,
         node,
-        NUMBER,
-        token,
-        0,
-        number.limbs[0],
-        number.limbs[1],
-        number.limbs[2],
-        number.limbs[3],
+        offset(starts, token),
+        offset(ends, token),
+        offset(starts, name),
+        offset(ends, name),
     );
 }
 
-// The node of an operator between two operands.
-pub fn put_joined(nodes: &mut [u32], node: usize, sign: u8, token: usize, left: usize)
-    requires { ⌜ (node * 7 + 7 ≤ length (now nodes)) × (token < 65536) × (left < 65536) ⌝ }
-    ensures { λ _. ⌜ now (nodes .exit) ≡ sets (now (nodes .entry)) (node * 7) (nodeWords (sign + 4) token left) ⌝ }
+pub fn put_attribute(
+    starts: &[u16],
+    ends: &[u16],
+    nodes: &mut [u32],
+    node: usize,
+    token: usize,
+    name: usize,
+)
+    requires { ⌜ (node * 8 + 8 ≤ length (now nodes)) × (token < length (now starts)) × (name < length (now starts)) × (name < length (now ends)) ⌝ }
+    ensures { λ _. ⌜ now (nodes .exit) ≡ sets (now (nodes .entry)) (node * 8)
+        (leafWords 4 (getD (now (starts .entry)) token 0) 0 0 (getD (now (starts .entry)) name 0) (getD (now (ends .entry)) name 0)) ⌝ }
 {
-    put(nodes, node, sign as u32 + 4, token, left, 0, 0, 0, 0);
+    trees::put_attribute(
+        nodes,
+        node,
+        offset(starts, token),
+        offset(starts, name),
+        offset(ends, name),
+    );
+}
+
+pub fn put_number(starts: &[u16], nodes: &mut [u32], node: usize, token: usize, number: Magnitude)
+    requires { ⌜ (node * 8 + 8 ≤ length (now nodes)) × (token < length (now starts)) ⌝ }
+    ensures { λ _. ⌜ now (nodes .exit) ≡ sets (now (nodes .entry)) (node * 8) (words node (G.number (getD (now (starts .entry)) token 0) (plain (value number)))) ⌝ }
+{
+    trees::put_number(nodes, node, offset(starts, token), number);
+}
+
+// The operators of signs.
+
+fn join_of(sign: u8) -> Join
+    requires { ⌜ (3 ≤ sign) × (sign ≤ 6) ⌝ }
+    ensures { λ r. ⌜ joinNo (joinMeant r) ≡ sign + 4 ⌝ }
+{
+    match sign {
+        SEQUEL => Join::Sequel,
+        IMPLIES => Join::Implies,
+        OR_ELSE => Join::Or,
+        _ => Join::And,
+    }
+}
+
+fn comparison_of(sign: u8) -> Comparison
+    requires { ⌜ (7 ≤ sign) × (sign ≤ 12) ⌝ }
+    ensures { λ r. ⌜ comparisonNo (comparisonMeant r) ≡ sign + 4 ⌝ }
+{
+    match sign {
+        EQUAL => Comparison::Equal,
+        UNEQUAL => Comparison::Unequal,
+        GREATER => Comparison::Greater,
+        AT_LEAST => Comparison::AtLeast,
+        LESS => Comparison::Less,
+        _ => Comparison::AtMost,
+    }
+}
+
+fn operator_of(sign: u8) -> Operator
+    requires { ⌜ (3 ≤ sign) × (sign ≤ 12) ⌝ }
+    ensures { λ r. ⌜ operatorNo r ≡ sign + 4 ⌝ }
+{
+    if sign < EQUAL {
+        return Operator::Joins(join_of(sign));
+    }
+    Operator::Compares(comparison_of(sign))
+}
+
+fn prefix_of(sign: u8) -> Prefix
+    requires { ⌜ (13 ≤ sign) × (sign ≤ 14) ⌝ }
+    ensures { λ r. ⌜ prefixNo (prefixMeant r) ≡ sign - 8 ⌝ }
+{
+    if sign == NOT {
+        return Prefix::Not;
+    }
+    Prefix::Minus
+}
+
+// The node of an operator between two operands.
+pub fn put_joined(
+    starts: &[u16],
+    nodes: &mut [u32],
+    node: usize,
+    sign: u8,
+    token: usize,
+    left: usize,
+)
+    requires { ⌜ (node * 8 + 8 ≤ length (now nodes)) × (token < length (now starts)) × (left < 65536) × (3 ≤ sign) × (sign ≤ 12) ⌝ }
+    ensures { λ _. ⌜ now (nodes .exit) ≡ sets (now (nodes .entry)) (node * 8) (operatorWords (sign + 4) (getD (now (starts .entry)) token 0) left) ⌝ }
+{
+    trees::put_operator(nodes, node, offset(starts, token), operator_of(sign), left);
 }
 
 // The node of an operator before its operand.
-pub fn put_prefixed(nodes: &mut [u32], node: usize, sign: u8, token: usize)
-    requires { ⌜ (node * 7 + 7 ≤ length (now nodes)) × (token < 65536) × (8 ≤ sign) ⌝ }
-    ensures { λ _. ⌜ now (nodes .exit) ≡ sets (now (nodes .entry)) (node * 7) (nodeWords (sign - 8) token 0) ⌝ }
+pub fn put_prefixed(starts: &[u16], nodes: &mut [u32], node: usize, sign: u8, token: usize)
+    requires { ⌜ (node * 8 + 8 ≤ length (now nodes)) × (token < length (now starts)) × (13 ≤ sign) × (sign ≤ 14) ⌝ }
+    ensures { λ _. ⌜ now (nodes .exit) ≡ sets (now (nodes .entry)) (node * 8) (operatorWords (sign - 8) (getD (now (starts .entry)) token 0) 0) ⌝ }
 {
-    put(nodes, node, sign as u32 - 8, token, 0, 0, 0, 0, 0);
+    trees::put_prefix(nodes, node, offset(starts, token), prefix_of(sign));
 }

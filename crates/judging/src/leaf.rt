@@ -1,17 +1,17 @@
 // Nodes with no operand.
 ghost use mathlib.Core.Path.{_≡_};
-ghost use Prim.Native.Nat.{_+_, _*_, _≤_};
-ghost use lib.ListN.{length};
 ghost use Rattle.paper.specs.Grammar as G;
 ghost use Rattle.paper.specs.Meaning.{valueOf};
 ghost use Rattle.keys.specs.Says.{keysIn};
 ghost use Rattle.values.specs.Held.{held, Is};
+ghost use Prim.Native.Nat.{ℕ, _+_, _*_, _≤_};
+ghost use lib.ListN.{length};
+ghost use Rattle.trees.specs.Nodes.{leafAt};
+ghost use Rattle.trees.specs.Standing.{leafOn};
 ghost use Rattle.operands.specs.Conforming.{entryIn, Conforming};
-ghost use Rattle.trees.specs.Standing.{siteAt, leafOn};
-ghost use Rattle.trees.specs.Words.{Scratch, tapeOf};
 use keys::Found;
 use number::Magnitude;
-use trees::Node;
+use trees::Leaf;
 use values::Cell;
 use values::fields::Named;
 
@@ -49,43 +49,24 @@ fn attribute_value(list: &[u8], entry: &[u8], name: &[u8]) -> Cell
     operands::priority_cell(entry)
 }
 
-pub fn leaf_value(
-    text: &[u8],
-    kinds: &[u8],
-    starts: &[u16],
-    ends: &[u16],
-    list: &[u8],
-    entry: &[u8],
-    nodes: &[u32],
-    at: usize,
-) -> Cell
-    requires { ⌜ (Scratch (length (now kinds)) (length (now starts)) (length (now ends))) × (at * 7 + 7 ≤ length (now nodes)) × Conforming (now list) (now entry) ⌝ }
-    ensures { λ r. ⌜ Is (valueOf (keysIn (now (list .entry))) (entryIn (now (list .entry)) (now (entry .entry))) (leafOn (tapeOf (now (text .entry)) (now (kinds .entry)) (now (starts .entry)) (now (ends .entry))) (siteAt (now (nodes .entry)) at))) (held r) ⌝ }
+// A node with no operand; its place does not matter.
+pub fn leaf_value(text: &[u8], list: &[u8], entry: &[u8], nodes: &[u32], i: usize) -> Cell
+    requires { ⌜ (i * 8 + 8 ≤ length (now nodes)) × Conforming (now list) (now entry) ⌝ }
+    ensures { λ r. ⌜ ((at : ℕ) → Is (valueOf (keysIn (now (list .entry))) (entryIn (now (list .entry)) (now (entry .entry))) (leafOn (now (text .entry)) at (leafAt (now (nodes .entry)) i))) (held r)) ⌝ }
 {
-    let n = Node::read(nodes, at);
-    let kind = n.kind;
-    let i = n.token;
-    if kind == 0 {
-        return Cell::truth(trees::number_at(nodes, at).equal(Magnitude::of(1)));
-    }
-    if kind == 1 {
-        return Cell::whole(trees::number_at(nodes, at));
-    }
-    let word = trees::word_on(text, kinds, starts, ends, i);
-    if kind == 2 {
-        return key_value(list, entry, word);
-    }
-    if kind == 3 {
-        return field_value(
+    let leaf = Leaf::read(nodes, i);
+    match leaf {
+        Leaf::Truth(b) => Cell::truth(b),
+        Leaf::Number(a, b, c, d) => Cell::whole(Magnitude {
+            limbs: [a, b, c, d],
+        }),
+        Leaf::Key(w) => key_value(list, entry, trees::spelled(text, w)),
+        Leaf::Field(w, f) => field_value(
             list,
             entry,
-            word,
-            trees::word_on(text, kinds, starts, ends, i + 2),
-        );
+            trees::spelled(text, w),
+            trees::spelled(text, f),
+        ),
+        Leaf::Attribute(f) => attribute_value(list, entry, trees::spelled(text, f)),
     }
-    attribute_value(
-        list,
-        entry,
-        trees::word_on(text, kinds, starts, ends, i + 1),
-    )
 }

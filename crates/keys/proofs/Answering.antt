@@ -1,7 +1,7 @@
 -- From an answer back to the tests that it passed, and to the answer of which only a part was kept.
 use Prim.Native.Nat.{ℕ}
 use mathlib.Core.Path.{_≡_, refl, sym}
-use mathlib.Core.Bool.{Bool, true, false, cond, _&&_}
+use mathlib.Core.Bool.{Bool, true, false, _&&_}
 use native.Mathlib.Omega.{arith}
 use Rattle.paper.specs.Answers.{Answer, ok, refused, _>>=_, require, Input}
 
@@ -20,10 +20,6 @@ no-pass e =
     omega arith
 
 module _ (n : ℕ) (i : Input) (at : ℕ) {A : Type 0} {x : A} where
-  pub tested : (b : Bool) {a : Answer A} → cond b a (refused n i at) ≡ ok x → (b ≡ true) × (a ≡ ok x)
-  tested true e = (refl, e)
-  tested false e = absurd (no-pass e)
-
   pub required : (b : Bool) (a : Answer A) → (require b n i at >>= λ _. a) ≡ ok x → (b ≡ true) × (a ≡ ok x)
   required true a e = (refl, e)
   required false a e = absurd (no-pass e)

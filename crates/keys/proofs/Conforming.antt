@@ -9,12 +9,14 @@ use native.Mathlib.Omega.{arith}
 use lib.Dec.{eqb, ltb}
 use lib.ListN.{length, getElem?}
 use borrow.Author.Tests.{eqb-true, ltb-true}
-use Rattle.paper.specs.Answers.{ok, refused, _>>=_, require, Input, inEntry}
+use Rattle.paper.specs.Answers.{ok, refused, _>>=_, require, inTurn, Input, inEntry}
 use Rattle.paper.specs.Keys.{Key, recordAt, keyOf, keysFrom}
-use Rattle.paper.specs.Entry.{Entry, headSize, matchSize, matchAt, matchOf, matchOk, matchesFrom, rulesFrom}
-use Rattle.paper.specs.Entry.{priorityOf, entryOf}
+use Rattle.paper.specs.Entry.{Entry, headSize, matchSize, matchAt, matchOf, matchOk, matchesFrom, priorityOf, ruleTest, entryOf}
+use Rattle.paper.proofs.Basics.{some-below}
+use Rattle.paper.proofs.Stages.{require-ok}
+use Rattle.paper.proofs.InTurn.{each-passes}
 use Rattle.keys.specs.Says.{conforms}
-use Rattle.keys.proofs.Answering.{tested, required, passed-on, refused-on}
+use Rattle.keys.proofs.Answering.{required, passed-on, refused-on}
 use Rattle.keys.proofs.Records.{key-at}
 
 pub matches-length : (entry : List ℕ) (j : ℕ) (ks : List Key) → length (matchesFrom entry j ks) ≡ length ks
@@ -37,31 +39,26 @@ match-at list entry n k h =
     let z : 0 + k ≡ k = omega arith in
     match-from entry 0 (keysFrom list 0 n) k (key-at list n k h) ∙ rw z
 
-rules-kept : (entry : List ℕ) (j : ℕ) (ks : List Key) (k : ℕ) {key : Key} → rulesFrom entry j ks ≡ ok tt
-    → getElem? ks k ≡ some key → matchOk key (matchAt entry (j + k)) ≡ true
-rules-kept entry j [] k e f = absurd (Option·none-ne-some _ f)
-rules-kept entry j (x ∷ ks) zero {key} e f =
-    let q : key ≡ x = cc in
-    rw (add-zero j, q) (tested 20 inEntry (headSize + j * matchSize) (matchOk x (matchAt entry j)) e .0)
-rules-kept entry j (x ∷ ks) (suc k) e f =
-    let z : j + suc k ≡ suc j + k = omega arith in
-    let p = tested 20 inEntry (headSize + j * matchSize) (matchOk x (matchAt entry j)) e in
-    rw z (rules-kept entry (suc j) ks k (p .1) f)
+-- the record of a key that passes its test keeps the key's rule
+kept : (ks : List Key) (entry : List ℕ) (k : ℕ) {key : Key} → ruleTest ks entry k ≡ ok tt → getElem? ks k ≡ some key
+    → matchOk key (matchAt entry k) ≡ true
+kept ks entry k e f = require-ok _ 20 inEntry (headSize + k * matchSize) tt (rw f at e)
 
 abbrev pub entryIn : List Key → List ℕ → Entry
 entryIn ks entry = record { priority = priorityOf entry; matches = matchesFrom entry 0 ks }
 
 module _ (ks : List Key) (entry : List ℕ) {x : Entry} (e : entryOf ks entry ≡ ok x) where
   parts : (eqb (length entry) (headSize + matchSize * length ks) ≡ true) × (ltb (priorityOf entry) (2 ^ 31) ≡ true)
-      × (rulesFrom entry 0 ks ≡ ok tt) × (entryIn ks entry ≡ x)
+      × (inTurn (ruleTest ks entry) 0 (length ks) ≡ ok tt) × (entryIn ks entry ≡ x)
   unfolding entryOf
   parts =
       let right = eqb (length entry) (headSize + matchSize * length ks) in
       let low = ltb (priorityOf entry) (2 ^ 31) in
-      let rules = rulesFrom entry 0 ks >>= λ _. ok (entryIn ks entry) in
+      let each = inTurn (ruleTest ks entry) 0 (length ks) in
+      let rules = each >>= λ _. ok (entryIn ks entry) in
       let p = required 19 inEntry (length entry) right (require low 20 inEntry 0 >>= λ _. rules) e in
       let q = required 20 inEntry 0 low rules (p .1) in
-      let r = passed-on (λ _. entryIn ks entry) (rulesFrom entry 0 ks) (q .1) in
+      let r = passed-on (λ _. entryIn ks entry) each (q .1) in
       (p .0, q .0, r .1, r .2)
 
   pub entry-length : length entry ≡ headSize + matchSize * length ks
@@ -74,9 +71,8 @@ module _ (ks : List Key) (entry : List ℕ) {x : Entry} (e : entryOf ks entry �
   is-entry = sym (parts .3)
 
   pub good-match : (k : ℕ) {key : Key} → getElem? ks k ≡ some key → matchOk key (matchAt entry k) ≡ true
-  good-match k f =
-      let z : 0 + k ≡ k = omega arith in
-      rw z at (rules-kept entry 0 ks k (parts .2) f)
+  good-match k {key} f =
+      kept ks entry k (each-passes (ruleTest ks entry) (length ks) (parts .2) k (some-below ks k key f)) f
 
 -- what check_entry's answer tells
 

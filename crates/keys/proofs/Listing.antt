@@ -1,16 +1,14 @@
--- The check of a key list, a record at a time: k records are passed, of n.
-use Prim.Native.Nat.{ℕ, _+_, _*_, _-_, _/_, _%_, _≤_, _<_}
+-- The check of a key list: its length, and then the test of each record.
+use Prim.Native.Nat.{ℕ, _*_, _%_, _≤_, _<_}
 use mathlib.Core.Path.{_≡_, refl, ap}
 use mathlib.Core.Bool.{true, false}
 use mathlib.Core.Option.{none, some}
 use mathlib.Core.List.{List}
-use native.Mathlib.Numerals.{add-one}
 use lib.ListN.{length}
 use borrow.Author.Tests.{eq-eqb, ne-eqb, le-leb, lt-leb}
-use Rattle.paper.specs.Answers.{Answer, ok, refused, _>>=_, inList}
-use Rattle.paper.specs.Keys.{recordSize, recordAt, recordOk, nameOf, keys, keysFrom, find, recordsFrom}
+use Rattle.paper.specs.Answers.{Answer, ok, refused, _>>=_, inTurn, inList}
+use Rattle.paper.specs.Keys.{recordSize, recordsIn, recordAt, recordOk, nameOf, find, keysFrom, recordTest, layoutRule, keys}
 use Rattle.keys.specs.Says.{keysIn, keyCount}
-use Rattle.keys.proofs.Steps.{one-less, none-left}
 use Rattle.keys.proofs.Records.{keys-length}
 
 module _ (list : List ℕ) where
@@ -23,27 +21,24 @@ module _ (list : List ℕ) where
   too-long h g = rw (eq-eqb _ _ h, lt-leb _ _ g)
 
   counted : (a : Answer (Unit {0}))
-      → (a >>= (λ _. ok (keysIn list)) >>= λ ks. ok (length ks)) ≡ (a >>= λ _. ok (length list / recordSize))
-  counted (ok u) = ap ok (keys-length list 0 (length list / recordSize))
+      → (a >>= (λ _. ok (keysIn list)) >>= λ ks. ok (length ks)) ≡ (a >>= λ _. ok (recordsIn list))
+  counted (ok u) = ap ok (keys-length list 0 (recordsIn list))
   counted (refused n i at) = refl
 
   -- where the length is right the records decide
   pub by-records : {a : Answer (Unit {0})} → length list % recordSize ≡ 0 → length list ≤ 2560
-      → recordsFrom list 0 (length list / recordSize) ≡ a → keyCount list ≡ (a >>= λ _. ok (length list / recordSize))
+      → inTurn (recordTest layoutRule list) 0 (recordsIn list) ≡ a → keyCount list ≡ (a >>= λ _. ok (recordsIn list))
   unfolding keys
   by-records {a} h g e = rw (eq-eqb _ _ h, le-leb _ _ g, e) (counted a)
 
-module _ (list : List ℕ) (n k : ℕ) (h : k < n) {r : List ℕ} (at : r ≡ recordAt list k) where
-  pub broken : recordOk r ≡ false → recordsFrom list k (n - k) ≡ refused 3 inList (k * recordSize)
-  broken e = rw (one-less n k h, ← at, e)
+-- what is found of record k decides its test
+module _ (list : List ℕ) (k : ℕ) {r : List ℕ} (at : r ≡ recordAt list k) where
+  pub broken : recordOk r ≡ false → recordTest layoutRule list k ≡ refused 3 inList (k * recordSize)
+  broken e = rw (← at, e)
 
-  pub repeated : {name : List ℕ} {j : ℕ} → recordOk r ≡ true → name ≡ nameOf r
-      → find (keysFrom list 0 k) name ≡ some j → recordsFrom list k (n - k) ≡ refused 4 inList (k * recordSize)
-  repeated e q f = rw (one-less n k h, ← at, e, ← q, f)
+  module _ {name : List ℕ} (good : recordOk r ≡ true) (named : name ≡ nameOf r) where
+    pub repeated : {j : ℕ} → find (keysFrom list 0 k) name ≡ some j → recordTest layoutRule list k ≡ refused 4 inList (k * recordSize)
+    repeated f = rw (← at, good, ← named, f)
 
-  pub passed : {name : List ℕ} → recordOk r ≡ true → name ≡ nameOf r
-      → find (keysFrom list 0 k) name ≡ none → recordsFrom list k (n - k) ≡ recordsFrom list (k + 1) (n - (k + 1))
-  passed e q f = rw (one-less n k h, ← at, e, ← q, f, add-one k)
-
-pub all-passed : (list : List ℕ) (n k : ℕ) → n ≤ k → recordsFrom list k (n - k) ≡ ok tt
-all-passed list n k h = rw (none-left n k h)
+    pub new : find (keysFrom list 0 k) name ≡ none → recordTest layoutRule list k ≡ ok tt
+    new f = rw (← at, good, ← named, f)

@@ -1,12 +1,14 @@
 -- What the proofs of loops and tests share: a list a byte at a time, and a count of what is left.
-use Prim.Native.Nat.{ℕ, suc, _+_, _-_, _≤_, _<_}
+use Prim.Native.Nat.{ℕ, zero, suc, _+_, _-_, _≤_, _<_}
 use mathlib.Core.Path.{_≡_, refl, sym, ap, _∙_}
-use mathlib.Core.Bool.{Bool, true, false, not, cond}
-use mathlib.Core.List.{List, [], _∷_}
+use mathlib.Core.Bool.{Bool, true, false, not, cond, _&&_}
+use mathlib.Core.List.{List, [], _∷_, _++_}
+use native.Mathlib.Numerals.{add-one}
 use native.Mathlib.Omega.{arith}
+use lib.Bits.{bitOr, or-add-and, and-le-r}
 use lib.Dec.{eqb}
 use lib.ListN.{length, getD, take, drop, length-drop, drop-of-length-le}
-use lib.Seq.{take-all, drop-cons}
+use lib.Seq.{take-all, take-suc, drop-cons}
 use borrow.Author.Tests.{eq-eqb, ne-eqb, not-true, not-false}
 use Rattle.paper.specs.Tokens.{sameBytes}
 use Rattle.paper.specs.Keys.{allZero}
@@ -34,15 +36,29 @@ cut s i h =
 pub to-end : (s : List ℕ) (i : ℕ) → take (length s - i) (drop i s) ≡ drop i s
 to-end s i = take-all (length s - i) (drop i s) (omega (arith, length-drop i s))
 
-module _ (s : List ℕ) (i : ℕ) where
-  pub zero-on : i < length s → getD s i 0 ≡ 0 → allZero (drop i s) ≡ allZero (drop (i + 1) s)
-  zero-on h e = rw (cut s i h, eq-eqb _ _ e)
+-- bytes gathered by "or" are 0 exactly where each of them is
 
-  pub zero-stop : i < length s → (getD s i 0 ≡ 0 → ⊥) → allZero (drop i s) ≡ false
-  zero-stop h e = rw (cut s i h, ne-eqb _ _ e)
+none-set : (a b : ℕ) → eqb (bitOr a b) 0 ≡ (eqb a 0 && eqb b 0)
+none-set zero b = refl
+none-set (suc a) b =
+    rw (ne-eqb (suc a) 0 (λ e. omega arith)) (ne-eqb (bitOr (suc a) b) 0 (λ e. omega (arith, or-add-and (suc a) b, and-le-r (suc a) b)))
 
-  pub zero-end : length s ≤ i → allZero (drop i s) ≡ true
-  zero-end h = rw (drop-of-length-le s h)
+zeros-and : (s : List ℕ) (b : ℕ) → allZero (s ++ (b ∷ [])) ≡ (allZero s && eqb b 0)
+zeros-and [] b = go (eqb b 0)
+  where
+    go : (t : Bool) → cond t true false ≡ t
+    go true = refl
+    go false = refl
+zeros-and (x ∷ s) b = rw (zeros-and s b) (go (eqb x 0))
+  where
+    go : (t : Bool) → cond t (allZero s && eqb b 0) false ≡ (cond t (allZero s) false && eqb b 0)
+    go true = refl
+    go false = refl
+
+-- where `any` is 0 exactly where the first i bytes are zeros, it is so of one byte more
+pub gathers : (s : List ℕ) (i any : ℕ) → i < length s → eqb any 0 ≡ allZero (take i s)
+    → eqb (bitOr any (getD s i 0)) 0 ≡ allZero (take (i + 1) s)
+gathers s i any h so-far = none-set any (getD s i 0) ∙ rw (so-far, ← zeros-and, add-one, take-suc s i 0 h)
 
 fails : (b : Bool) → cond b false false ≡ false
 fails true = refl

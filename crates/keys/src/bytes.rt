@@ -4,6 +4,7 @@ ghost use Rattle.paper.specs.Tokens as paper;
 ghost use Rattle.paper.specs.Tokens.{sameBytes};
 ghost use Rattle.paper.specs.Keys.{allZero};
 
+// Whether a byte lies between two others, both of them included.
 pub fn within(low: u8, high: u8, byte: u8) -> bool
     ensures { λ r. ⌜ r ≡ paper.within low high byte ⌝ }
 {
@@ -13,7 +14,7 @@ pub fn within(low: u8, high: u8, byte: u8) -> bool
     byte <= high
 }
 
-// The lengths first: no byte is read that one of the two does not have.
+// Whether two slices hold the same bytes. The lengths come first: no byte is read that one of the two does not have.
 pub fn same_bytes(a: &[u8], b: &[u8]) -> bool
     ensures { λ r. ⌜ r ≡ sameBytes (now (a .entry)) (now (b .entry)) ⌝ }
 {
@@ -30,15 +31,16 @@ pub fn same_bytes(a: &[u8], b: &[u8]) -> bool
     true
 }
 
+// Whether every byte is zero. All of them are looked at, whatever the first ones are: with no way out of the loop the compiler takes
+// many bytes at a time.
 pub fn all_zero(s: &[u8]) -> bool
     ensures { λ r. ⌜ r ≡ allZero (now (s .entry)) ⌝ }
 {
+    let mut any: u8 = 0;
     let mut i = 0;
     while i < s.len() {
-        if s[i] != 0 {
-            return false;
-        }
+        any = any | s[i];
         i += 1;
     }
-    true
+    any == 0
 }

@@ -13,6 +13,7 @@ pub enum Entered {
     Refused(u8, Place),
 }
 
+// Whether an entry conforms to a good key list, or its refusal, 19 or 20.
 pub fn check_entry(list: &[u8], entry: &[u8]) -> Entered
     ensures { λ r. ⌜ enteredSays r ≡ conforms (keysIn (now (list .entry))) (now (entry .entry)) ⌝ }
 {

@@ -20,6 +20,7 @@ impl Entry {
 
     pub const HIGHEST: u32 = 0x7fff_ffff;
 
+    // Reads the head of an entry.
     pub fn read(entry: &[u8]) -> Entry
         requires { ⌜ headSize ≤ length (now entry) ⌝ }
         ensures { λ r. ⌜ r .priority ≡ priorityOf (now (entry .entry)) ⌝ }
@@ -40,7 +41,7 @@ pub struct Matched {
 impl Matched {
     pub const SIZE: usize = 36;
 
-    // A key of an entry, present or absent.
+    // Reads the record of key k in an entry, present or absent.
     pub fn read(list: &[u8], entry: &[u8], k: usize) -> Matched
         requires { ⌜ k < length (now list) / recordSize ⌝ }
         requires { ⌜ byteAt (recordAt (now list) k) 2 ≤ 128 ⌝ }
@@ -54,7 +55,8 @@ impl Matched {
         Matched::spelled_out(bytes)
     }
 
-    pub fn spelled_out(bytes: &[u8]) -> Matched
+    // Reads a record as it is spelled out, as if its key were present.
+    pub(crate) fn spelled_out(bytes: &[u8]) -> Matched
         requires { ⌜ length (now bytes) ≡ matchSize ⌝ }
         ensures { λ r. ⌜ meant r ≡ spelledOut (now (bytes .entry)) ⌝ }
     {
@@ -84,7 +86,8 @@ impl Matched {
     }
 }
 
-pub fn match_at(entry: &[u8], k: usize) -> &[u8]
+// The bytes of key k's record in an entry.
+pub(crate) fn match_at(entry: &[u8], k: usize) -> &[u8]
     requires { ⌜ headSize + (k + 1) * matchSize ≤ length (now entry) ⌝ }
     ensures { λ r. ⌜ now r ≡ matchAt (now (entry .entry)) k ⌝ }
     ensures { λ r. ⌜ length (now r) ≡ matchSize ⌝ }

@@ -13,8 +13,8 @@ pub enum Found {
     Nothing,
 }
 
-// Among the first n keys.
-pub fn find_among(list: &[u8], n: usize, word: &[u8]) -> Found
+// The first of the first n keys that has a name.
+pub(crate) fn find_among(list: &[u8], n: usize, word: &[u8]) -> Found
     requires { ⌜ n ≤ length (now list) / recordSize ⌝ }
     ensures { λ r. ⌜ found r ≡ find (keysFrom (now (list .entry)) 0 n) (now (word .entry)) ⌝ }
 {
@@ -28,6 +28,7 @@ pub fn find_among(list: &[u8], n: usize, word: &[u8]) -> Found
     Found::Nothing
 }
 
+// The first key of a list that has a name.
 pub fn find_key(list: &[u8], word: &[u8]) -> Found
     ensures { λ r. ⌜ found r ≡ find (keysIn (now (list .entry))) (now (word .entry)) ⌝ }
 {

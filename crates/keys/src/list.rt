@@ -13,6 +13,7 @@ pub enum Listed {
     Refused(u8, Place),
 }
 
+// How many keys a list holds, or its refusal, 2, 3 or 4.
 pub fn check_list(list: &[u8]) -> Listed
     ensures { λ r. ⌜ listedSays r ≡ keyCount (now (list .entry)) ⌝ }
 {

@@ -35,6 +35,7 @@ impl KeyRecord {
 
     pub const OPTIONAL: u8 = 4;
 
+    // Reads the kind and the width of key k.
     pub fn read(list: &[u8], k: usize) -> KeyRecord
         requires { ⌜ k < length (now list) / recordSize ⌝ }
         ensures { λ r. ⌜ r .kind ≡ byteAt (recordAt (now (list .entry)) k) 1 ⌝ }
@@ -48,7 +49,8 @@ impl KeyRecord {
     }
 }
 
-pub fn record_at(list: &[u8], k: usize) -> &[u8]
+// The bytes of key k's record in the list.
+pub(crate) fn record_at(list: &[u8], k: usize) -> &[u8]
     requires { ⌜ k < length (now list) / recordSize ⌝ }
     ensures { λ r. ⌜ now r ≡ recordAt (now (list .entry)) k ⌝ }
     ensures { λ r. ⌜ length (now r) ≡ recordSize ⌝ }
@@ -58,8 +60,8 @@ pub fn record_at(list: &[u8], k: usize) -> &[u8]
     &list[from..to]
 }
 
-// The name never leaves the record, whatever the record's first byte says.
-pub fn name_of(key: &[u8]) -> &[u8]
+// The name in a key's record, which it never leaves, whatever the record's first byte says.
+pub(crate) fn name_of(key: &[u8]) -> &[u8]
     requires { ⌜ length (now key) ≡ recordSize ⌝ }
     ensures { λ r. ⌜ now r ≡ nameOf (now (key .entry)) ⌝ }
 {
@@ -83,7 +85,8 @@ fn name_ok(s: &[u8]) -> bool
     !bytes::same_bytes(s, b"false")
 }
 
-pub fn record_ok(key: &[u8]) -> bool
+// Whether a key's record keeps its layout.
+pub(crate) fn record_ok(key: &[u8]) -> bool
     requires { ⌜ length (now key) ≡ recordSize ⌝ }
     ensures { λ r. ⌜ r ≡ recordOk (now (key .entry)) ⌝ }
 {

@@ -130,7 +130,8 @@ fn present_ok(key: KeyRecord, bytes: &[u8]) -> bool
     kind_ok(key, m)
 }
 
-pub fn match_ok(key: KeyRecord, bytes: &[u8]) -> bool
+// Whether a key's record in an entry keeps the rule of the key's kind.
+pub(crate) fn match_ok(key: KeyRecord, bytes: &[u8]) -> bool
     requires { ⌜ length (now bytes) ≡ matchSize ⌝ }
     ensures { λ r. ⌜ r ≡ matchOk (unnamed key) (now (bytes .entry)) ⌝ }
 {

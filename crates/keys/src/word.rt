@@ -6,6 +6,7 @@ ghost use Rattle.paper.specs.Tokens.{isIdStart, isIdByte, wordMore, isKey};
 ghost use Rattle.keys.specs.Words.{goesOn};
 use crate::bytes;
 
+// Whether a byte may begin an id: a letter or an underscore.
 pub fn is_id_start(byte: u8) -> bool
     ensures { λ r. ⌜ r ≡ isIdStart byte ⌝ }
 {
@@ -18,6 +19,7 @@ pub fn is_id_start(byte: u8) -> bool
     byte == b'_'
 }
 
+// Whether a byte may stand in an id: a letter, a digit or an underscore.
 pub fn is_id_byte(byte: u8) -> bool
     ensures { λ r. ⌜ r ≡ isIdByte byte ⌝ }
 {
@@ -43,7 +45,7 @@ fn goes_on(s: &[u8], i: usize) -> bool
     is_id_start(s[i + 1])
 }
 
-// How many bytes go on a word from an offset.
+// How many bytes from an offset on belong to a word that began before it.
 pub fn word_more(s: &[u8], at: usize) -> usize
     ensures { λ r. ⌜ r ≡ wordMore (drop at (now (s .entry))) ⌝ }
 {
@@ -57,7 +59,8 @@ pub fn word_more(s: &[u8], at: usize) -> usize
     i - at
 }
 
-pub fn is_key(s: &[u8]) -> bool
+// Whether bytes are a key by the grammar: one word, and nothing else.
+pub(crate) fn is_key(s: &[u8]) -> bool
     ensures { λ r. ⌜ r ≡ isKey (now (s .entry)) ⌝ }
 {
     if s.len() == 0 {

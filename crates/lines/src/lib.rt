@@ -13,10 +13,12 @@ use paper::Place;
 use paper::Reading;
 use paper::Translation;
 
+// Writes bytes as they are.
 pub fn say(s: &[u8]) {
     io::write_all(STDOUT_FILENO, s);
 }
 
+// Writes a number in decimal.
 pub fn say_number(n: u64) {
     io::print_decimal(STDOUT_FILENO, n);
 }
@@ -38,6 +40,7 @@ fn say_refused(number: u8, place: Place) {
     }
 }
 
+// Writes what `read` answered.
 pub fn say_reading(reading: Reading) {
     match reading {
         Reading::Read(n) => say_count(b"read ", n),
@@ -45,6 +48,7 @@ pub fn say_reading(reading: Reading) {
     }
 }
 
+// Writes what `check` answered.
 pub fn say_checking(checking: Checking) {
     match checking {
         Checking::Passed => say(b"passed"),
@@ -52,6 +56,7 @@ pub fn say_checking(checking: Checking) {
     }
 }
 
+// Writes what `judge` or `run` answered.
 pub fn say_judgement(judgement: Judgement) {
     match judgement {
         Judgement::Accepted => say(b"accepted"),
@@ -60,6 +65,7 @@ pub fn say_judgement(judgement: Judgement) {
     }
 }
 
+// Writes what `translate` answered.
 pub fn say_translation(translation: Translation) {
     match translation {
         Translation::Written(n) => say_count(b"translated ", n),
@@ -67,6 +73,7 @@ pub fn say_translation(translation: Translation) {
     }
 }
 
+// Writes what `load` answered.
 pub fn say_loading(loading: Loading) {
     match loading {
         Loading::Loaded(n) => say_count(b"loaded ", n),

@@ -78,8 +78,8 @@ fn op_of(p: Parts) -> Op
     }
 }
 
-// Where an instruction begins.
-pub fn place_of(i: usize) -> usize
+// The offset of the first byte of instruction number i.
+pub(crate) fn place_of(i: usize) -> usize
     requires { ⌜ instructionAt i < 2 ^ 64 ⌝ }
     ensures { λ r. ⌜ r ≡ instructionAt i ⌝ }
 {
@@ -88,7 +88,8 @@ pub fn place_of(i: usize) -> usize
         + Block::INSTRUCTION * (i % Block::INSTRUCTIONS)
 }
 
-pub fn instruction_at(blocks: &[u8], i: usize) -> Instruction
+// The instruction number i of blocks.
+pub(crate) fn instruction_at(blocks: &[u8], i: usize) -> Instruction
     requires { ⌜ instructionAt i + instructionSize ≤ length (now blocks) ⌝ }
     ensures { λ r. ⌜ instructionMeant r ≡ decode (partsAt (now (blocks .entry)) (instructionAt i)) ⌝ }
 {

@@ -33,7 +33,7 @@ pub struct Instruction {
 }
 
 // How many operands an instruction takes.
-pub fn takes(instruction: Instruction) -> usize
+pub(crate) fn takes(instruction: Instruction) -> usize
     ensures { λ r. ⌜ ((ks : List Key) → r ≡ takesOf (actionOf (typeAction ks) (instructionMeant instruction))) ⌝ }
 {
     let op = instruction.op;
@@ -53,7 +53,7 @@ pub fn takes(instruction: Instruction) -> usize
 }
 
 // A width as it is read.
-pub fn narrow(width: u8) -> u8
+pub(crate) fn narrow(width: u8) -> u8
     ensures { λ r. ⌜ (r ≡ min width 128) × (r ≤ 128) ⌝ }
 {
     if width < 128 { width } else { 128 }

@@ -10,7 +10,4 @@ mod instruction;
 mod running;
 
 pub use checking::check_types;
-pub use decoding::instruction_at;
-pub use instruction::Instruction;
-pub use instruction::Op;
 pub use running::run_loaded;

@@ -41,7 +41,7 @@ fn left_by(list: &[u8], entry: &[u8], instruction: Instruction, low: Cell, top: 
     }
 }
 
-// Whether the bool that is left at the end is true.
+// Whether the bool is true that n loaded instructions leave on an entry that conforms.
 pub fn run_loaded(list: &[u8], blocks: &[u8], entry: &[u8], n: usize) -> bool
     requires { ⌜ Conforming (now list) (now entry) ⌝ }
     requires { ⌜ loaded (keysIn (now list)) (now blocks) ≡ ok n ⌝ }

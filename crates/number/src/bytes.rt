@@ -13,7 +13,7 @@ fn wide(byte: u8) -> u32
     byte as u32
 }
 
-// The number that four bytes are.
+// The number that four bytes from an offset on are.
 pub fn word(s: &[u8], at: usize) -> u32
     requires { ⌜ at + 4 ≤ length (now s) ⌝ }
     ensures { λ r. ⌜ r ≡ numberAt (now (s .entry)) at 4 ⌝ }
@@ -32,6 +32,7 @@ fn put_word(out: &mut [u8], at: usize, n: u32)
 }
 
 impl Magnitude {
+    // The number that 16 bytes from an offset on are.
     pub fn from_bytes(s: &[u8], at: usize) -> Magnitude
         requires { ⌜ at + 16 ≤ length (now s) ⌝ }
         ensures { λ r. ⌜ value r ≡ numberAt (now (s .entry)) at 16 ⌝ }
@@ -46,6 +47,7 @@ impl Magnitude {
         }
     }
 
+    // Writes the number into 16 bytes from an offset on; every other byte stays.
     pub fn put_bytes(self, out: &mut [u8], at: usize)
         requires { ⌜ at + 16 ≤ length (now out) ⌝ }
         ensures { λ _. ⌜ now (out .exit) ≡ sets (now (out .entry)) at (bigEndian 16 (value self)) ⌝ }

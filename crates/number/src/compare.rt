@@ -5,6 +5,7 @@ ghost use Rattle.number.specs.Values.{value};
 use crate::magnitude::Magnitude;
 
 impl Magnitude {
+    // Whether this number is below the other.
     pub fn less(self, other: Magnitude) -> bool
         ensures { λ r. ⌜ r ≡ ltb (value self) (value other) ⌝ }
     {
@@ -26,6 +27,7 @@ impl Magnitude {
         self.limbs[0] < other.limbs[0]
     }
 
+    // Whether the two numbers are equal.
     pub fn equal(self, other: Magnitude) -> bool
         ensures { λ r. ⌜ r ≡ eqb (value self) (value other) ⌝ }
     {
@@ -47,6 +49,7 @@ impl Magnitude {
         self.limbs[0] == other.limbs[0]
     }
 
+    // Whether the number is zero.
     pub fn is_zero(self) -> bool
         ensures { λ r. ⌜ r ≡ eqb (value self) 0 ⌝ }
     {

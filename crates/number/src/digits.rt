@@ -27,6 +27,7 @@ fn scaled(limb: u32, base: u32, over: u32) -> Carried
 }
 
 impl Magnitude {
+    // The number with one more digit written after it: its lowest 128 bits, and whether these are all.
     pub fn grow(self, base: u32, digit: u32) -> Grown
         ensures { λ r. ⌜ Grows (value self * base + digit) r ⌝ }
     {

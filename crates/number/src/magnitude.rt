@@ -7,12 +7,14 @@ pub struct Magnitude {
 }
 
 impl Magnitude {
+    // The number zero.
     pub fn zero() -> Magnitude
         ensures { λ r. ⌜ value r ≡ 0 ⌝ }
     {
         Magnitude::of(0)
     }
 
+    // A number below 2^32.
     pub fn of(n: u32) -> Magnitude
         ensures { λ r. ⌜ value r ≡ n ⌝ }
     {

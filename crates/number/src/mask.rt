@@ -6,7 +6,7 @@ ghost use Rattle.number.specs.Values.{value};
 use crate::magnitude::Magnitude;
 
 impl Magnitude {
-    // Whether no bit lies outside the mask.
+    // Whether the number has no bit outside the mask.
     pub fn inside(self, mask: Magnitude) -> bool
         ensures { λ r. ⌜ r ≡ eqb (bitAnd (value self) (value mask)) (value self) ⌝ }
     {

@@ -12,6 +12,7 @@ pub struct Whole {
 }
 
 impl Whole {
+    // The whole number of this size that is not negative.
     pub fn of(size: Magnitude) -> Whole
         ensures { λ r. ⌜ wholeOf r ≡ pos (value size) ⌝ }
     {
@@ -21,6 +22,7 @@ impl Whole {
         }
     }
 
+    // The whole number of the same size and the other sign.
     pub fn negated(self) -> Whole
         ensures { λ r. ⌜ wholeOf r ≡ negℤ (wholeOf self) ⌝ }
     {
@@ -31,7 +33,8 @@ impl Whole {
         }
     }
 
-    pub fn below_zero(self) -> bool
+    // Whether the whole number is negative and not zero.
+    fn below_zero(self) -> bool
         ensures { λ r. ⌜ r ≡ lessWhole (wholeOf self) (pos 0) ⌝ }
     {
         let size = self.size;
@@ -41,6 +44,7 @@ impl Whole {
         false
     }
 
+    // Whether the two whole numbers are equal.
     pub fn equal(self, other: Whole) -> bool
         ensures { λ r. ⌜ r ≡ sameWhole (wholeOf self) (wholeOf other) ⌝ }
     {
@@ -58,6 +62,7 @@ impl Whole {
         a.equal(b)
     }
 
+    // Whether this whole number is below the other.
     pub fn less(self, other: Whole) -> bool
         ensures { λ r. ⌜ r ≡ lessWhole (wholeOf self) (wholeOf other) ⌝ }
     {

@@ -47,7 +47,8 @@ fn taken(limb: u32, owed: bool) -> Borrowed
 }
 
 impl Magnitude {
-    pub fn lowest(self, w: u32) -> Magnitude
+    // The number that the lowest w bits are.
+    pub(crate) fn lowest(self, w: u32) -> Magnitude
         ensures { λ r. ⌜ value r ≡ value self % 2 ^ w ⌝ }
     {
         Magnitude {
@@ -60,6 +61,7 @@ impl Magnitude {
         }
     }
 
+    // The remainder modulo 2^w of the number taken from zero; a w past 128 counts as 128.
     pub fn minus(self, w: u32) -> Magnitude
         ensures { λ r. ⌜ value r ≡ modulo (negℤ (pos (value self))) (2 ^ min w 128) ⌝ }
     {
@@ -73,7 +75,7 @@ impl Magnitude {
         all.lowest(w)
     }
 
-    // A row of w ones.
+    // The number that is a row of w ones, 2^w - 1; a w past 128 counts as 128.
     pub fn ones(w: u32) -> Magnitude
         ensures { λ r. ⌜ value r ≡ 2 ^ min w 128 - 1 ⌝ }
     {
@@ -83,13 +85,14 @@ impl Magnitude {
         all.lowest(w)
     }
 
+    // Whether the number is below 2^w.
     pub fn fits(self, w: u32) -> bool
         ensures { λ r. ⌜ r ≡ ltb (value self) (2 ^ w) ⌝ }
     {
         self.lowest(w).equal(self)
     }
 
-    // Whether the lowest k bits are zero.
+    // Whether the lowest k bits of the number are zero.
     pub fn low_clear(self, k: u32) -> bool
         ensures { λ r. ⌜ r ≡ eqb (value self % 2 ^ k) 0 ⌝ }
     {

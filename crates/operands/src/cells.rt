@@ -15,6 +15,7 @@ use keys::Matched;
 use number::Magnitude;
 use values::Cell;
 
+// The value of key k in an entry.
 pub fn bare_cell(list: &[u8], entry: &[u8], k: usize) -> Cell
     requires { ⌜ Conforming (now list) (now entry) ⌝ }
     ensures { λ r. ⌜ Is (bareValue (keysIn (now (list .entry))) (entryIn (now (list .entry)) (now (entry .entry))) k) (held r) ⌝ }
@@ -27,7 +28,7 @@ pub fn bare_cell(list: &[u8], entry: &[u8], k: usize) -> Cell
     Cell::matched(key.kind, key.width, m.first, m.second, m.length)
 }
 
-// A field by its number in document 01.
+// The value of a field of key k in an entry, by the field's number in document 01.
 pub fn field_cell(list: &[u8], entry: &[u8], field: u8, k: usize) -> Cell
     requires { ⌜ Conforming (now list) (now entry) ⌝ }
     ensures { λ r. ⌜ Is (fieldValue (keysIn (now (list .entry))) (entryIn (now (list .entry)) (now (entry .entry))) (fieldOf field) k) (held r) ⌝ }
@@ -40,6 +41,7 @@ pub fn field_cell(list: &[u8], entry: &[u8], field: u8, k: usize) -> Cell
     Cell::field(field, key.width, m.first, m.second, m.length)
 }
 
+// The value of the entry's priority.
 pub fn priority_cell(entry: &[u8]) -> Cell
     requires { ⌜ headSize ≤ length (now entry) ⌝ }
     ensures { λ r. ⌜ held r ≡ whole (pos (priorityOf (now (entry .entry)))) ⌝ }

@@ -9,6 +9,7 @@ use values::fields::field_type;
 use values::types::Type;
 use values::types::Typing;
 
+// The type of key k, where the list has it.
 pub fn bare_type(list: &[u8], k: usize) -> Typing
     ensures { λ r. ⌜ typingMeant r ≡ bareType (keysIn (now (list .entry))) k ⌝ }
 {
@@ -19,7 +20,7 @@ pub fn bare_type(list: &[u8], k: usize) -> Typing
     Typing::Is(Type::Of(key.kind, key.width))
 }
 
-// A field by its number in document 01.
+// The type of a field of key k, by the field's number in document 01, where the list has the key and the key the field.
 pub fn field_type_at(list: &[u8], field: u8, k: usize) -> Typing
     ensures { λ r. ⌜ typingMeant r ≡ fieldType (keysIn (now (list .entry))) (fieldOf field) k ⌝ }
 {

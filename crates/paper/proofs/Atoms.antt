@@ -4,7 +4,7 @@ use mathlib.Core.Path.{_≡_, refl}
 use mathlib.Core.Bool.{Bool, true, false, cond}
 use mathlib.Core.Option.{Option, none, some}
 use mathlib.Core.List.{List, [], _∷_}
-use Rattle.paper.specs.Tokens.{bytes, sameBytes, undotted, join, comparison, prefix, opening, closing, colons, Tok, word, numeral, string, sign, Token}
+use Rattle.paper.specs.Tokens.{plain, bytes, sameBytes, undotted, join, comparison, prefix, opening, closing, colons, Tok, word, numeral, string, sign, Token}
 use Rattle.paper.specs.Addresses.{Scheme, schemeOf}
 use Rattle.paper.specs.Grammar.{Tree, truth, number, key, field, got, stuck, ends, Reader, closed, named, addressWith, addressed, opensAddress, keyed, worded}
 use Rattle.paper.specs.Sentences.{tokenAt, signAt, Name, Operand, a-true, a-false, an-address, a-key, a-field, a-string}
@@ -64,11 +64,11 @@ module _ (reads : Kind → Reader) (readers : Readers reads) where
   -- the string and ")" of an address
   module _ (R : Family) (s : Scheme) (at : ℕ)
       (string-of : (k : Kind) (b : ℕ) (q : List ℕ) (n c : ℕ) → reads k s q ≡ some n
-      → R k (number at n) (tokenAt b (string q) ∷ signAt c closing ∷ [])) where
+      → R k (number at (plain n)) (tokenAt b (string q) ∷ signAt c closing ∷ [])) where
     address-begun : Begun R []
     address-begun k =
         let (q, n, e) = readers .good s in
-        (number at n, tokenAt 0 (string q) ∷ signAt 0 closing ∷ [], string-of k 0 q n 0 (e k))
+        (number at (plain n), tokenAt 0 (string q) ∷ signAt 0 closing ∷ [], string-of k 0 q n 0 (e k))
 
     address-at : (b : ℕ) (x : Tok) (us : List Token)
         → Says (addressed (reads exact) s at) R (tokenAt b x ∷ us) (addressed (reads exact) s at (tokenAt b x ∷ us))
@@ -84,12 +84,12 @@ module _ (reads : Kind → Reader) (readers : Readers reads) where
               us,
               refl,
               a-string b q,
-              stays (of-next _ λ ws. rw e) (address-begun, (number at n, signAt 0 closing ∷ [], string-of laxer b q n 0 found)),
+              stays (of-next _ λ ws. rw e) (address-begun, (number at (plain n), signAt 0 closing ∷ [], string-of laxer b q n 0 found)),
             )
         go (some n) e =
-            extend (addressed (reads exact) s at) (closed (number at n)) R (tokenAt b (string q) ∷ us)
+            extend (addressed (reads exact) s at) (closed (number at (plain n))) R (tokenAt b (string q) ∷ us)
             (tokenAt b (string q) ∷ []) us refl (λ vs s. rw e)
-            (closes-says (λ k r ws. R k r (tokenAt b (string q) ∷ ws)) (number at n)
+            (closes-says (λ k r ws. R k r (tokenAt b (string q) ∷ ws)) (number at (plain n))
             (λ k c. string-of k b q n c (readers .kept s q n e k)) us)
     address-at b (sign g) us = stays (of-next _ λ ws. refl) address-begun
 

@@ -58,6 +58,10 @@ pub all-append : {A : Type 0} (P : A → Type 0) (xs ys : List A) → All P xs �
 all-append P [] ys h k = k
 all-append P (x ∷ xs) ys h k = (h .0, all-append P xs ys (h .1) k)
 
+pub all-parts : {A : Type 0} (P : A → Type 0) (xs ys : List A) → All P (xs ++ ys) → All P xs × All P ys
+all-parts P [] ys h = (tt, h)
+all-parts P (x ∷ xs) ys h = let rest = all-parts P xs ys (h .1) in ((h .0, rest .0), rest .1)
+
 pub some-below : {A : Type 0} (xs : List A) (i : ℕ) (x : A) → getElem? xs i ≡ some x → i < length xs
 some-below [] i x h = absurd (Option·none-ne-some x h)
 some-below (y ∷ xs) zero x h = omega arith

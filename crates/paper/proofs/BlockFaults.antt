@@ -1,21 +1,20 @@
 -- Refusals 16 and 17 by the table.
-use Prim.Native.Nat.{ℕ, zero, suc, _+_, _*_, _-_, _%_, _≤_, _<_}
-use native.Mathlib.Numerals.{add-one}
+use Prim.Native.Nat.{ℕ, _*_, _%_, _≤_, _<_}
 use native.Mathlib.Omega.{arith}
-use mathlib.Core.Path.{_≡_, refl, sym, ap, subst, _∙_}
+use mathlib.Core.Path.{_≡_, refl, sym, subst, _∙_}
 use mathlib.Core.Logic.{_⊎_, inl, inr}
-use mathlib.Core.Bool.{Bool, true, false, cond, _&&_, and-eq-true-iff, true≢false}
+use mathlib.Core.Bool.{Bool, true, false, _&&_, and-eq-true-iff, true≢false}
 use mathlib.Core.List.{List}
 use lib.ListN.{length}
 use lib.Dec.{eqb, ltb, leb}
 use borrow.Author.Tests.{eqb-true, eqb-false, leb-true, leb-false, ltb-true, ltb-false}
-use Rattle.paper.specs.Answers.{Answer, ok, refused, _>>=_, require, inBlocks}
-use Rattle.paper.specs.Blocks.{blockSize, mostBlocks, blockOk, layoutFrom}
-use Rattle.paper.specs.Faults.{BlocksSize, no-blocks, blocks-uneven, blocks-over, blocksIn, BlocksLayout, block-broken}
+use Rattle.paper.specs.Answers.{require, inTurn, inBlocks}
+use Rattle.paper.specs.Blocks.{blockSize, mostBlocks, blocksIn, blockOk, blockTest}
+use Rattle.paper.specs.Faults.{BlocksSize, no-blocks, blocks-uneven, blocks-over, BlocksLayout, block-broken}
 use Rattle.paper.specs.Table.{Free}
 use Rattle.paper.proofs.Basics.{either-false}
 use Rattle.paper.proofs.Staged.{Tells, test-tells}
-use Rattle.paper.proofs.Earliest.{testsFrom, Indexed, test-tells-at, tests-tell}
+use Rattle.paper.proofs.Earliest.{Indexed, test-tells-at, tests-tell}
 
 -- the length
 
@@ -69,45 +68,21 @@ module _ (keys : ℕ) (blocks : List ℕ) where
   abbrev total : ℕ
   total = blocksIn blocks
 
-  abbrev right : ℕ → Bool
-  right k = blockOk keys blocks k (total - suc k)
-
-  abbrev verdict : Bool → ℕ → Answer (Unit {0})
-  verdict good k = cond good (ok tt) (refused 17 inBlocks (k * blockSize))
-
-  abbrev blockTest : ℕ → Answer (Unit {0})
-  blockTest k = verdict (right k) k
-
-  layout-tests : (n k : ℕ) → k + n ≡ total → layoutFrom keys blocks k n ≡ testsFrom blockTest k n
-  layout-tests zero k whole = refl
-  layout-tests (suc n) k whole =
-      let behind : total - suc k ≡ n = omega arith in
-      ap (λ m. cond (blockOk keys blocks k n) (layoutFrom keys blocks m n) (refused 17 inBlocks (k * blockSize))) (add-one k)
-      ∙ go (blockOk keys blocks k n) (layout-tests n (suc k) (omega arith))
-      ∙ ap (λ m. verdict (blockOk keys blocks k m) k >>= λ _. testsFrom blockTest (suc k) n) (sym behind)
-    where
-      go : (b : Bool) → layoutFrom keys blocks (suc k) n ≡ testsFrom blockTest (suc k) n
-          → cond b (layoutFrom keys blocks (suc k) n) (refused 17 inBlocks (k * blockSize))
-          ≡ (verdict b k >>= λ _. testsFrom blockTest (suc k) n)
-      go true h = h
-      go false h = refl
-
   indexed : Indexed (BlocksLayout keys blocks) total (λ k. k * blockSize)
   indexed = record { index = index; rises = λ j k l. omega arith }
     where
       index : (n at : ℕ) → BlocksLayout keys blocks n at → (k : ℕ) × (k < total) × (at ≡ k * blockSize)
       index n at (block-broken k l h) = (k, l, refl)
 
-  broken-at : (k n at : ℕ) → BlocksLayout keys blocks n at → at ≡ k * blockSize → right k ≡ false
-  broken-at k n at (block-broken j l h) e = let same : j ≡ k = omega arith in subst (λ x. right x ≡ false) same h
+  broken-at : (k n at : ℕ) → BlocksLayout keys blocks n at → at ≡ k * blockSize → blockOk keys blocks k ≡ false
+  broken-at k n at (block-broken j l h) e = let same : j ≡ k = omega arith in subst (λ x. blockOk keys blocks x ≡ false) same h
 
   only : (n at : ℕ) → BlocksLayout keys blocks n at → n ≡ 17
   only n at (block-broken k l h) = refl
 
-  pub blocks-layout-tells : Tells inBlocks (BlocksLayout keys blocks) (layoutFrom keys blocks 0 total)
+  pub blocks-layout-tells : Tells inBlocks (BlocksLayout keys blocks) (inTurn (blockTest keys blocks) 0 total)
   blocks-layout-tells =
-      rw (layout-tests total 0 (omega arith))
-      (tests-tell inBlocks (BlocksLayout keys blocks) total (λ k. k * blockSize) indexed blockTest
+      tests-tell inBlocks (BlocksLayout keys blocks) total (λ k. k * blockSize) indexed (blockTest keys blocks)
       (λ k l.
-      test-tells-at inBlocks (BlocksLayout keys blocks) total (λ k. k * blockSize) indexed k 17 (right k)
-      (λ good n h. true≢false (sym good ∙ broken-at k n (k * blockSize) h refl)) (block-broken k l) only))
+      test-tells-at inBlocks (BlocksLayout keys blocks) total (λ k. k * blockSize) indexed k 17 (blockOk keys blocks k)
+      (λ good n h. true≢false (sym good ∙ broken-at k n (k * blockSize) h refl)) (block-broken k l) only)

@@ -7,14 +7,14 @@ use mathlib.Core.Logic.{_≢_}
 use mathlib.Core.Option.{Option, none, some}
 use mathlib.Core.List.{List, [], _∷_, _++_, map, map-append}
 use lib.ListN.{length, length-map}
-use Rattle.paper.specs.Answers.{Answer, ok, refused, _>>=_, require, inBlocks}
+use Rattle.paper.specs.Answers.{Answer, ok, refused, _>>=_, require, inTurn, inBlocks}
 use Rattle.paper.specs.Keys.{Key, keys}
 use Rattle.paper.specs.Types.{Ty, bool, int, of}
 use Rattle.paper.specs.Code.{Action, act, Walk, fails, ends, goOn, walk, typeAction, actionOf}
-use Rattle.paper.specs.Blocks.{totalOf, layoutFrom, layout}
+use Rattle.paper.specs.Blocks.{blocksIn, totalOf, blockTest, layout}
 use Rattle.paper.specs.Loading.{program, typesAlong, endOk, loadCheck, loaded}
 use Rattle.paper.specs.Calls.{loadAnswer}
-use Rattle.paper.specs.Faults.{Faults, blocksIn, BlocksSize, BlocksLayout, BlocksCode, instruction-fails, end-not-bool}
+use Rattle.paper.specs.Faults.{Faults, BlocksSize, BlocksLayout, BlocksCode, instruction-fails, end-not-bool}
 use Rattle.paper.specs.Table.{stage, Given, blockStages, loadStages}
 use Rattle.paper.proofs.Stages.{bind-again}
 use Rattle.paper.proofs.Walks.{onWalk, walk-append}
@@ -138,7 +138,7 @@ pub blocks-follow : (list : List ℕ) (ks : List Key) (blocks : List ℕ) → ke
 unfolding loaded layout
 blocks-follow list ks blocks listed =
     let size = require (blocksSized blocks) 16 inBlocks (length blocks) in
-    let lay = layoutFrom (length ks) blocks 0 (blocksIn blocks) in
+    let lay = inTurn (blockTest (length ks) blocks) 0 (blocksIn blocks) in
     let types = loadCheck (length blocks) (typesAlong ks (program blocks)) in
     let two : List Key → Faults = λ ks. BlocksLayout (length ks) blocks in
     let three : List Key → Faults = λ ks. BlocksCode ks blocks in

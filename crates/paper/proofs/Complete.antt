@@ -2,13 +2,13 @@
 -- what is so below them.
 use Prim.Native.Nat.{ℕ}
 use mathlib.Core.Path.{_≡_, refl, sym, ap, _∙_}
-use mathlib.Core.Bool.{Bool, true, false, true≢false}
+use mathlib.Core.Bool.{Bool, true, false, cond, _||_, true≢false}
 use mathlib.Core.Option.{Option, none, some, Option·none-ne-some}
 use mathlib.Core.List.{List, [], _∷_, _++_, append-assoc, append-nil}
 use native.Mathlib.Omega.{arith}
-use Rattle.paper.specs.Tokens.{bytes, closing, Token}
+use Rattle.paper.specs.Tokens.{bytes, opening, closing, colons, Token}
 use Rattle.paper.specs.Addresses.{Scheme, schemeOf}
-use Rattle.paper.specs.Grammar.{Tree, key, got, stuck, Out, ends, _>>>_, Parser, Make, Reader, onceMore, once, behind, chain, Mark, opens, closes, doubles, others, markOf, closed, keyAt, keyed, worded, operand}
+use Rattle.paper.specs.Grammar.{Tree, key, field, got, stuck, Out, ends, _>>>_, Parser, Make, Reader, onceMore, once, behind, chain, isSign, closed, named, opensAddress, keyed, worded, operand}
 use Rattle.paper.specs.Sentences.{Phrases, signAt, Name, Operator, Once, none-of, one-of, Chain, first, further, Trailing, without, trailing, Operand, a-true, a-false, a-numeral, an-address, a-key, a-field, an-attribute, a-prefixed, a-parenthesis}
 use Rattle.paper.proofs.Words.{bytes-not}
 use Rattle.paper.proofs.Operators.{Finds}
@@ -89,31 +89,25 @@ module _ {fn : Token → Option Make} {op : Operator} (finds : Finds fn op) {p :
 
 -- operands
 
-abbrev endsAtom : Mark → Bool
-endsAtom opens = false
-endsAtom closes = true
-endsAtom doubles = false
-endsAtom others = true
-
 -- a token that goes on with no atom
 abbrev pub AfterAtom : Token → Type 0
-AfterAtom u = endsAtom (markOf (u .tok)) ≡ true
+AfterAtom u = isSign colons (u .tok) || isSign opening (u .tok) ≡ false
 
 module _ (read : Reader) (inner outer : ℕ → Parser) (Inner Outer : Phrases) (F : Token → Type 0)
     (inner-takes : (at : ℕ) (t : Tree) (ts us : List Token) → Inner t ts → Next AfterAtom us
     → inner at (ts ++ us) ≡ ends (got t) us)
     (outer-takes : (at : ℕ) (t : Tree) (ts us : List Token) → Outer t ts → Next F us → outer at (ts ++ us) ≡ ends (got t) us)
     (closing-follows : (at : ℕ) → F (signAt at closing)) where
-  key-ends : (at : ℕ) (w : List ℕ) (m : Mark) (u : Token) (us : List Token) → endsAtom m ≡ true
-      → keyAt read at w m u us ≡ ends (got (key at w)) (u ∷ us)
-  key-ends at w opens u us h = absurd (true≢false (sym h))
-  key-ends at w closes u us h = refl
-  key-ends at w doubles u us h = absurd (true≢false (sym h))
-  key-ends at w others u us h = refl
-
   key-takes : (at : ℕ) (w : List ℕ) (us : List Token) → Next AfterAtom us → keyed read at w us ≡ ends (got (key at w)) us
   key-takes at w [] h = refl
-  key-takes at w (u ∷ us) h = key-ends at w (markOf (u .tok)) u us h
+  key-takes at w (u ∷ us) h = go (isSign colons (u .tok)) (isSign opening (u .tok)) h
+    where
+      go : (c o : Bool) → c || o ≡ false
+          → cond c (named (field at w) us) (cond o (opensAddress read (schemeOf w) at w u us) (ends (got (key at w)) (u ∷ us)))
+          ≡ ends (got (key at w)) (u ∷ us)
+      go true o h = absurd (true≢false h)
+      go false true h = absurd (true≢false h)
+      go false false h = refl
 
   named-word : (at : ℕ) (w : List ℕ) (us : List Token) → Name w → worded read at w us ≡ keyed read at w us
   named-word at w us name = rw (bytes-not w (bytes "true") (name .0), bytes-not w (bytes "false") (name .1))

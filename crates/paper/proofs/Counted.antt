@@ -6,7 +6,7 @@ use mathlib.Core.Bool.{Bool, true, false, cond}
 use mathlib.Core.Option.{Option, none, some}
 use mathlib.Core.List.{[]}
 use lib.ListN.{length, length-append}
-use Rattle.paper.specs.Answers.{Answer, ok, _>>=_}
+use Rattle.paper.specs.Answers.{ok, _>>=_}
 use Rattle.paper.specs.Keys.{find}
 use Rattle.paper.specs.Grammar.{truth, number, key, field, attribute, prefixed, joined, compared}
 use Rattle.paper.specs.Types.{Ty, bool, int, of, sameTy, when, andThen, Field, fieldNamed, takes, meet, fieldType, prefixType, joinType, comparisonType, operatorType, known, namedType, typeOf}
@@ -14,11 +14,11 @@ use Rattle.paper.specs.Code.{pushKey, pushField}
 use Rattle.paper.specs.Translating.{hasType, changed, convertTo, pushing, codeOf, conversions}
 use Rattle.paper.specs.Translated.{CodeCounted, FewConversions, CodeFits}
 use Rattle.paper.proofs.Stages.{never-ok, bind-ok}
-use Rattle.paper.proofs.Meant.{same-self}
+use Rattle.paper.proofs.MeetingTypes.{same-self, meets-by-converting}
 
 -- the code of a key and of a field that have a type is one instruction
 
-key-counted : (at : ℕ) (o : Option ℕ) (f : ℕ → Answer Ty) (a : Ty) → (known at o >>= f) ≡ ok a
+key-counted : (at : ℕ) (o : Option ℕ) (f : ℕ → Option Ty) (a : Ty) → known at (andThen o f) ≡ ok a
     → length (pushing (andThen o (λ k. some (pushKey k)))) ≡ 1
 key-counted at none f a h = absurd (never-ok h)
 key-counted at (some k) f a h = refl
@@ -74,7 +74,7 @@ one-changes : (ta tb : Option Ty) → both ta tb (andThen ta (λ a. andThen tb (
 one-changes none none = omega arith
 one-changes none (some b) = omega arith
 one-changes (some a) none = omega arith
-one-changes (some a) (some b) = go (sameTy a b) (takes b a) (takes a b)
+one-changes (some a) (some b) = rw (meets-by-converting a b) (go (sameTy a b) (takes b a) (takes a b))
   where
     go : (s t u : Bool) → both (some a) (some b) (cond s (some a) (cond t (some b) (when u a))) ≤ 1
     go true t u = omega (arith, unchanged a, changes (some b) a)

@@ -1,6 +1,6 @@
 -- Loaded blocks that are cut at a block's end, or have one byte changed, do not load.
 use Prim.Native.Nat.{ℕ, zero, suc, _+_, _*_, _-_, _/_, _%_, _^_, _≤_, _<_}
-use native.Mathlib.Nat.{lt-irrefl, div-add-mod', zero-add, add-sub-of-le}
+use native.Mathlib.Nat.{lt-irrefl, div-add-mod', add-sub-of-le}
 use native.Mathlib.Decide.{decLt}
 use native.Mathlib.Omega.{arith}
 use mathlib.Core.Logic.{_≢_}
@@ -16,7 +16,7 @@ use borrow.Author.Tests.{ne-eqb}
 use Rattle.paper.specs.Answers.{ok, refused, _>>=_, inBlocks}
 use Rattle.paper.specs.Numbers.{byteAt, bytesAt, numberAt}
 use Rattle.paper.specs.Keys.{keys, Key}
-use Rattle.paper.specs.Blocks.{blockSize, checkOf, countAt, countsFrom, totalOf, blockOk, layoutFrom, layout}
+use Rattle.paper.specs.Blocks.{blockSize, checkOf, countAt, countsFrom, blocksIn, totalOf, blockOk, layout}
 use Rattle.paper.specs.Loading.{program, typesAlong, loadCheck, loaded}
 use Rattle.paper.specs.Calls.{loadAnswer}
 use Rattle.paper.specs.Damaged.{CutRefused, ByteSeen, BitSeen}
@@ -25,7 +25,7 @@ use Rattle.paper.proofs.Stages.{bind-ok}
 use Rattle.paper.proofs.Digits.{number-same}
 use Rattle.paper.proofs.Bits.{bit-differs}
 use Rattle.paper.proofs.Sums.{even-words, check-changes}
-use Rattle.paper.proofs.Laid.{blockAt, checkRight, fields, passes-here, fewer, passes-at, RefusedBy, first-refused, total-wrong, check-wrong, Laid, laid, by-blocks}
+use Rattle.paper.proofs.Laid.{blockAt, checkRight, fields, fewer, RefusedBy, first-refused, total-wrong, check-wrong, Laid, laid, by-blocks}
 
 -- cut at a block's end
 
@@ -55,11 +55,7 @@ module _ (keys : ℕ) (blocks : List ℕ) (good : Laid keys blocks) (m : ℕ) (i
   first-kept = take-take blockSize (suc m * blockSize) blocks (omega arith)
 
   first-total : numberAt (blockAt blocks 0) 504 2 ≡ totalOf blocks
-  first-total = go (length blocks / blockSize) (good .each) (omega arith)
-    where
-      go : (n : ℕ) → layoutFrom keys blocks 0 n ≡ ok tt → suc m < n → numberAt (blockAt blocks 0) 504 2 ≡ totalOf blocks
-      go zero h l = absurd (omega arith)
-      go (suc n) h l = fields keys blocks 0 n (passes-here keys blocks 0 n h .0) .total
+  first-total = fields keys blocks 0 (good .each 0 (omega arith)) .total
 
   -- if the first block's total were right
   same : numberAt (blockAt cut 0) 504 2 ≡ totalOf cut → totalOf blocks ≡ countsFrom blocks 0 (suc m)
@@ -67,13 +63,13 @@ module _ (keys : ℕ) (blocks : List ℕ) (good : Laid keys blocks) (m : ℕ) (i
 
   cut-fails : layout keys cut ≡ refused 17 inBlocks 0
   cut-fails =
-      let less = fewer keys blocks (length blocks / blockSize) (suc m) 0 (omega arith) (good .each) in
+      let less = fewer keys blocks (good .each) (suc m) (omega arith) in
       let wrong : eqb (numberAt (blockAt cut 0) 504 2) (totalOf cut) ≡ false =
       ne-eqb (numberAt (blockAt cut 0) 504 2) (totalOf cut)
       (λ e. lt-irrefl (countsFrom blocks 0 (suc m)) (subst (λ n. countsFrom blocks 0 (suc m) < n) (same e) less))
       in
       by-blocks keys cut (omega (arith, cut-length)) (omega (arith, cut-length)) (omega (arith, cut-length, good .most))
-      ∙ rw (left, total-wrong keys cut 0 m wrong)
+      ∙ rw (left, total-wrong keys cut 0 wrong)
 
 -- one byte changed
 
@@ -142,19 +138,17 @@ module _ (keys : ℕ) (blocks : List ℕ) (good : Laid keys blocks) (i v : ℕ) 
   byte-there =
       getD-take blockSize (drop (k * blockSize) blocks) j 0 (omega arith) ∙ getD-drop (k * blockSize) blocks j 0 ∙ ap (byteAt blocks) split
 
-  block-fails : (later : ℕ) → blockOk keys changed k later ≡ false
-  block-fails later =
-      let p = passes-at keys blocks (length blocks / blockSize) 0 k (good .each) (omega (arith, good .even)) in
-      let passed : blockOk keys blocks k (p .0) ≡ true = subst (λ n. blockOk keys blocks n (p .0) ≡ true) (zero-add k) (p .1) in
-      check-wrong keys changed k later
+  block-fails : blockOk keys changed k ≡ false
+  block-fails =
+      let passed = fields keys blocks k (good .each k (omega (arith, good .even))) .check in
+      check-wrong keys changed k
       (ap checkRight block-changed
-      ∙ check-fails (blockAt blocks k) block-length (fields keys blocks k (p .0) passed .check) j v (omega arith) (omega (arith, byte-there)) becomes
-      (λ h. other (h ∙ byte-there)))
+      ∙ check-fails (blockAt blocks k) block-length passed j v (omega arith) (omega (arith, byte-there)) becomes (λ h. other (h ∙ byte-there)))
 
   changed-fails : RefusedBy (layout keys changed) k
   changed-fails =
       let size : length changed ≡ length blocks = length-set blocks i v in
-      let r = first-refused keys changed k block-fails (length changed / blockSize) 0 (omega arith) (omega (arith, size, good .even)) in
+      let r = first-refused keys changed k block-fails (blocksIn changed) 0 (omega arith) (omega (arith, size, good .even)) in
       record {
         block = r .block;
         refuses =

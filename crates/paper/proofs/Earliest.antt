@@ -4,16 +4,11 @@ use native.Mathlib.Decide.{decLt, ℕ-discrete}
 use native.Mathlib.Omega.{arith}
 use mathlib.Core.Path.{_≡_, refl, sym, ap, subst, _∙_}
 use mathlib.Core.Logic.{inl, inr}
-use mathlib.Core.Bool.{Bool, true, false, cond}
-use Rattle.paper.specs.Answers.{Input, Answer, ok, refused, _>>=_}
+use mathlib.Core.Bool.{Bool, true, false}
+use Rattle.paper.specs.Answers.{Input, Answer, ok, refused, _>>=_, require, inTurn}
 use Rattle.paper.specs.Faults.{Faults}
 use Rattle.paper.specs.Table.{Sooner}
 use Rattle.paper.proofs.Staged.{Tells}
-
--- the tests from index k on, n of them
-abbrev pub testsFrom : (ℕ → Answer (Unit {0})) → ℕ → ℕ → Answer (Unit {0})
-testsFrom test k zero = ok tt
-testsFrom test k (suc n) = test k >>= λ _. testsFrom test (suc k) n
 
 -- faults stand at the places of indices, which rise
 pub record Indexed (F : Faults) (total : ℕ) (place : ℕ → ℕ) : Type 0 where
@@ -28,7 +23,7 @@ module _ (i : Input) (F : Faults) (total : ℕ) (place : ℕ → ℕ) (indexed :
 
   -- of a test with one number
   pub test-tells-at : (k n : ℕ) (b : Bool) → (b ≡ true → (m : ℕ) → ¬ F m (place k)) → (b ≡ false → F n (place k))
-      → ((m at : ℕ) → F m at → m ≡ n) → TellsAt k (cond b (ok tt) (refused n i (place k)))
+      → ((m at : ℕ) → F m at → m ≡ n) → TellsAt k (require b n i (place k))
   test-tells-at k n true free fault only = free refl
   test-tells-at k n false free fault only = (refl, refl, fault refl, λ m h. omega (arith, only m (place k) h))
 
@@ -60,21 +55,21 @@ module _ (i : Input) (F : Faults) (total : ℕ) (place : ℕ → ℕ) (indexed :
           by (no other) (no more) = inl (rw e (indexed .rises k j (omega arith)))
 
   tells-from : (test : ℕ → Answer (Unit {0})) → ((k : ℕ) → k < total → TellsAt k (test k)) → (n k : ℕ) → k + n ≡ total → FreeBefore k
-      → Tells i F (testsFrom test k n)
+      → Tells i F (inTurn test k n)
   unfolding FreeBefore
   tells-from test each zero k whole before = λ n at h.
       let (j, l, e) = indexed .index n at h in
       before j (omega arith) n (subst (F n) e h)
   tells-from test each (suc n) k whole before = go (test k) (each k (omega arith)) (tells-from test each n (suc k) (omega arith))
     where
-      go : (a : Answer (Unit {0})) → TellsAt k a → (FreeBefore (suc k) → Tells i F (testsFrom test (suc k) n))
-          → Tells i F (a >>= λ _. testsFrom test (suc k) n)
+      go : (a : Answer (Unit {0})) → TellsAt k a → (FreeBefore (suc k) → Tells i F (inTurn test (suc k) n))
+          → Tells i F (a >>= λ _. inTurn test (suc k) n)
       go (ok _) here later = later (free-next k before here)
       go (refused m j at) (same-input, same-place, fault, low) later = (
         same-input,
         record { fault = rw same-place fault; first = λ o to h. rw same-place (not-earlier k m o to before low h) },
       )
 
-  pub tests-tell : (test : ℕ → Answer (Unit {0})) → ((k : ℕ) → k < total → TellsAt k (test k)) → Tells i F (testsFrom test 0 total)
+  pub tests-tell : (test : ℕ → Answer (Unit {0})) → ((k : ℕ) → k < total → TellsAt k (test k)) → Tells i F (inTurn test 0 total)
   unfolding FreeBefore
   tests-tell test each = tells-from test each total 0 (omega arith) (λ j l. absurd (omega arith))

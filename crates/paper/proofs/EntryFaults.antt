@@ -1,23 +1,22 @@
 -- Refusals 19 and 20 by the table.
 use Prim.Native.Nat.{ℕ, zero, suc, _+_, _*_, _^_, _<_, suc-le-suc}
-use native.Mathlib.Nat.{add-zero}
 use native.Mathlib.Omega.{arith}
 use mathlib.Core.Path.{_≡_, refl, sym, ap, subst, _∙_}
-use mathlib.Core.Bool.{Bool, true, false, cond, true≢false}
+use mathlib.Core.Bool.{Bool, true, false, true≢false}
 use mathlib.Core.Option.{Option, none, some}
 use mathlib.Core.List.{List, [], _∷_}
 use lib.ListN.{length, getElem?}
 use lib.Dec.{eqb, ltb}
 use borrow.Author.Tests.{eqb-true, eqb-false, ltb-false, le-ltb}
-use Rattle.paper.specs.Answers.{Answer, ok, refused, _>>=_, require, inEntry}
+use Rattle.paper.specs.Answers.{Answer, ok, _>>=_, require, inTurn, inEntry}
 use Rattle.paper.specs.Keys.{Key, keys}
-use Rattle.paper.specs.Entry.{Entry, headSize, matchSize, matchAt, matchOk, priorityOf, rulesFrom, matchesFrom, entryOf}
+use Rattle.paper.specs.Entry.{Entry, headSize, matchSize, matchAt, matchOk, matchesFrom, asked, priorityOf, ruleTest, entryOf}
 use Rattle.paper.specs.Faults.{EntrySize, entry-wrong, EntryRules, priority-broken, match-broken}
 use Rattle.paper.specs.Table.{Free, stage, Given, entryStages}
 use Rattle.paper.proofs.Basics.{some-below}
 use Rattle.paper.proofs.Stages.{bind-again}
 use Rattle.paper.proofs.Staged.{Tells, test-tells, given-tells, Follows, follows-one, follows-as, follows-then}
-use Rattle.paper.proofs.Earliest.{testsFrom, Indexed, test-tells-at, tests-tell}
+use Rattle.paper.proofs.Earliest.{Indexed, test-tells-at, tests-tell}
 
 module _ (ks : List Key) (entry : List ℕ) where
   -- the length
@@ -42,33 +41,17 @@ module _ (ks : List Key) (entry : List ℕ) where
   place zero = 0
   place (suc k) = headSize + k * matchSize
 
-  abbrev fits : Option Key → ℕ → Bool
-  fits none k = true
-  fits (some x) k = matchOk x (matchAt entry k)
-
   abbrev right : ℕ → Bool
   right zero = ltb (priorityOf entry) (2 ^ 31)
-  right (suc k) = fits (getElem? ks k) k
+  right (suc k) = asked (getElem? ks k) (λ x. matchOk x (matchAt entry k))
 
-  abbrev verdict : Bool → ℕ → Answer (Unit {0})
-  verdict good k = cond good (ok tt) (refused 20 inEntry (place k))
+  abbrev partTest : ℕ → Answer (Unit {0})
+  partTest k = require (right k) 20 inEntry (place k)
 
-  abbrev ruleTest : ℕ → Answer (Unit {0})
-  ruleTest k = verdict (right k) k
-
-  rules-tests : (xs : List Key) (k : ℕ) → ((j : ℕ) → getElem? ks (k + j) ≡ getElem? xs j)
-      → rulesFrom entry k xs ≡ testsFrom ruleTest (suc k) (length xs)
-  rules-tests [] k same = refl
-  rules-tests (x ∷ xs) k same =
-      let here : getElem? ks k ≡ some x = ap (getElem? ks) (sym (add-zero k)) ∙ same 0 in
-      let later : (j : ℕ) → getElem? ks (suc k + j) ≡ getElem? xs j = λ j. ap (getElem? ks) (omega arith) ∙ same (suc j) in
-      rw here (go (matchOk x (matchAt entry k)) (rules-tests xs (suc k) later))
-    where
-      go : (b : Bool) → rulesFrom entry (suc k) xs ≡ testsFrom ruleTest (suc (suc k)) (length xs)
-          → cond b (rulesFrom entry (suc k) xs) (refused 20 inEntry (place (suc k)))
-          ≡ (verdict b (suc k) >>= λ _. testsFrom ruleTest (suc (suc k)) (length xs))
-      go true h = h
-      go false h = refl
+  -- the records are the parts after the first
+  rules-tests : (n k : ℕ) → inTurn (ruleTest ks entry) k n ≡ inTurn partTest (suc k) n
+  rules-tests zero k = refl
+  rules-tests (suc n) k = ap (λ (later : Answer (Unit {0})). ruleTest ks entry k >>= λ _. later) (rules-tests n (suc k))
 
   index-of : (n at : ℕ) → EntryRules ks entry n at → (k : ℕ) × (k < suc (length ks)) × (at ≡ place k) × (right k ≡ false)
   index-of n at (priority-broken h) = (0, omega arith, refl, le-ltb (priorityOf entry) (2 ^ 31) h)
@@ -85,7 +68,7 @@ module _ (ks : List Key) (entry : List ℕ) where
   fault-at zero l h = priority-broken (ltb-false (priorityOf entry) (2 ^ 31) h)
   fault-at (suc k) l h = go (getElem? ks k) refl h
     where
-      go : (o : Option Key) → getElem? ks k ≡ o → fits o k ≡ false → EntryRules ks entry 20 (headSize + k * matchSize)
+      go : (o : Option Key) → getElem? ks k ≡ o → asked o (λ x. matchOk x (matchAt entry k)) ≡ false → EntryRules ks entry 20 (headSize + k * matchSize)
       go none e g = absurd (true≢false g)
       go (some x) e g = match-broken k x e g
 
@@ -104,21 +87,17 @@ module _ (ks : List Key) (entry : List ℕ) where
   only n at (priority-broken h) = refl
   only n at (match-broken k x e h) = refl
 
-  rules-tell : Tells inEntry (EntryRules ks entry) (testsFrom ruleTest 0 (suc (length ks)))
+  rules-tell : Tells inEntry (EntryRules ks entry) (inTurn partTest 0 (suc (length ks)))
   rules-tell =
-      tests-tell inEntry (EntryRules ks entry) (suc (length ks)) place indexed ruleTest
+      tests-tell inEntry (EntryRules ks entry) (suc (length ks)) place indexed partTest
       (λ k l.
       test-tells-at inEntry (EntryRules ks entry) (suc (length ks)) place indexed k 20 (right k)
       (λ good n h. true≢false (sym good ∙ broken-at k n h)) (fault-at k l) only)
 
-  rules-stage : (require (ltb (priorityOf entry) (2 ^ 31)) 20 inEntry 0 >>= λ _. rulesFrom entry 0 ks)
-      ≡ testsFrom ruleTest 0 (suc (length ks))
-  rules-stage = go (ltb (priorityOf entry) (2 ^ 31)) (rules-tests ks 0 (λ j. ap (getElem? ks) (omega arith)))
-    where
-      go : (b : Bool) → rulesFrom entry 0 ks ≡ testsFrom ruleTest 1 (length ks)
-          → (require b 20 inEntry 0 >>= λ _. rulesFrom entry 0 ks) ≡ (verdict b 0 >>= λ _. testsFrom ruleTest 1 (length ks))
-      go true h = h
-      go false h = refl
+  rules-stage : (require (ltb (priorityOf entry) (2 ^ 31)) 20 inEntry 0 >>= λ _. inTurn (ruleTest ks entry) 0 (length ks))
+      ≡ inTurn partTest 0 (suc (length ks))
+  rules-stage =
+      ap (λ (later : Answer (Unit {0})). require (ltb (priorityOf entry) (2 ^ 31)) 20 inEntry 0 >>= λ _. later) (rules-tests (length ks) 0)
 
 -- of the keys of a list
 pub entry-follows : (list : List ℕ) (ks : List Key) (entry : List ℕ) → keys list ≡ ok ks
@@ -127,15 +106,16 @@ unfolding entryOf
 entry-follows list ks entry listed =
     let size = require (sized ks entry) 19 inEntry (length entry) in
     let high = require (ltb (priorityOf entry) (2 ^ 31)) 20 inEntry 0 in
-    let rules = high >>= λ _. rulesFrom entry 0 ks in
+    let each = inTurn (ruleTest ks entry) 0 (length ks) in
+    let rules = high >>= λ _. each in
     let e : Entry = record { priority = priorityOf entry; matches = matchesFrom entry 0 ks } in
     let told : Tells inEntry (EntryRules ks entry) rules = rw (rules-stage ks entry) (rules-tell ks entry) in
     let one = given-tells (keys list) ks listed (λ ks. EntrySize ks entry) inEntry size (size-tells ks entry) in
     let two = given-tells (keys list) ks listed (λ ks. EntryRules ks entry) inEntry rules told in
     let last = stage inEntry (Given (keys list) (λ ks. EntryRules ks entry)) ∷ [] in
     follows-then (stage inEntry (Given (keys list) (λ ks. EntrySize ks entry)) ∷ []) last size
-    (λ _. high >>= λ _. rulesFrom entry 0 ks >>= λ _. ok e)
+    (λ _. high >>= λ _. each >>= λ _. ok e)
     (follows-one inEntry (Given (keys list) (λ ks. EntrySize ks entry)) size one)
     (λ _ _.
-    subst (λ (a : Answer Entry). Follows last a) (bind-again high (λ _. rulesFrom entry 0 ks) (λ _. ok e))
+    subst (λ (a : Answer Entry). Follows last a) (bind-again high (λ _. each) (λ _. ok e))
     (follows-as last rules (λ _. e) (follows-one inEntry (Given (keys list) (λ ks. EntryRules ks entry)) rules two)))

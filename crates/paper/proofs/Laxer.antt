@@ -7,9 +7,9 @@ use mathlib.Core.Option.{Option, none, some}
 use mathlib.Core.List.{List, [], _∷_}
 use lib.ListN.{length}
 use native.Mathlib.Omega.{arith}
-use Rattle.paper.specs.Tokens.{bytes, sameBytes, Sign, join, comparison, prefix, opening, closing, colons, Tok, word, numeral, string, sign, Token, sequel, implies, orElse, andAlso}
+use Rattle.paper.specs.Tokens.{plain, bytes, sameBytes, Sign, join, comparison, prefix, opening, closing, colons, Tok, word, numeral, string, sign, Token, sequel, implies, orElse, andAlso}
 use Rattle.paper.specs.Addresses.{Scheme, schemeOf}
-use Rattle.paper.specs.Grammar.{Tree, number, field, truth, attribute, got, stuck, Out, ends, deep, bad, _>>>_, Parser, Make, Reader, onceWith, onceMore, once, behind, moreWith, more, chain, joins, compares, implication, sequence, Mark, opens, closes, doubles, others, markOf, closed, named, addressWith, addressAt, addressed, opensAddress, keyAt, keyed, worded, signed, operandAt, operand, prefixes, finished, whole}
+use Rattle.paper.specs.Grammar.{Tree, number, key, field, truth, attribute, got, stuck, Out, ends, deep, bad, _>>>_, Parser, Make, Reader, onceWith, onceMore, once, behind, moreWith, more, chain, joins, compares, implication, sequence, isSign, closed, named, addressWith, addressAt, addressed, opensAddress, keyed, worded, signed, operandAt, operand, prefixes, finished, whole}
 
 -- what is kept: always trees and stuck answers, and the other two under two conditions
 abbrev pub Keeps : Type 0 → Type 0 → Out → Out → Type 0
@@ -90,7 +90,7 @@ module _ (Nine Ten : Type 0) where
         string-keeps : (q : List ℕ) (o : Option ℕ) → read s q ≡ o
             → Keeps Nine Ten (addressWith o at u us) (addressWith (read′ s q) at u us)
         string-keeps q none e = λ c. rw (none-kept c s q e)
-        string-keeps q (some n) e = rw (some-kept s q n e) (keeps-same (closed (number at n) us))
+        string-keeps q (some n) e = rw (some-kept s q n e) (keeps-same (closed (number at (plain n)) us))
 
         behind-opening : (x : Tok) → Keeps Nine Ten (addressAt read s at x u us) (addressAt read′ s at x u us)
         behind-opening (word w) = refl
@@ -100,17 +100,19 @@ module _ (Nine Ten : Type 0) where
 
     keyed-keeps : (at : ℕ) (w : List ℕ) (us : List Token) → Keeps Nine Ten (keyed read at w us) (keyed read′ at w us)
     keyed-keeps at w [] = refl
-    keyed-keeps at w (u ∷ us) = behind-word (markOf (u .tok))
+    keyed-keeps at w (u ∷ us) = behind-word (isSign colons (u .tok)) (isSign opening (u .tok))
       where
         opening-keeps : (o : Option Scheme) → Keeps Nine Ten (opensAddress read o at w u us) (opensAddress read′ o at w u us)
         opening-keeps none = refl
         opening-keeps (some s) = addressed-keeps s at us
 
-        behind-word : (m : Mark) → Keeps Nine Ten (keyAt read at w m u us) (keyAt read′ at w m u us)
-        behind-word opens = opening-keeps (schemeOf w)
-        behind-word closes = refl
-        behind-word doubles = keeps-same (named (field at w) us)
-        behind-word others = refl
+        tested : Reader → Bool → Bool → Out
+        tested r c o = cond c (named (field at w) us) (cond o (opensAddress r (schemeOf w) at w u us) (ends (got (key at w)) (u ∷ us)))
+
+        behind-word : (c o : Bool) → Keeps Nine Ten (tested read c o) (tested read′ c o)
+        behind-word true o = keeps-same (named (field at w) us)
+        behind-word false true = opening-keeps (schemeOf w)
+        behind-word false false = refl
 
     worded-keeps : (at : ℕ) (w : List ℕ) (us : List Token) → Keeps Nine Ten (worded read at w us) (worded read′ at w us)
     worded-keeps at w us = behind-tests (sameBytes w (bytes "true")) (sameBytes w (bytes "false"))

@@ -5,7 +5,7 @@ use mathlib.Core.Path.{_≡_, refl, ap, subst, fun-ext, _∙_}
 use mathlib.Core.Bool.{true, false}
 use mathlib.Core.Option.{Option, none}
 use mathlib.Core.List.{List, [], _∷_, _++_, append-nil}
-use Rattle.paper.specs.Tokens.{Join, sequel, implies, orElse, andAlso, Comparison, join, comparison, closing, Token}
+use Rattle.paper.specs.Tokens.{plain, Join, sequel, implies, orElse, andAlso, Comparison, join, comparison, closing, Token}
 use Rattle.paper.specs.Grammar.{Tree, got, stuck, Out, ends, deep, bad, _>>>_, Parser, Make, Reader, once, chain, joins, compares, implication, sequence, prefixes, finished, whole}
 use Rattle.paper.specs.Sentences.{signAt, Operator, Joining, joining, Comparing, comparing, Once, Chain, none-of, first, Operand, a-numeral, Implication, Sequence, Prefixed, Whole, lenient}
 use Rattle.paper.proofs.Taken.{of-end, of-next, Kind, exact, deeper, laxer, Family, Says, Tells, stays, bind}
@@ -146,8 +146,8 @@ module _ (read : Reader) (readers : Readers (readings read)) where
   prefixes-reads zero =
       record {
         tells =
-            lowest-tells (readings read) readers inner₀ outer₀ (Level read zero) into₀ (a-numeral 0 0)
-            (first (none-of (first (first (none-of (a-numeral 0 0))))));
+            lowest-tells (readings read) readers inner₀ outer₀ (Level read zero) into₀ (a-numeral 0 (plain 0))
+            (first (none-of (first (first (none-of (a-numeral 0 (plain 0)))))));
         complete =
             operand-complete read (λ at us. deep at) (λ at us. deep at) (inner₀ exact) (outer₀ exact) AfterSequence
             (λ at t ts us h. absurd h) (λ at t ts us h. absurd h) closing-after;

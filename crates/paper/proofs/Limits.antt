@@ -1,7 +1,6 @@
 -- Both sides of every limit are computed from the definitions.
 use mathlib.Core.Path.{refl}
 use Rattle.paper.specs.Keys.{keys}
-use Rattle.paper.specs.Blocks.{blocksOf}
 use Rattle.paper.specs.Loading.{typesAlong}
 use Rattle.paper.specs.Calls.{readAnswer, judgeAnswer, translateAnswer, loadAnswer}
 use Rattle.paper.specs.Limits.{Texts, Lists, Entries, Held, Sizes}
@@ -16,12 +15,12 @@ lists = refl
 
 pub entries : Entries
 unfolding judgeAnswer
-entries = record { priority = refl; one = refl; all = refl; eight = refl }
+entries = record { priority = refl; one = refl; all = refl }
 
 pub held : Held
 unfolding typesAlong
 held = record { most = refl; more = refl }
 
 pub sizes : Sizes
-unfolding translateAnswer loadAnswer blocksOf
-sizes = record { buffer = refl; blocks = refl; cut = refl }
+unfolding translateAnswer loadAnswer
+sizes = record { buffer = refl; blocks = refl }

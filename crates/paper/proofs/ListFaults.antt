@@ -10,15 +10,45 @@ use mathlib.Core.List.{List}
 use lib.ListN.{length}
 use lib.Dec.{eqb, leb}
 use borrow.Author.Tests.{eqb-true, eqb-false, leb-true, leb-false}
-use Rattle.paper.specs.Answers.{Answer, ok, refused, _>>=_, require, inList}
+use Rattle.paper.specs.Answers.{ok, _>>=_, require, inTurn, inList}
 use Rattle.paper.specs.Tokens.{sameBytes}
-use Rattle.paper.specs.Keys.{recordSize, mostKeys, recordAt, nameOf, recordOk, findFrom, find, keysFrom, isNone, recordsFrom, keys}
-use Rattle.paper.specs.Faults.{ListSize, list-uneven, list-over, recordsIn, ListRecords, record-broken, name-repeated}
-use Rattle.paper.specs.Table.{listStages}
+use Rattle.paper.specs.Keys.{recordSize, mostKeys, recordAt, recordsIn, nameOf, findFrom, keysFrom, isNone, isNew, RecordRule, recordTest, keysBy, layoutRule, keys}
+use Rattle.paper.specs.Faults.{ListSize, list-uneven, list-over, ListRecords, record-broken, name-repeated}
+use Rattle.paper.specs.Table.{listStagesBy, listStages}
 use Rattle.paper.proofs.Basics.{either-false}
 use Rattle.paper.proofs.Words.{same-bytes, not-bytes}
 use Rattle.paper.proofs.Staged.{Tells, test-tells, Follows, follows-one, follows-as, follows-then}
-use Rattle.paper.proofs.Earliest.{testsFrom, Indexed, TellsAt, tests-tell}
+use Rattle.paper.proofs.Earliest.{Indexed, TellsAt, tests-tell}
+
+-- the length
+
+module _ (list : List ℕ) where
+  abbrev even : Bool
+  even = eqb (length list % recordSize) 0
+
+  abbrev few : Bool
+  few = leb (length list) (mostKeys * recordSize)
+
+  abbrev sizeOk : Bool
+  sizeOk = even && few
+
+  size-free : sizeOk ≡ true → (n at : ℕ) → ¬ ListSize list n at
+  size-free h n at (list-uneven d) =
+      d (eqb-true (length list % recordSize) 0 (and-eq-true-iff even few .0 h .0))
+  size-free h n at (list-over l) =
+      let e = leb-true (length list) (mostKeys * recordSize) (and-eq-true-iff even few .0 h .1) in
+      omega arith
+
+  size-fault : sizeOk ≡ false → ListSize list 2 (length list)
+  size-fault h = go (either-false even few h)
+    where
+      go : (even ≡ false) ⊎ (few ≡ false) → ListSize list 2 (length list)
+      go (inl e) = list-uneven (eqb-false (length list % recordSize) 0 e)
+      go (inr e) = list-over (leb-false (length list) (mostKeys * recordSize) e)
+
+  size-only : (m to : ℕ) → ListSize list m to → (m ≡ 2) × (to ≡ length list)
+  size-only m to (list-uneven d) = (refl, refl)
+  size-only m to (list-over l) = (refl, refl)
 
 -- the names before a record
 
@@ -50,126 +80,78 @@ module _ (list : List ℕ) (name : List ℕ) where
           by (yes d) = not-bytes (nameOf (recordAt list b)) name e (rw d at same)
           by (no d) = later h (j, omega arith, omega arith, same)
 
--- records
-
--- by whether a record's layout is right, and its name new
-abbrev verdict : Bool → Bool → ℕ → Answer (Unit {0})
-verdict good new k = cond good (cond new (ok tt) (refused 4 inList (k * recordSize))) (refused 3 inList (k * recordSize))
+-- records, by any rule
 
 module _ (list : List ℕ) where
   abbrev Repeats : ℕ → Type 0
   Repeats k = (j : ℕ) × (j < k) × (nameOf (recordAt list j) ≡ nameOf (recordAt list k))
 
-  abbrev isNew : ℕ → Bool
-  isNew k = isNone (find (keysFrom list 0 k) (nameOf (recordAt list k)))
-
-  repeats : (k : ℕ) → isNew k ≡ false → Repeats k
+  repeats : (k : ℕ) → isNew list k ≡ false → Repeats k
   repeats k h = let (j, low, high, same) = named list (nameOf (recordAt list k)) k 0 0 h in (j, omega arith, same)
 
-  not-repeats : (k : ℕ) → isNew k ≡ true → ¬ Repeats k
+  not-repeats : (k : ℕ) → isNew list k ≡ true → ¬ Repeats k
   not-repeats k h (j, l, same) = not-named list (nameOf (recordAt list k)) k 0 0 h (j, omega arith, omega arith, same)
 
-  abbrev recordTest : ℕ → Answer (Unit {0})
-  recordTest k = verdict (recordOk (recordAt list k)) (isNew k) k
-
-  records-tests : (n k : ℕ) → recordsFrom list k n ≡ testsFrom recordTest k n
-  records-tests zero k = refl
-  records-tests (suc n) k = go (recordOk (recordAt list k)) (isNew k) (records-tests n (suc k))
-    where
-      go : (b c : Bool) → recordsFrom list (suc k) n ≡ testsFrom recordTest (suc k) n
-          → cond b (cond c (recordsFrom list (suc k) n) (refused 4 inList (k * recordSize))) (refused 3 inList (k * recordSize))
-          ≡ (verdict b c k >>= λ _. testsFrom recordTest (suc k) n)
-      go true true h = h
-      go true false h = refl
-      go false c h = refl
-
-  indexed : Indexed (ListRecords list) (recordsIn list) (λ k. k * recordSize)
+module _ (rule : RecordRule) (list : List ℕ) where
+  indexed : Indexed (ListRecords rule list) (recordsIn list) (λ k. k * recordSize)
   indexed = record { index = index; rises = λ j k l. omega arith }
     where
-      index : (n at : ℕ) → ListRecords list n at → (k : ℕ) × (k < recordsIn list) × (at ≡ k * recordSize)
+      index : (n at : ℕ) → ListRecords rule list n at → (k : ℕ) × (k < recordsIn list) × (at ≡ k * recordSize)
       index n at (record-broken k l h) = (k, l, refl)
       index n at (name-repeated j k l m h) = (k, m, refl)
 
   -- the faults of a record
   abbrev FaultOf : ℕ → ℕ → Type 0
-  FaultOf k n = ((n ≡ 3) × (recordOk (recordAt list k) ≡ false)) ⊎ ((n ≡ 4) × Repeats k)
+  FaultOf k n = ((n ≡ 3) × (rule k (recordAt list k) ≡ false)) ⊎ ((n ≡ 4) × Repeats list k)
 
-  fault-of : (k n at : ℕ) → ListRecords list n at → at ≡ k * recordSize → FaultOf k n
+  fault-of : (k n at : ℕ) → ListRecords rule list n at → at ≡ k * recordSize → FaultOf k n
   fault-of k n at (record-broken j l h) e =
       let same : j ≡ k = omega arith in
-      inl (refl, subst (λ x. recordOk (recordAt list x) ≡ false) same h)
+      inl (refl, subst (λ x. rule x (recordAt list x) ≡ false) same h)
   fault-of k n at (name-repeated i j l m h) e =
       let same : j ≡ k = omega arith in
-      inr (refl, subst Repeats same (i, l, h))
+      inr (refl, subst (Repeats list) same (i, l, h))
 
-  no-fault : (k n : ℕ) → recordOk (recordAt list k) ≡ true → isNew k ≡ true → ¬ FaultOf k n
+  no-fault : (k n : ℕ) → rule k (recordAt list k) ≡ true → isNew list k ≡ true → ¬ FaultOf k n
   no-fault k n good new (inl (e, bad)) = true≢false (sym good ∙ bad)
-  no-fault k n good new (inr (e, again)) = not-repeats k new again
+  no-fault k n good new (inr (e, again)) = not-repeats list k new again
 
   least : (k m : ℕ) → FaultOf k m → 3 ≤ m
   least k m (inl (e, h)) = omega (arith, e)
   least k m (inr (e, h)) = omega (arith, e)
 
-  least-good : (k m : ℕ) → recordOk (recordAt list k) ≡ true → FaultOf k m → 4 ≤ m
+  least-good : (k m : ℕ) → rule k (recordAt list k) ≡ true → FaultOf k m → 4 ≤ m
   least-good k m good (inl (e, bad)) = absurd (true≢false (sym good ∙ bad))
   least-good k m good (inr (e, again)) = omega (arith, e)
 
   record-tells : (k : ℕ) → k < recordsIn list
-      → TellsAt inList (ListRecords list) (recordsIn list) (λ k. k * recordSize) indexed k (recordTest k)
-  record-tells k l = go (recordOk (recordAt list k)) (isNew k) refl refl
+      → TellsAt inList (ListRecords rule list) (recordsIn list) (λ k. k * recordSize) indexed k (recordTest rule list k)
+  record-tells k l = go (rule k (recordAt list k)) (isNew list k) refl refl
     where
-      here : (n : ℕ) → ListRecords list n (k * recordSize) → FaultOf k n
+      here : (n : ℕ) → ListRecords rule list n (k * recordSize) → FaultOf k n
       here n h = fault-of k n (k * recordSize) h refl
 
-      go : (b c : Bool) → recordOk (recordAt list k) ≡ b → isNew k ≡ c
-          → TellsAt inList (ListRecords list) (recordsIn list) (λ k. k * recordSize) indexed k (verdict b c k)
+      go : (b c : Bool) → rule k (recordAt list k) ≡ b → isNew list k ≡ c
+          → TellsAt inList (ListRecords rule list) (recordsIn list) (λ k. k * recordSize) indexed k (require b 3 inList (k * recordSize) >>= λ _. require c 4 inList (k * recordSize))
       go true true good new = λ n h. no-fault k n good new (here n h)
       go true false good old =
-          let (j, less, same) = repeats k old in
+          let (j, less, same) = repeats list k old in
           (refl, refl, name-repeated j k less l same, λ m h. least-good k m good (here m h))
       go false c bad _ = (refl, refl, record-broken k l bad, λ m h. least k m (here m h))
 
-  records-tell : Tells inList (ListRecords list) (recordsFrom list 0 (recordsIn list))
-  records-tell =
-      rw (records-tests (recordsIn list) 0)
-      (tests-tell inList (ListRecords list) (recordsIn list) (λ k. k * recordSize) indexed recordTest record-tells)
+  records-tell : Tells inList (ListRecords rule list) (inTurn (recordTest rule list) 0 (recordsIn list))
+  records-tell = tests-tell inList (ListRecords rule list) (recordsIn list) (λ k. k * recordSize) indexed (recordTest rule list) record-tells
 
-  -- the length
-
-  abbrev even : Bool
-  even = eqb (length list % recordSize) 0
-
-  abbrev few : Bool
-  few = leb (length list) (mostKeys * recordSize)
-
-  abbrev sizeOk : Bool
-  sizeOk = even && few
-
-  size-free : sizeOk ≡ true → (n at : ℕ) → ¬ ListSize list n at
-  size-free h n at (list-uneven d) =
-      d (eqb-true (length list % recordSize) 0 (and-eq-true-iff even few .0 h .0))
-  size-free h n at (list-over l) =
-      let e = leb-true (length list) (mostKeys * recordSize) (and-eq-true-iff even few .0 h .1) in
-      omega arith
-
-  size-fault : sizeOk ≡ false → ListSize list 2 (length list)
-  size-fault h = go (either-false even few h)
-    where
-      go : (even ≡ false) ⊎ (few ≡ false) → ListSize list 2 (length list)
-      go (inl e) = list-uneven (eqb-false (length list % recordSize) 0 e)
-      go (inr e) = list-over (leb-false (length list) (mostKeys * recordSize) e)
-
-  size-only : (m to : ℕ) → ListSize list m to → (m ≡ 2) × (to ≡ length list)
-  size-only m to (list-uneven d) = (refl, refl)
-  size-only m to (list-over l) = (refl, refl)
+  pub list-follows-by : Follows (listStagesBy rule list) (keysBy rule list)
+  list-follows-by =
+      let size = require (sizeOk list) 2 inList (length list) in
+      let records = inTurn (recordTest rule list) 0 (recordsIn list) in
+      let all = keysFrom list 0 (recordsIn list) in
+      follows-then _ _ size (λ _. records >>= λ _. ok all)
+      (follows-one inList (ListSize list) size
+      (test-tells (ListSize list) (sizeOk list) 2 inList (length list) (size-free list) (size-fault list) (size-only list)))
+      (λ _ _. follows-as _ records (λ _. all) (follows-one inList (ListRecords rule list) records records-tell))
 
 pub list-follows : (list : List ℕ) → Follows (listStages list) (keys list)
 unfolding keys
-list-follows list =
-    let n = recordsIn list in
-    follows-then _ _ (require (sizeOk list) 2 inList (length list)) (λ _. recordsFrom list 0 n >>= λ _. ok (keysFrom list 0 n))
-    (follows-one inList (ListSize list) (require (sizeOk list) 2 inList (length list))
-    (test-tells (ListSize list) (sizeOk list) 2 inList (length list) (size-free list) (size-fault list) (size-only list)))
-    (λ _ _.
-    follows-as _ (recordsFrom list 0 n) (λ _. keysFrom list 0 n)
-    (follows-one inList (ListRecords list) (recordsFrom list 0 n) (records-tell list)))
+list-follows list = list-follows-by layoutRule list

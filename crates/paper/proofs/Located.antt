@@ -6,23 +6,23 @@ use mathlib.Core.Path.{_≡_, sym, ap, _∙_}
 use mathlib.Core.Logic.{inl, inr}
 use mathlib.Core.List.{List, [], _∷_, _++_, List·Memᴰ}
 use lib.ListN.{length, length-append}
-use Rattle.paper.specs.Answers.{Input, inText, inList, inEntry, inBlocks, inBuffer, ok}
+use Rattle.paper.specs.Answers.{Input, inText, inList, inEntry, inBlocks, inBuffer, ok, inTurn}
 use Rattle.paper.specs.Tokens.{Token, tokens}
-use Rattle.paper.specs.Keys.{Key, keys}
+use Rattle.paper.specs.Keys.{Key, layoutRule, keys}
 use Rattle.paper.specs.Entry.{headSize, matchSize}
 use Rattle.paper.specs.Grammar.{Tree, truth, number, key, field, attribute, prefixed, joined, compared, parsed, placeOf}
 use Rattle.paper.specs.Sentences.{Number, text-ends, no-sentence, too-deep, bad-string}
 use Rattle.paper.specs.Places.{Everywhere}
-use Rattle.paper.specs.Blocks.{inBlock, totalOf, layoutFrom}
+use Rattle.paper.specs.Blocks.{inBlock, blocksIn, totalOf, blockTest}
 use Rattle.paper.specs.Calls.{tree, restriction}
-use Rattle.paper.specs.Faults.{TextSize, text-over, ListSize, list-uneven, list-over, ListRecords, record-broken, name-repeated, TextTokens, no-token, numeral-large, one-more-token, TextGrammar, TreeTypes, key-unknown, key-of-field-unknown, field-unknown, attribute-unknown, prefix-wrong, join-wrong, comparison-wrong, in-operand, join-left, join-right, comparison-left, comparison-right, RootType, not-bool, BufferSize, buffer-short, BlocksSize, no-blocks, blocks-uneven, blocks-over, blocksIn, BlocksLayout, block-broken, BlocksCode, instruction-fails, end-not-bool, EntrySize, entry-wrong, EntryRules, priority-broken, match-broken}
-use Rattle.paper.specs.Table.{Free, Stage, Given, Decided, Clear, sizeStages, listStages, treeStages, typeStages, bufferStages, blockStages, entryStages, checkStages}
+use Rattle.paper.specs.Faults.{TextSize, text-over, ListSize, list-uneven, list-over, ListRecords, record-broken, name-repeated, TextTokens, no-token, numeral-large, one-more-token, TextGrammar, TreeTypes, key-unknown, key-of-field-unknown, field-unknown, attribute-unknown, prefix-wrong, join-wrong, comparison-wrong, in-operand, join-left, join-right, comparison-left, comparison-right, RootType, not-bool, BufferSize, buffer-short, BlocksSize, no-blocks, blocks-uneven, blocks-over, BlocksLayout, block-broken, BlocksCode, instruction-fails, end-not-bool, EntrySize, entry-wrong, EntryRules, priority-broken, match-broken}
+use Rattle.paper.specs.Table.{lastNumber, Free, Stage, Given, Decided, Clear, sizeStages, listStages, treeStages, typeStages, bufferStages, blockStages, entryStages, checkStages}
 use Rattle.paper.specs.Demands.{Lent, lent}
 use Rattle.paper.proofs.Basics.{some-below}
 use Rattle.paper.proofs.Stages.{bind-ok}
 use Rattle.paper.proofs.Offsets.{places-in-text, place-in-text}
 use Rattle.paper.proofs.Sound.{program-length}
-use Rattle.paper.proofs.Laid.{counts-within}
+use Rattle.paper.proofs.Laid.{each-block, counts-within}
 use Rattle.paper.proofs.Staged.{free-passes}
 use Rattle.paper.proofs.BlockFaults.{blocks-layout-tells}
 use Rattle.paper.proofs.TypeFaults.{placed}
@@ -30,7 +30,7 @@ use Rattle.paper.proofs.TypeFaults.{placed}
 -- a number and an offset in bytes
 pub record Bounded (bytes : List ℕ) (n at : ℕ) : Type 0 where
   pub low : 1 ≤ n
-  pub high : n ≤ 20
+  pub high : n ≤ lastNumber
   pub inside : at ≤ length bytes
 
 pub record Located (inputs : List Lent) (s : Stage) : Type 0 where
@@ -61,7 +61,7 @@ decided-lies inputs (s ∷ ss) n i at h (inr (free, d)) = decided-lies inputs ss
 
 -- stage by stage
 
-bound : {bytes : List ℕ} {n at : ℕ} → 1 ≤ n → n ≤ 20 → at ≤ length bytes → Bounded bytes n at
+bound : {bytes : List ℕ} {n at : ℕ} → 1 ≤ n → n ≤ lastNumber → at ≤ length bytes → Bounded bytes n at
 bound a b c = record { low = a; high = b; inside = c }
 
 text-bounded : (text : List ℕ) (n at : ℕ) → TextSize text n at → Bounded text n at
@@ -71,16 +71,16 @@ list-size-bounded : (list : List ℕ) (n at : ℕ) → ListSize list n at → Bo
 list-size-bounded list n at (list-uneven d) = bound (omega arith) (omega arith) (omega arith)
 list-size-bounded list n at (list-over l) = bound (omega arith) (omega arith) (omega arith)
 
-records-bounded : (list : List ℕ) (n at : ℕ) → ListRecords list n at → Bounded list n at
+records-bounded : (list : List ℕ) (n at : ℕ) → ListRecords layoutRule list n at → Bounded list n at
 records-bounded list n at (record-broken k l h) = bound (omega arith) (omega arith) (omega arith)
 records-bounded list n at (name-repeated j k l m h) = bound (omega arith) (omega arith) (omega arith)
 
 tokens-bounded : (text : List ℕ) (n at : ℕ) → TextTokens text n at → Bounded text n at
-tokens-bounded text n at (no-token cut few inside e) = bound (omega arith) (omega arith) (omega arith)
-tokens-bounded text n at (numeral-large cut few inside e) = bound (omega arith) (omega arith) (omega arith)
+tokens-bounded text n at (no-token cut inside e) = bound (omega arith) (omega arith) (omega arith)
+tokens-bounded text n at (numeral-large cut inside e) = bound (omega arith) (omega arith) (omega arith)
 tokens-bounded text n at (one-more-token k m cut full inside e) = bound (omega arith) (omega arith) (omega arith)
 
-number-bounded : (ts taken us : List Token) (n : ℕ) → Number ts taken us n → (1 ≤ n) × (n ≤ 20)
+number-bounded : (ts taken us : List Token) (n : ℕ) → Number ts taken us n → (1 ≤ n) × (n ≤ lastNumber)
 number-bounded ts taken us n (text-ends h) = (omega arith, omega arith)
 number-bounded ts taken us n (no-sentence h) = (omega arith, omega arith)
 number-bounded ts taken us n (too-deep o s h) = (omega arith, omega arith)
@@ -97,7 +97,7 @@ all-inside text t h =
     let (ts, cut, read) = bind-ok (tokens text) (parsed (length text)) t h in
     places-in-text text ts t cut read
 
-type-number : (ks : List Key) (t : Tree) (n at : ℕ) → TreeTypes ks t n at → (1 ≤ n) × (n ≤ 20)
+type-number : (ks : List Key) (t : Tree) (n at : ℕ) → TreeTypes ks t n at → (1 ≤ n) × (n ≤ lastNumber)
 type-number ks t n at (key-unknown to e) = (omega arith, omega arith)
 type-number ks t n at (key-of-field-unknown to past e) = (omega arith, omega arith)
 type-number ks t n at (field-unknown to past k e h) = (omega arith, omega arith)
@@ -160,10 +160,10 @@ code-bounded list blocks free n at (ks, listed, h) = go n at h
   where
     few : totalOf blocks ≤ inBlock * blocksIn blocks
     few =
-        let (_, passes) = free-passes inBlocks (BlocksLayout (length ks) blocks) (layoutFrom (length ks) blocks 0 (blocksIn blocks))
+        let (_, passes) = free-passes inBlocks (BlocksLayout (length ks) blocks) (inTurn (blockTest (length ks) blocks) 0 (blocksIn blocks))
         (blocks-layout-tells (length ks) blocks) (λ m to f. free m to (ks, listed, f))
         in
-        counts-within (length ks) blocks (blocksIn blocks) 0 passes
+        counts-within (length ks) blocks (each-block (length ks) blocks passes)
 
     go : (n at : ℕ) → BlocksCode ks blocks n at → Bounded blocks n at
     go n at (instruction-fails front i rest held split upto stops) =

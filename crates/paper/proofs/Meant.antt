@@ -1,89 +1,86 @@
 -- A tree has a value on an entry exactly where it has a type, and it is of that type.
 use Prim.Native.Nat.{ℕ}
 use native.Mathlib.Omega.{arith}
-use mathlib.Core.Path.{_≡_, refl, sym, ap, ap₂, _∙_}
-use mathlib.Core.Bool.{Bool, true, false, cond, and-eq-true-iff, false≢true}
+use mathlib.Core.Path.{_≡_, refl, sym, ap, _∙_}
+use mathlib.Core.Logic.{_⊎_, inl, inr}
+use mathlib.Core.Bool.{Bool, true, false, not, cond, _&&_, and-false, false≢true}
 use mathlib.Core.Option.{Option, none, some, Option·map, Option·some-injective, Option·none-ne-some, Option·some-ne-none}
-use lib.Dec.{eqb}
-use borrow.Author.Tests.{eqb-true, eq-eqb}
+use borrow.Author.Tests.{eq-eqb}
 use Rattle.paper.specs.Answers.{Answer, ok, refused, _>>=_}
 use Rattle.paper.specs.Tokens.{bytes, sameBytes, Prefix, notSign, minusSign, Comparison}
-use Rattle.paper.specs.Keys.{Kind, exact, ternary, lpm, range, optional, kindNo, kindOf, find}
+use Rattle.paper.specs.Keys.{kindNo, find}
+use Rattle.paper.specs.Entry.{isExact}
 use Rattle.paper.specs.Grammar as G
 use Rattle.paper.specs.Grammar.{Tree}
-use Rattle.paper.specs.Types.{Ty, bool, int, of, sameTy, when, andThen, Field, fieldNamed, fieldType, bareType, prefixType, joinType, takes, meet, compareType, comparisonType, operatorType, known, namedType, typeOf, rootType, typed}
-use Rattle.paper.specs.Meaning.{Value, truth, whole, matched, tyOf, bareValue, fieldValue, prefixValue, connective, oneValue, asNumber, inType, compareValue, comparisonValue, valueOf}
+use Rattle.paper.specs.Types.{Ty, bool, int, of, sameTy, when, andThen, Field, fieldNamed, fieldType, bareType, prefixType, joinType, meet, compares, comparisonType, takes, suits, compareType, operatorType, known, namedType, typeOf, rootType, typed}
+use Rattle.paper.specs.Meaning.{Value, truth, whole, matched, tyOf, bareValue, fieldValue, prefixValue, connective, inType, holds, compareValue, comparisonValue, valueOf}
 use Rattle.paper.specs.Translating.{hasType}
 use Rattle.paper.specs.Meant.{ValuesHaveTypes, TypedMeant, Judged}
 use Rattle.paper.proofs.Basics.{map-when}
 use Rattle.paper.proofs.Stages.{never-ok, bind-ok}
-use Rattle.paper.proofs.Sound.{not-follows, negate-follows, join-follows, compare-follows, key-follows, field-value-follows}
+use Rattle.paper.proofs.MeetingTypes.{same-types, same-self, meets-by-converting, compares-where-met}
+use Rattle.paper.proofs.Sound.{not-follows, negate-follows, join-follows, key-follows, field-value-follows}
 
--- types that pass for the same are the same
+-- an operand of the type that is met stays, and the other is converted to it
 
-kind-back : (k : Kind) → kindOf (kindNo k) ≡ k
-kind-back exact = refl
-kind-back ternary = refl
-kind-back lpm = refl
-kind-back range = refl
-kind-back optional = refl
+abbrev pub Comes : Ty → Value → Type 0
+Comes m a = (sameTy (tyOf a) m ≡ true) ⊎ (takes m (tyOf a) ≡ true)
 
-pub same-types : (a b : Ty) → sameTy a b ≡ true → a ≡ b
-same-types bool bool h = refl
-same-types bool int h = absurd (false≢true h)
-same-types bool (of k w) h = absurd (false≢true h)
-same-types int bool h = absurd (false≢true h)
-same-types int int h = refl
-same-types int (of k w) h = absurd (false≢true h)
-same-types (of k w) bool h = absurd (false≢true h)
-same-types (of k w) int h = absurd (false≢true h)
-same-types (of k w) (of l x) h =
-    let both = and-eq-true-iff (eqb (kindNo k) (kindNo l)) (eqb w x) .0 h in
-    ap₂ of (sym (kind-back k) ∙ ap kindOf (eqb-true (kindNo k) (kindNo l) (both .0)) ∙ kind-back l) (eqb-true w x (both .1))
+pub stays : (m : Ty) (a : Value) → sameTy (tyOf a) m ≡ true → inType m a ≡ a
+stays bool a h = refl
+stays int a h = refl
+stays (of k w) (truth b) h = refl
+stays (of k w) (whole z) h = absurd (false≢true h)
+stays (of k w) (matched l x n) h =
+    let same : of l x ≡ of k w = same-types (of l x) (of k w) h in
+    let kinds : l ≡ k = cc in
+    let widths : x ≡ w = cc in
+    rw (← kinds, ← widths, eq-eqb (kindNo l) (kindNo l) refl)
 
-pub same-self : (a : Ty) → sameTy a a ≡ true
-same-self bool = refl
-same-self int = refl
-same-self (of k w) = and-eq-true-iff (eqb (kindNo k) (kindNo k)) (eqb w w) .1 (eq-eqb (kindNo k) (kindNo k) refl, eq-eqb w w refl)
+pub in-type : (m : Ty) (a : Value) → Comes m a → tyOf (inType m a) ≡ m
+in-type m a (inl h) = rw (stays m a h) (same-types (tyOf a) m h)
+in-type bool a (inr h) = absurd (false≢true h)
+in-type int a (inr h) = absurd (false≢true h)
+in-type (of k w) (truth b) (inr h) = absurd (false≢true (rw (and-false (not (isExact k))) at h))
+in-type (of k w) (whole z) (inr h) = refl
+in-type (of k w) (matched l x n) (inr h) = refl
 
--- the type in which two operands meet is one that both can take
-
-pub record Becomes (m : Ty) (a : Value) : Type 0 where
-  pub into : Value
-  pub there : inType m a ≡ some into
-  pub type : tyOf into ≡ m
-
-own : (a : Value) → inType (tyOf a) a ≡ some a
-own (truth b) = refl
-own (whole z) = refl
-own (matched k w m) = rw (same-self (of k w))
-
-becomes-own : (m : Ty) (a : Value) → tyOf a ≡ m → Becomes m a
-becomes-own m a h = record { into = a; there = rw (← h) (own a); type = h }
-
-taken : (m : Ty) (a : Value) → takes m (tyOf a) ≡ true → Becomes m a
-taken bool a h = absurd (false≢true h)
-taken int a h = absurd (false≢true h)
-taken (of k w) a h = go (sameTy (tyOf a) (of k w)) refl
+pub meets : (a b : Value) (m : Ty) → meet (tyOf a) (tyOf b) ≡ some m → Comes m a × Comes m b
+meets a b m h =
+    go (sameTy (tyOf a) (tyOf b)) (takes (tyOf b) (tyOf a)) (takes (tyOf a) (tyOf b)) refl refl refl
+    (sym (meets-by-converting (tyOf a) (tyOf b)) ∙ h)
   where
-    go : (s : Bool) → sameTy (tyOf a) (of k w) ≡ s → Becomes (of k w) a
-    go true e = becomes-own (of k w) a (same-types (tyOf a) (of k w) e)
-    go false e = record { into = matched k w (oneValue k w (asNumber w a)); there = rw (e, h); type = refl }
+    of-own : (v : Value) → tyOf v ≡ m → Comes m v
+    of-own v at = inl (rw at (same-self m))
 
-pub meets : (a b : Value) (m : Ty) → meet (tyOf a) (tyOf b) ≡ some m → Becomes m a × Becomes m b
-meets a b m h = go (sameTy (tyOf a) (tyOf b)) (takes (tyOf b) (tyOf a)) (takes (tyOf a) (tyOf b)) refl refl refl h
-  where
     go : (s t u : Bool) → sameTy (tyOf a) (tyOf b) ≡ s → takes (tyOf b) (tyOf a) ≡ t → takes (tyOf a) (tyOf b) ≡ u
-        → cond s (some (tyOf a)) (cond t (some (tyOf b)) (when u (tyOf a))) ≡ some m → Becomes m a × Becomes m b
+        → cond s (some (tyOf a)) (cond t (some (tyOf b)) (when u (tyOf a))) ≡ some m → Comes m a × Comes m b
     go true t u same _ _ e =
-        (becomes-own m a (Option·some-injective _ _ e), becomes-own m b (sym (same-types _ _ same) ∙ Option·some-injective _ _ e))
+        let at : tyOf a ≡ m = Option·some-injective _ _ e in
+        (of-own a at, of-own b (sym (same-types _ _ same) ∙ at))
     go false true u _ left _ e =
         let at : tyOf b ≡ m = Option·some-injective _ _ e in
-        (taken m a (rw (← at) left), becomes-own m b at)
+        (inr (rw (← at) left), of-own b at)
     go false false true _ _ right e =
         let at : tyOf a ≡ m = Option·some-injective _ _ e in
-        (becomes-own m a at, taken m b (rw (← at) right))
+        (of-own a at, inr (rw (← at) right))
     go false false false _ _ _ e = absurd (Option·none-ne-some m e)
+
+-- so the comparison is that of two values of one type
+
+when-same : (s t : Bool) → when s bool ≡ when t bool → s ≡ t
+when-same true true h = refl
+when-same true false h = absurd (Option·some-ne-none bool h)
+when-same false true h = absurd (Option·none-ne-some bool h)
+when-same false false h = refl
+
+pub compared-there : (c : Comparison) (a b : Value) (m : Ty) → meet (tyOf a) (tyOf b) ≡ some m
+    → comparisonValue c a b ≡ compareValue c (inType m a) (inType m b)
+compared-there c a b m e =
+    let both = meets a b m e in
+    let told : comparisonType c (tyOf a) (tyOf b) ≡ compareType c m m = compares-where-met c (tyOf a) (tyOf b) ∙ ap (λ o. andThen o (λ t. compareType c t t)) e in
+    let suited : compares c (tyOf a) (tyOf b) ≡ sameTy m m && suits c m = when-same _ _ told in
+    rw (e, in-type m a (both .0), in-type m b (both .1), suited)
 
 -- operators
 
@@ -95,16 +92,16 @@ comparison-follows : (c : Comparison) (a b : Value) → comparisonType c (tyOf a
 comparison-follows c a b = go (meet (tyOf a) (tyOf b)) refl
   where
     go : (o : Option Ty) → meet (tyOf a) (tyOf b) ≡ o
-        → andThen o (λ m. compareType c m m)
-        ≡ Option·map tyOf (andThen o (λ m. andThen (inType m a) (λ x. andThen (inType m b) (λ y. compareValue c x y))))
-    go none e = refl
-    go (some m) e =
-        let both = meets a b m e in
-        let x = both .0 in
-        let y = both .1 in
-        rw (x .there, y .there) (sym (ap₂ (compareType c) (x .type) (y .type)) ∙ compare-follows c (x .into) (y .into))
+        → comparisonType c (tyOf a) (tyOf b)
+        ≡ Option·map tyOf (andThen o (λ m. when (compares c (tyOf a) (tyOf b)) (truth (holds c (inType m a) (inType m b)))))
+    go none e = compares-where-met c (tyOf a) (tyOf b) ∙ ap (λ o. andThen o (λ m. compareType c m m)) e
+    go (some m) e = map-when tyOf (compares c (tyOf a) (tyOf b)) (truth (holds c (inType m a) (inType m b)))
 
 -- trees
+
+has-known : (at : ℕ) (o : Option Ty) → hasType (known at o) ≡ o
+has-known at none = refl
+has-known at (some a) = refl
 
 has-named : (at : ℕ) (o : Option Ty) → hasType (namedType at o) ≡ o
 has-named at none = refl
@@ -114,10 +111,15 @@ has-operator : (at : ℕ) (o : Option Ty) → hasType (operatorType at o) ≡ o
 has-operator at none = refl
 has-operator at (some a) = refl
 
-key-typed : (at to : ℕ) (o : Option ℕ) (f : ℕ → Option Ty) (g : ℕ → Option Value) → ((k : ℕ) → f k ≡ Option·map tyOf (g k))
+key-typed : (at : ℕ) (o : Option ℕ) (f : ℕ → Option Ty) (g : ℕ → Option Value) → ((k : ℕ) → f k ≡ Option·map tyOf (g k))
+    → hasType (known at (andThen o f)) ≡ Option·map tyOf (andThen o g)
+key-typed at none f g same = refl
+key-typed at (some k) f g same = has-known at (f k) ∙ same k
+
+field-typed : (at to : ℕ) (o : Option ℕ) (f : ℕ → Option Ty) (g : ℕ → Option Value) → ((k : ℕ) → f k ≡ Option·map tyOf (g k))
     → hasType (known at o >>= λ k. namedType to (f k)) ≡ Option·map tyOf (andThen o g)
-key-typed at to none f g same = refl
-key-typed at to (some k) f g same = has-named to (f k) ∙ same k
+field-typed at to none f g same = refl
+field-typed at to (some k) f g same = has-named to (f k) ∙ same k
 
 -- what is made of an operand
 operand-typed : (x : Answer Ty) (o : Option Value) (f : Ty → Answer Ty) (g : Value → Option Value)
@@ -132,9 +134,9 @@ pub values-have-types : ValuesHaveTypes
 unfolding typeOf valueOf
 values-have-types ks e covers (G.truth at b) = refl
 values-have-types ks e covers (G.number at n) = refl
-values-have-types ks e covers (G.key at w) = key-typed at at (find ks w) (bareType ks) (bareValue ks e) (key-follows ks e covers)
+values-have-types ks e covers (G.key at w) = key-typed at (find ks w) (bareType ks) (bareValue ks e) (key-follows ks e covers)
 values-have-types ks e covers (G.field at w to f) =
-    key-typed at to (find ks w) (λ k. andThen (fieldNamed f) (λ g. fieldType ks g k)) (λ k. andThen (fieldNamed f) (λ g. fieldValue ks e g k))
+    field-typed at to (find ks w) (λ k. andThen (fieldNamed f) (λ g. fieldType ks g k)) (λ k. andThen (fieldNamed f) (λ g. fieldValue ks e g k))
     (λ k. go k (fieldNamed f))
   where
     go : (k : ℕ) (o : Option Field) → andThen o (λ g. fieldType ks g k) ≡ Option·map tyOf (andThen o (λ g. fieldValue ks e g k))

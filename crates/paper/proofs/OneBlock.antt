@@ -11,7 +11,7 @@ use borrow.Author.Tests.{eq-eqb}
 use Rattle.paper.specs.Numbers.{bytesAt, numberAt, bigEndian}
 use Rattle.paper.specs.Keys.{allZero}
 use Rattle.paper.specs.Code.{Instruction, instructionSize}
-use Rattle.paper.specs.Blocks.{blockSize, inBlock, checkOf, encodeAll, sealed, blockOf, blocksFrom, totalOf, countOk, blockOk}
+use Rattle.paper.specs.Blocks.{blockSize, inBlock, checkOf, encodeAll, sealed, blockOf, blocksFrom, blocksIn, totalOf, countOk, blockOk}
 use Rattle.paper.proofs.Words.{bytes-same}
 use Rattle.paper.proofs.Digits.{drop-on, number-back}
 use Rattle.paper.proofs.Encoded.{row-length}
@@ -21,12 +21,13 @@ zeros-zero zero = refl
 zeros-zero (suc n) = zeros-zero n
 
 -- a block whose fields are right passes
-fields-pass : (keys : ℕ) (blocks : List ℕ) (k later : ℕ) (b : List ℕ) (count : ℕ) (zeros body : List ℕ)
-    → bytesAt blocks (k * blockSize) blockSize ≡ b → numberAt b 0 2 ≡ k → numberAt b 2 2 ≡ count → countOk later count ≡ true
+fields-pass : (keys : ℕ) (blocks : List ℕ) (k : ℕ) (b : List ℕ) (count : ℕ) (zeros body : List ℕ)
+    → bytesAt blocks (k * blockSize) blockSize ≡ b → numberAt b 0 2 ≡ k → numberAt b 2 2 ≡ count
+    → countOk (blocksIn blocks - (k + 1)) count ≡ true
     → bytesAt b (4 + instructionSize * count) (500 - instructionSize * count) ≡ zeros → allZero zeros ≡ true
     → numberAt b 504 2 ≡ totalOf blocks → numberAt b 506 2 ≡ keys → take 508 b ≡ body → bytesAt b 508 4 ≡ checkOf body
-    → blockOk keys blocks k later ≡ true
-fields-pass keys blocks k later b count zeros body there f0 f2 fits fz clear f504 f506 front f508 =
+    → blockOk keys blocks k ≡ true
+fields-pass keys blocks k b count zeros body there f0 f2 fits fz clear f504 f506 front f508 =
     rw (there, f0, eq-eqb k k refl, f2, fits, fz, clear, f504, eq-eqb (totalOf blocks) (totalOf blocks) refl, f506, eq-eqb keys keys refl, f508, front)
     (bytes-same (checkOf body))
 
@@ -81,13 +82,13 @@ module _ (total keys k : ℕ) (code : List Instruction) (few : length code ≤ i
   body-length : length body ≡ 508
   body-length = simp length-append (omega (arith, row-length code, zeros-length))
 
-  module _ (blocks : List ℕ) (later : ℕ) (there : bytesAt blocks (k * blockSize) blockSize ≡ sealed body) (counted : totalOf blocks ≡ total)
-      (fits : countOk later count ≡ true) (k-small : k < 2 ^ 16) (total-small : total < 2 ^ 16) (keys-small : keys < 2 ^ 16) where
-    pub block-passes : blockOk keys blocks k later ≡ true
+  module _ (blocks : List ℕ) (there : bytesAt blocks (k * blockSize) blockSize ≡ sealed body) (counted : totalOf blocks ≡ total)
+      (fits : countOk (blocksIn blocks - (k + 1)) count ≡ true) (k-small : k < 2 ^ 16) (total-small : total < 2 ^ 16) (keys-small : keys < 2 ^ 16) where
+    pub block-passes : blockOk keys blocks k ≡ true
     block-passes =
         let b = sealed body in
         let check = checkOf body in
-        fields-pass keys blocks k later b count zeros body there (number-back b _ 0 2 k (laid-out check) k-small)
+        fields-pass keys blocks k b count zeros body there (number-back b _ 0 2 k (laid-out check) k-small)
         (number-back b _ 2 2 count (at-count b check 0 refl) (omega arith)) fits
         (ap (take (500 - instructionSize * count)) (at-zeros b check 0 refl) ∙ take-at zeros _ _ zeros-length)
         (zeros-zero (500 - instructionSize * count)) (number-back b _ 504 2 total (at-total b check 0 refl) total-small ∙ sym counted)

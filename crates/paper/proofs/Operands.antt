@@ -3,14 +3,14 @@
 use Prim.Native.Nat.{ℕ}
 use mathlib.Core.Path.{refl}
 use mathlib.Core.List.{List, [], _∷_, _++_, append-nil}
-use Rattle.paper.specs.Tokens.{Prefix, join, comparison, prefix, opening, closing, colons, Tok, word, numeral, string, sign, Token}
+use Rattle.paper.specs.Tokens.{plain, Prefix, join, comparison, prefix, opening, closing, colons, Tok, word, numeral, string, sign, Token}
 use Rattle.paper.specs.Grammar.{Tree, number, attribute, prefixed, got, ends, deep, _>>>_, Parser, Reader, closed, named, worded, operand}
 use Rattle.paper.specs.Sentences.{tokenAt, signAt, Operand, a-numeral, an-attribute, a-prefixed, a-parenthesis, by-prefix, by-parenthesis}
 use Rattle.paper.proofs.Taken.{of-end, of-next, Kind, exact, deeper, Family, Begun, Says, Tells, stays, extend, bind}
 use Rattle.paper.proofs.Atoms.{Readers, closes-says, named-says, word-says}
 
 abbrev zeroAt : Token
-zeroAt = tokenAt 0 (numeral 0)
+zeroAt = tokenAt 0 (numeral (plain 0))
 
 module _ (reads : Kind → Reader) (readers : Readers reads) (inner outer : ℕ → Parser) (Inner Outer S : Family)
     (into : (k : Kind) (t : Tree) (ts : List Token) → Operand (reads k) (Inner k) (Outer k) t ts → S k t ts) where
@@ -18,7 +18,7 @@ module _ (reads : Kind → Reader) (readers : Readers reads) (inner outer : ℕ 
   P = operand (reads exact) inner outer
 
   operand-begun : Begun S []
-  operand-begun k = (number 0 0, zeroAt ∷ [], into k _ _ (a-numeral 0 0))
+  operand-begun k = (number 0 (plain 0), zeroAt ∷ [], into k _ _ (a-numeral 0 (plain 0)))
 
   -- where a level opens
   module _
@@ -59,7 +59,7 @@ module _ (reads : Kind → Reader) (readers : Readers reads) (inner outer : ℕ 
 -- no level is left
 module _ (reads : Kind → Reader) (readers : Readers reads) (Inner Outer S : Family)
     (into : (k : Kind) (t : Tree) (ts : List Token) → Operand (reads k) (Inner k) (Outer k) t ts → S k t ts)
-    (one-inner : Inner deeper (number 0 0) (zeroAt ∷ [])) (one-outer : Outer deeper (number 0 0) (zeroAt ∷ [])) where
+    (one-inner : Inner deeper (number 0 (plain 0)) (zeroAt ∷ [])) (one-outer : Outer deeper (number 0 (plain 0)) (zeroAt ∷ [])) where
   abbrev lowest : Parser
   lowest = operand (reads exact) (λ at us. deep at) (λ at us. deep at)
 
@@ -74,7 +74,7 @@ module _ (reads : Kind → Reader) (readers : Readers reads) (Inner Outer S : Fa
     refl,
     by-prefix at o,
     stays (of-next _ λ ws. refl)
-        (begun, (prefixed at o (number 0 0), zeroAt ∷ [], into deeper _ _ (a-prefixed at o one-inner))),
+        (begun, (prefixed at o (number 0 (plain 0)), zeroAt ∷ [], into deeper _ _ (a-prefixed at o one-inner))),
   )
 
   lowest-opening : (at : ℕ) (us : List Token) → Says lowest S (signAt at opening ∷ us) (deep at)
@@ -85,7 +85,7 @@ module _ (reads : Kind → Reader) (readers : Readers reads) (Inner Outer S : Fa
     refl,
     by-parenthesis at,
     stays (of-next _ λ ws. refl)
-        (begun, (number 0 0, zeroAt ∷ signAt 0 closing ∷ [], into deeper _ _ (a-parenthesis at 0 one-outer))),
+        (begun, (number 0 (plain 0), zeroAt ∷ signAt 0 closing ∷ [], into deeper _ _ (a-parenthesis at 0 one-outer))),
   )
 
   pub lowest-tells : Tells lowest S

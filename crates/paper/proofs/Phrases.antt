@@ -2,16 +2,16 @@
 use Prim.Native.Nat.{ℕ, zero, suc}
 use mathlib.Core.Bool.{Bool, true, false}
 use mathlib.Core.List.{List, [], _∷_, _++_}
-use Rattle.paper.specs.Tokens.{bytes, Prefix, Join, sequel, implies, orElse, andAlso, Comparison, join, comparison, prefix, opening, closing, colons, word, numeral, string, Token}
+use Rattle.paper.specs.Tokens.{Literal, plain, bytes, Prefix, Join, sequel, implies, orElse, andAlso, Comparison, join, comparison, prefix, opening, closing, colons, word, numeral, string, Token}
 use Rattle.paper.specs.Addresses.{address}
 use Rattle.paper.specs.Grammar.{Tree, truth, number, key, field, attribute, prefixed, joined, compared, Make, Reader, mostLevels}
 use Rattle.paper.specs.Sentences.{Phrases, tokenAt, signAt, Operator, Joining, joining, Comparing, comparing, Once, none-of, one-of, Chain, first, further, Operand, a-true, a-false, a-numeral, an-address, a-key, a-field, an-attribute, a-prefixed, a-parenthesis, Implication, Prefixed, Trailing, without, trailing, Valid}
 
 pub record HandedOn (Q : Tree → List Token → Type 0) : Type 0 where
   pub of-truth : (at : ℕ) (b : Bool) (w : List ℕ) → Q (truth at b) (tokenAt at (word w) ∷ [])
-  pub of-numeral : (at n : ℕ) → Q (number at n) (tokenAt at (numeral n) ∷ [])
+  pub of-numeral : (at : ℕ) (n : Literal) → Q (number at n) (tokenAt at (numeral n) ∷ [])
   pub of-address : (at : ℕ) (w : List ℕ) (a b c : ℕ) (q : List ℕ) (n : ℕ)
-      → Q (number at n) (tokenAt at (word w) ∷ signAt a opening ∷ tokenAt b (string q) ∷ signAt c closing ∷ [])
+      → Q (number at (plain n)) (tokenAt at (word w) ∷ signAt a opening ∷ tokenAt b (string q) ∷ signAt c closing ∷ [])
   pub of-key : (at : ℕ) (w : List ℕ) → Q (key at w) (tokenAt at (word w) ∷ [])
   pub of-field : (at : ℕ) (w : List ℕ) (a to : ℕ) (f : List ℕ)
       → Q (field at w to f) (tokenAt at (word w) ∷ signAt a colons ∷ tokenAt to (word f) ∷ [])

@@ -93,13 +93,13 @@ checkings = record { good = λ _. C.Passed; refusal = C.Refused; good-says = λ 
     go C.Passed = is-good tt
     go (C.Refused n p) = is-refusal n p
 
-judgements : Enum judgementSays
-judgements = record { good = verdict; refusal = J.Refused; good-says = said; refusal-says = λ n p. refl; either = go }
-  where
-    said : (b : Bool) → judgementSays (verdict b) ≡ ok b
-    said true = refl
-    said false = refl
+pub verdict-says : (b : Bool) → judgementSays (verdict b) ≡ ok b
+verdict-says true = refl
+verdict-says false = refl
 
+judgements : Enum judgementSays
+judgements = record { good = verdict; refusal = J.Refused; good-says = verdict-says; refusal-says = λ n p. refl; either = go }
+  where
     go : (r : Judgement) → Either verdict J.Refused r
     go J.Accepted = is-good true
     go J.Violated = is-good false
@@ -120,6 +120,9 @@ loadings = record { good = L.Loaded; refusal = L.Refused; good-says = λ n. refl
     go (L.Refused n p) = is-refusal n p
 
 -- results that say the same are the same
+
+pub reading-same : (r s : Reading) → readingSays r ≡ readingSays s → r ≡ s
+reading-same = same-says readingSays readings
 
 pub checking-same : (r s : Checking) → checkingSays r ≡ checkingSays s → r ≡ s
 checking-same = same-says checkingSays checkings
@@ -164,11 +167,11 @@ can-be-kept =
         run = λ list blocks entry. s .run list blocks entry .result;
       },
       record {
-        read = λ text. s .read text .satisfies;
-        check = λ text list. s .check text list .satisfies;
-        judge = λ text list entry. s .judge text list entry .satisfies;
-        translate = λ text list buffer. s .translate text list buffer .satisfies;
-        load = λ list blocks. s .load list blocks .satisfies;
-        run = λ list blocks entry. s .run list blocks entry .satisfies;
+        read = λ text _. s .read text .satisfies;
+        check = λ text list _ _. s .check text list .satisfies;
+        judge = λ text list entry _ _ _. s .judge text list entry .satisfies;
+        translate = λ text list buffer _ _ _. s .translate text list buffer .satisfies;
+        load = λ list blocks _ _. s .load list blocks .satisfies;
+        run = λ list blocks entry _ _ _. s .run list blocks entry .satisfies;
       },
     )

@@ -5,12 +5,12 @@ use mathlib.Core.Bool.{Bool, true, false, cond, _&&_}
 use mathlib.Core.Option.{Option, none, some}
 use mathlib.Core.List.{List, [], _∷_, _++_}
 use lib.ListN.{length, getElem?}
+use lib.Dec.{eqb}
 use Rattle.paper.specs.Answers.{Answer, ok, refused, _>>=_}
 use Rattle.paper.specs.Tokens.{bytes, sameBytes, Prefix, notSign, minusSign}
 use Rattle.paper.specs.Keys.{Key, findFrom, find}
-use Rattle.paper.specs.Entry.{isExact}
 use Rattle.paper.specs.Grammar.{Tree, truth, number, key, field, attribute, prefixed, joined, compared}
-use Rattle.paper.specs.Types.{Ty, bool, int, of, sameTy, when, andThen, Field, value, mask, prefixLength, low, high, has, fieldTy, fieldNamed, bareType, fieldType, prefixType, joinType, takes, meet, suits, compareType, comparisonType, operatorType, known, namedType, typeOf}
+use Rattle.paper.specs.Types.{Ty, bool, int, of, sameTy, when, andThen, Field, value, mask, prefixLength, low, high, has, fieldTy, fieldNamed, bareType, fieldType, prefixType, isNumber, joinType, meetKind, meet, compares, comparisonType, operatorType, known, namedType, typeOf}
 use Rattle.paper.specs.Code.{pushKey, pushField}
 use Rattle.paper.specs.Translating.{hasType, changed, convertTo, pushing, operation, codeOf}
 use Rattle.paper.specs.Written.{All, Width, InRange, CodeInRange}
@@ -28,6 +28,10 @@ of-operator : (at : ℕ) (o : Option Ty) → If Narrow o → Of Narrow (operator
 of-operator at none h = tt
 of-operator at (some a) h = h
 
+of-known : (at : ℕ) (o : Option Ty) → If Narrow o → Of Narrow (known at o)
+of-known at none h = tt
+of-known at (some a) h = h
+
 of-named : (at : ℕ) (o : Option Ty) → If Narrow o → Of Narrow (namedType at o)
 of-named at none h = tt
 of-named at (some a) h = h
@@ -37,20 +41,20 @@ has-narrow (ok a) h = h
 has-narrow (refused n i at) h = tt
 
 prefix-narrow : (o : Prefix) (a : Ty) → Narrow a → If Narrow (prefixType o a)
-prefix-narrow notSign bool h = tt
-prefix-narrow notSign int h = tt
-prefix-narrow notSign (of k w) h = tt
-prefix-narrow minusSign bool h = tt
-prefix-narrow minusSign int h = tt
-prefix-narrow minusSign (of k w) h = if-when Narrow (isExact k) (of k w) h
+prefix-narrow notSign a h = if-when Narrow (sameTy a bool) bool tt
+prefix-narrow minusSign a h = if-when Narrow (isNumber a) a h
 
 meet-narrow : (a b : Ty) → Narrow a → Narrow b → If Narrow (meet a b)
-meet-narrow a b h k = go (sameTy a b) (takes b a)
-  where
-    go : (s t : Bool) → If Narrow (cond s (some a) (cond t (some b) (when (takes a b) a)))
-    go true t = h
-    go false true = k
-    go false false = if-when Narrow (takes a b) a h
+meet-narrow bool bool h k = tt
+meet-narrow bool int h k = tt
+meet-narrow bool (of l x) h k = tt
+meet-narrow int bool h k = tt
+meet-narrow int int h k = tt
+meet-narrow int (of l x) h k = k
+meet-narrow (of j w) bool h k = tt
+meet-narrow (of j w) int h k = h
+meet-narrow (of j w) (of l x) h k =
+    if-then (λ _. Unit {0}) Narrow (meetKind j l) (λ i. when (eqb w x) (of i w)) (any (meetKind j l)) (λ i _. if-when Narrow (eqb w x) (of i w) h)
 
 field-narrow : (w : ℕ) (f : Field) → Width w → Narrow (fieldTy w f)
 field-narrow w value h = h
@@ -75,8 +79,9 @@ unfolding typeOf
 type-narrow ks h (truth at b) = tt
 type-narrow ks h (number at n) = tt
 type-narrow ks h (key at w) =
-    known-narrow at at (find ks w) (bareType ks)
-    (λ k. rw (map-then (λ (x : Key). of (x .kind) (x .width)) (getElem? ks k)) (elem-narrow ks h k _ (λ x wide. wide)))
+    of-known at (andThen (find ks w) (bareType ks))
+    (if-then (λ _. Unit {0}) Narrow (find ks w) (bareType ks) (any (find ks w))
+    (λ k _. rw (map-then (λ (x : Key). of (x .kind) (x .width)) (getElem? ks k)) (elem-narrow ks h k _ (λ x wide. wide))))
 type-narrow ks h (field at w to f) =
     known-narrow at to (find ks w) (λ k. andThen (fieldNamed f) (λ g. fieldType ks g k))
     (λ k.
@@ -92,11 +97,9 @@ type-narrow ks h (joined at o l r) =
     (λ b _. of-operator at (joinType a b) (if-when Narrow (sameTy a bool && sameTy b bool) bool tt)))
 type-narrow ks h (compared at c l r) =
     of-bind Narrow Narrow (typeOf ks l) _ (type-narrow ks h l)
-    (λ a x.
+    (λ a _.
     of-bind Narrow Narrow (typeOf ks r) _ (type-narrow ks h r)
-    (λ b y.
-    of-operator at (comparisonType c a b)
-    (if-then Narrow Narrow (meet a b) (λ m. compareType c m m) (meet-narrow a b x y) (λ m _. if-when Narrow (sameTy m m && suits c m) bool tt))))
+    (λ b _. of-operator at (comparisonType c a b) (if-when Narrow (compares c a b) bool tt)))
 
 -- indices of keys
 

@@ -3,15 +3,15 @@ use Prim.Native.Nat.{ℕ, zero, suc, _+_, _*_, _^_}
 use native.Mathlib.Nat.{suc-inj}
 use native.Mathlib.Omega.{arith}
 use mathlib.Core.Path.{_≡_, refl, ap, subst, _∙_}
-use mathlib.Core.Bool.{Bool, _&&_}
+use mathlib.Core.Bool.{Bool, not, _&&_, and-false}
 use mathlib.Core.Option.{Option, none, some, Option·map}
 use mathlib.Core.List.{List, [], _∷_, _++_, map, map-append}
 use lib.ListN.{length, getElem?}
 use lib.Dec.{eqb, ltb}
-use Rattle.paper.specs.Answers.{Answer, ok, refused, _>>=_, require, inEntry}
+use Rattle.paper.specs.Answers.{Answer, ok, refused, _>>=_, require, inTurn, inEntry}
 use Rattle.paper.specs.Tokens.{Comparison}
 use Rattle.paper.specs.Keys.{Kind, Key}
-use Rattle.paper.specs.Entry.{Match, Entry, headSize, matchSize, priorityOf, rulesFrom, matchesFrom, entryOf, isExact}
+use Rattle.paper.specs.Entry.{Match, Entry, headSize, matchSize, matchesFrom, isExact, priorityOf, ruleTest, entryOf}
 use Rattle.paper.specs.Types.{Ty, of, sameTy, when, andThen, Field, value, mask, prefixLength, low, high, has, fieldTy, bareType, fieldType, notType, negateType, joinType, takes, suits, compareType}
 use Rattle.paper.specs.Meaning.{Value, truth, whole, matched, tyOf, bareValue, fieldIn, fieldValue, notValue, negateValue, Connective, joinValue, compareValue, convertValue, holds}
 use Rattle.paper.specs.Code.{Instruction, pushBool, pushInt, pushKey, pushField, pushPriority, invert, negate, convert, compare, connects, Walk, fails, ends, walk, typeAction, valueAction, actionOf}
@@ -39,7 +39,7 @@ unfolding entryOf
 conforming ks entry e h =
     subst (Of (Covers ks)) h
     (three-stages (Covers ks) (require (eqb (length entry) (headSize + matchSize * length ks)) 19 inEntry (length entry))
-    (require (ltb (priorityOf entry) (2 ^ 31)) 20 inEntry 0) (rulesFrom entry 0 ks) _ (matches-length entry ks 0))
+    (require (ltb (priorityOf entry) (2 ^ 31)) 20 inEntry 0) (inTurn (ruleTest ks entry) 0 (length ks)) _ (matches-length entry ks 0))
 
 -- each operator gives a value where it gives a type, and it is of that type
 
@@ -54,7 +54,9 @@ negate-follows (whole z) = refl
 negate-follows (matched k w m) = map-when tyOf (isExact k) (matched k w _)
 
 convert-follows : (k : Kind) (w : ℕ) (a : Value) → when (takes (of k w) (tyOf a)) (of k w) ≡ Option·map tyOf (convertValue k w a)
-convert-follows k w a = map-when tyOf (takes (of k w) (tyOf a)) (matched k w _)
+convert-follows k w (truth b) = rw (and-false (not (isExact k)))
+convert-follows k w (whole z) = refl
+convert-follows k w (matched l x m) = map-when tyOf (takes (of k w) (of l x)) (matched k w _)
 
 pub compare-follows : (c : Comparison) (a b : Value) → compareType c (tyOf a) (tyOf b) ≡ Option·map tyOf (compareValue c a b)
 compare-follows c a b = map-when tyOf (sameTy (tyOf a) (tyOf b) && suits c (tyOf a)) (truth (holds c a b))

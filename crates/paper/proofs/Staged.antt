@@ -47,13 +47,29 @@ pub tells-as : {A B : Type 0} (i : Input) (F : Faults) (a : Answer A) (f : A →
 tells-as i F (ok v) f h = h
 tells-as i F (refused n j at) f h = h
 
+-- a stage that refuses only where there is a fault, and for each of its faults gives that one or one that comes sooner
+
+abbrev pub RefusedFor : {A : Type 0} → Answer A → Input → ℕ → ℕ → Type 0
+RefusedFor a i m to = (n at : ℕ) × (a ≡ refused n i at) × Sooner n at m to
+
+pub soonest-tells : {A : Type 0} (i : Input) (F : Faults) (a : Answer A)
+    → ((n : ℕ) (j : Input) (at : ℕ) → a ≡ refused n j at → (j ≡ i) × F n at) → ((m to : ℕ) → F m to → RefusedFor a i m to) → Tells i F a
+soonest-tells i F (ok v) has gives = λ m to h. let (n, at, e, sooner) = gives m to h in never-ok (sym e)
+soonest-tells i F (refused n j at) has gives =
+    let (same, fault) = has n j at refl in
+    (same, record { fault = fault; first = first })
+  where
+    first : (m to : ℕ) → F m to → Sooner n at m to
+    first m to h =
+        let (k, from, e, sooner) = gives m to h in
+        let number : k ≡ n = cc in
+        let place : from ≡ at = cc in
+        subst (λ x. Sooner x at m to) number (subst (λ y. Sooner k y m to) place sooner)
+
 -- a stage whose faults are at most one: it refuses where there is one, and only there
 pub exact-tells : {A : Type 0} (i : Input) (F : Faults) (a : Answer A)
     → ((n : ℕ) (j : Input) (at : ℕ) → a ≡ refused n j at → (j ≡ i) × F n at) → ((n at : ℕ) → F n at → a ≡ refused n i at) → Tells i F a
-exact-tells i F (ok v) has gives = λ n at h. never-ok (sym (gives n at h))
-exact-tells i F (refused n j at) has gives =
-    let (same, fault) = has n j at refl in
-    (same, only-wins fault (λ m to h. let e = gives m to h in (cc, cc)))
+exact-tells i F a has gives = soonest-tells i F a has (λ m to h. (m, to, gives m to h, inr (refl, omega arith)))
 
 -- faults of what an earlier stage passed on
 

@@ -25,6 +25,16 @@ pub bind-again : {A B C : Type 0} (x : Answer A) (f : A → Answer B) (g : B →
 bind-again (ok a) f g = refl
 bind-again (refused n i at) f g = refl
 
+-- a stage that tests what it hands on
+pub test-again : {A B : Type 0} (x : Answer A) (t : A → Answer (Unit {0})) (f : A → B)
+    → (x >>= (λ a. t a >>= λ _. ok a) >>= λ a. ok (f a)) ≡ (x >>= λ a. t a >>= λ _. ok (f a))
+test-again (refused n i at) t f = refl
+test-again (ok a) t f = go (t a)
+  where
+    go : (y : Answer (Unit {0})) → (y >>= (λ _. ok a) >>= λ a. ok (f a)) ≡ (y >>= λ _. ok (f a))
+    go (ok u) = refl
+    go (refused n i at) = refl
+
 -- the test passed
 pub require-ok : (t : Bool) (n : ℕ) (i : Input) (at : ℕ) (u : Unit {0}) → require t n i at ≡ ok u → t ≡ true
 require-ok true n i at u e = refl

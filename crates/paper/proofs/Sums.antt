@@ -11,7 +11,7 @@ use Rattle.paper.specs.Numbers.{byteAt, numberAt}
 use Rattle.paper.specs.Blocks.{sumsFrom, sumsOf, checkOf}
 use Rattle.paper.proofs.Digits.{number-back}
 
-wordSum : List ℕ → ℕ
+unfoldable pub wordSum : List ℕ → ℕ
 wordSum [] = 0
 wordSum (x ∷ []) = 0
 wordSum (x ∷ y ∷ s) = x * 256 + y + wordSum s
@@ -24,7 +24,7 @@ first-sum (x ∷ y ∷ s) a b h =
     let c = (a + (x * 256 + y)) % 65535 in
     first-sum s c ((b + c) % 65535) (omega arith) ∙ mod-add-mod (a + (x * 256 + y)) 65535 (wordSum s) ∙ ap (λ n. n % 65535) (add-assoc a (x * 256 + y) (wordSum s))
 
-first-of : (s : List ℕ) → sumsOf s .first ≡ wordSum s % 65535
+pub first-of : (s : List ℕ) → sumsOf s .first ≡ wordSum s % 65535
 unfolding sumsOf
 first-of s = first-sum s 0 0 (omega arith) ∙ ap (λ n. n % 65535) (zero-add (wordSum s))
 

@@ -17,7 +17,7 @@ use Rattle.paper.specs.Meaning.{valueOf, isTrue}
 use Rattle.paper.specs.Blocks.{blockSize, blocksNeeded}
 use Rattle.paper.specs.Loading.{program, loaded, valuesAlong, leftTrue}
 use Rattle.paper.specs.Translating.{codeOf}
-use Rattle.paper.specs.Calls.{sized, tree, Restriction, restriction, readAnswer, checkAnswer, judgeAnswer, translateAnswer, loadAnswer, runAnswer}
+use Rattle.paper.specs.Calls.{sized, tree, Restriction, restriction, readAnswer, checkAnswer, judgeAnswer, roomFor, translatable, translateAnswer, loadAnswer, runAnswer}
 use Rattle.paper.specs.Faults.{Faults, TextSize, text-over, TextTokens, TextGrammar, BufferSize, buffer-short}
 use Rattle.paper.specs.Table.{Free, stage, Given, sizeStages, listStages, treeStages, typeStages, bufferStages, blockStages, entryStages, readStages, checkStages, judgeStages, translateStages, loadStages, runStages, TableHolds}
 use Rattle.paper.proofs.Carried.{passing}
@@ -119,12 +119,13 @@ translate-follows : (text list buffer : List ℕ) → Follows (translateStages t
 unfolding translateAnswer
 translate-follows text list buffer =
     let size : Restriction → Faults = λ r. BufferSize r buffer in
-    follows-then (checkStages text list) (bufferStages text list buffer) (restriction text list) _ (restriction-follows text list)
+    follows-as (translateStages text list buffer) (translatable text list buffer) (λ r. count r buffer)
+    (follows-then (checkStages text list) (bufferStages text list buffer) (restriction text list) (roomFor buffer) (restriction-follows text list)
     (λ r passed.
     let room = require (leb (bytesNeeded r buffer) (length buffer)) 15 inBuffer (length buffer) in
-    follows-as (bufferStages text list buffer) room (λ _. count r buffer)
+    follows-as (bufferStages text list buffer) room (λ _. r)
     (follows-one inBuffer (Given (restriction text list) size) room
-    (given-tells (restriction text list) r passed size inBuffer room (buffer-tells r buffer))))
+    (given-tells (restriction text list) r passed size inBuffer room (buffer-tells r buffer)))))
 
 run-follows : (list blocks entry : List ℕ) → Follows (runStages list blocks entry) (runAnswer list blocks entry)
 unfolding runAnswer

@@ -1,16 +1,18 @@
 -- Refusals 5, 6 and 7 by the table.
 use Prim.Native.Nat.{ℕ, zero, suc, _+_, _-_, _≤_, _<_}
 use native.Mathlib.Nat.{add-zero}
+use native.Mathlib.Decide.{decLt, ℕ-discrete}
 use native.Mathlib.Omega.{arith}
+use mathlib.Core.Logic.{inl, inr}
 use mathlib.Core.Path.{_≡_, refl, sym, ap, ap₂, subst, fun-ext, _∙_}
 use mathlib.Core.List.{List, [], _∷_, _++_, append-assoc, append-nil, head-eq-of-cons-eq, tail-eq-of-cons-eq}
 use lib.ListN.{length, drop, length-append, length-drop, drop-of-length-le}
 use lib.Seq.{drop-cons, drop-drop}
 use Rattle.paper.specs.Answers.{Answer, ok, refused, _>>=_, inText}
-use Rattle.paper.specs.Tokens.{Token, Scan, blank, token, noToken, tooLarge, scan, onward, tokensFrom, tokens, mostTokens}
+use Rattle.paper.specs.Tokens.{Tok, Token, Scan, blank, token, noToken, tooLarge, scan, onward, tokensFrom, tokens, mostTokens}
 use Rattle.paper.specs.Faults.{scanAt, Cut, Cuts, at-start, a-blank, a-token, TextTokens, no-token, numeral-large, one-more-token}
 use Rattle.paper.specs.Table.{TokensAreCut}
-use Rattle.paper.proofs.Staged.{Tells, exact-tells}
+use Rattle.paper.proofs.Staged.{Tells, RefusedFor, soonest-tells}
 
 module _ (text : List ℕ) where
   -- behind the tokens cut so far: a refusal is a fault, and what passes cuts the text
@@ -34,8 +36,8 @@ module _ (text : List ℕ) where
   onward-told (token k n) at (suc room) ts go cut inside whole e later =
       let u : Token = record { at = at; tok = k } in
       with-first ts u (go n room) (later n room (ts ++ (u ∷ [])) (a-token k n cut inside e) (rw length-append (omega arith)))
-  onward-told noToken at room ts go cut inside whole e later = (refl, no-token cut (omega arith) inside e)
-  onward-told tooLarge at room ts go cut inside whole e later = (refl, numeral-large cut (omega arith) inside e)
+  onward-told noToken at room ts go cut inside whole e later = (refl, no-token cut inside e)
+  onward-told tooLarge at room ts go cut inside whole e later = (refl, numeral-large cut inside e)
 
   -- a byte that is there
   record There (at b : ℕ) (s : List ℕ) : Type 0 where
@@ -132,17 +134,48 @@ module _ (text : List ℕ) where
       ∙ ap (after ts)
       (reads-on at (mostTokens - length ts) inside ∙ ap₂ (λ c m. onward c at m (λ n left. reading (suc at + n) left)) e left ∙ gives)
 
-  fault-refused : (n at : ℕ) → TextTokens text n at → tokens text ≡ refused n inText at
-  fault-refused n at (no-token {ts = ts} cut few inside e) =
-      stopped at ts (mostTokens - length ts) 5 noToken cut few refl inside e refl
-  fault-refused n at (numeral-large {ts = ts} cut few inside e) =
-      stopped at ts (mostTokens - length ts) 6 tooLarge cut few refl inside e refl
+  full-refused : (at : ℕ) (ts : List Token) (k : Tok) (n : ℕ) → Cut text at ts → length ts ≡ mostTokens → at < length text
+      → scanAt text at ≡ token k n → tokens text ≡ refused 7 inText at
+  full-refused at ts k n cut full inside e = stopped at ts 0 7 (token k n) cut (omega arith) (omega arith) inside e refl
+
+  abbrev SevenBefore : ℕ → Type 0
+  SevenBefore at = (to : ℕ) × (tokens text ≡ refused 7 inText to) × (to < at)
+
+  -- more tokens than there is room for: one of them was the first too many
+  too-many : (at : ℕ) (ts : List Token) → Cut text at ts → mostTokens < length ts → SevenBefore at
+  too-many at ts at-start many = absurd (omega arith)
+  too-many at ts (a-blank {at = from} n cut inside e) many =
+      let (to, given, l) = too-many from ts cut many in
+      (to, given, omega arith)
+  too-many at ts (a-token {at = from} {ts = vs} k n cut inside e) many = go (ℕ-discrete (length vs) mostTokens) (λ l. too-many from vs cut l)
+    where
+      more : length ts ≡ suc (length vs)
+      more = length-append vs (record { at = from; tok = k } ∷ []) ∙ omega arith
+
+      go : Dec (length vs ≡ mostTokens) → (mostTokens < length vs → SevenBefore from) → SevenBefore at
+      go (yes full) before = (from, full-refused from vs k n cut full inside e, omega arith)
+      go (no other) before = let (to, given, l) = before (omega (arith, more)) in (to, given, omega arith)
+
+  -- 5 or 6, unless there are too many tokens before it
+  refused-for : (at : ℕ) (ts : List Token) (n : ℕ) → Cut text at ts → (length ts ≤ mostTokens → tokens text ≡ refused n inText at)
+      → RefusedFor (tokens text) inText n at
+  refused-for at ts n cut given = go (decLt mostTokens (length ts))
+    where
+      go : Dec (mostTokens < length ts) → RefusedFor (tokens text) inText n at
+      go (yes many) = let (to, earlier, l) = too-many at ts cut many in (7, to, earlier, inl l)
+      go (no few) = (n, at, given (omega arith), inr (refl, omega arith))
+
+  fault-refused : (n at : ℕ) → TextTokens text n at → RefusedFor (tokens text) inText n at
+  fault-refused n at (no-token {ts = ts} cut inside e) =
+      refused-for at ts 5 cut (λ few. stopped at ts (mostTokens - length ts) 5 noToken cut few refl inside e refl)
+  fault-refused n at (numeral-large {ts = ts} cut inside e) =
+      refused-for at ts 6 cut (λ few. stopped at ts (mostTokens - length ts) 6 tooLarge cut few refl inside e refl)
   fault-refused n at (one-more-token {ts = ts} k m cut full inside e) =
-      stopped at ts 0 7 (token k m) cut (omega (arith, full)) (omega (arith, full)) inside e refl
+      (7, at, full-refused at ts k m cut full inside e, inr (refl, omega arith))
 
   pub tokens-tell : Tells inText (TextTokens text) (tokens text)
   tokens-tell =
-      exact-tells inText (TextTokens text) (tokens text) (λ n j at e. subst (Told []) e tokens-told) fault-refused
+      soonest-tells inText (TextTokens text) (tokens text) (λ n j at e. subst (Told []) e tokens-told) fault-refused
 
   -- all of it cut
   cuts-read : (ts : List Token) → Cuts text ts → tokens text ≡ ok ts

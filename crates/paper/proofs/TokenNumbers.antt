@@ -8,13 +8,13 @@ use lib.ListN.{length, take, drop}
 use lib.Dec.{eqb, ltb}
 use borrow.Author.Tests.{ltb-true}
 use Rattle.paper.specs.Answers.{Answer, ok}
-use Rattle.paper.specs.Tokens.{is, span, starts, isIdByte, Numeral, spelling, isNumeral, numeralValue, Sign, oneByte, twoBytes, Tok, word, numeral, string, sign, Token, Scan, blank, token, noToken, tooLarge, scanComment, scanOne, scanTwo, scanSign, Class, isSpace, isSlash, isQuote, isLetter, isFigure, isOther, classOf, scanClass, scan, onward, tokensFrom, tokens, mostTokens}
+use Rattle.paper.specs.Tokens.{literalOf, is, span, starts, isIdByte, Numeral, spelling, isNumeral, numeralValue, Sign, oneByte, twoBytes, Tok, word, numeral, string, sign, Token, Scan, blank, token, noToken, tooLarge, scanComment, scanOne, scanTwo, scanSign, Class, isSpace, isSlash, isQuote, isLetter, isFigure, isOther, classOf, scanClass, scan, onward, tokensFrom, tokens, mostTokens}
 use Rattle.paper.specs.Written.{All}
 use Rattle.paper.proofs.Stages.{Of, of-bind}
 
 abbrev pub Good : Tok → Type 0
 Good (word w) = Unit {0}
-Good (numeral n) = n < 2 ^ 128
+Good (numeral n) = n .value < 2 ^ 128
 Good (string q) = Unit {0}
 Good (sign g) = Unit {0}
 
@@ -48,7 +48,7 @@ signs-good b [] = sign-good (oneByte b)
 signs-good b (c ∷ s) = two-good (twoBytes b c) b
 
 numeral-good : (n : Numeral) (more : ℕ) (b : Bool) → ltb (numeralValue n) (2 ^ 128) ≡ b
-    → Scanned (cond b (token (numeral (numeralValue n)) more) tooLarge)
+    → Scanned (cond b (token (numeral (literalOf n)) more) tooLarge)
 numeral-good n more true e = ltb-true (numeralValue n) (2 ^ 128) e
 numeral-good n more false e = tt
 
@@ -61,7 +61,7 @@ class-good isQuote b s =
 class-good isLetter b s = tt
 class-good isFigure b s =
     let n = spelling (b ∷ take (span isIdByte s) s) in
-    either (isNumeral n) (cond (ltb (numeralValue n) (2 ^ 128)) (token (numeral (numeralValue n)) (span isIdByte s)) tooLarge) noToken
+    either (isNumeral n) (cond (ltb (numeralValue n) (2 ^ 128)) (token (numeral (literalOf n)) (span isIdByte s)) tooLarge) noToken
     (numeral-good n (span isIdByte s) (ltb (numeralValue n) (2 ^ 128)) refl) tt
 class-good isOther b s = signs-good b s
 

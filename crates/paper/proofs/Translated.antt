@@ -2,8 +2,9 @@
 use Prim.Native.Nat.{ℕ, _+_, _≤_, _<_}
 use native.Mathlib.Omega.{arith}
 use mathlib.Core.Path.{_≡_, refl, sym, ap, ap₂, subst, _∙_}
-use mathlib.Core.Bool.{Bool, true, false, cond}
-use mathlib.Core.Option.{Option, none, some, Option·map, Option·some-injective, Option·none-ne-some}
+use mathlib.Core.Logic.{inl, inr}
+use mathlib.Core.Bool.{Bool, true, false, cond, false≢true}
+use mathlib.Core.Option.{Option, none, some, Option·map}
 use mathlib.Core.List.{List, [], _∷_, _++_, map, map-append, append-assoc}
 use lib.ListN.{length, length-map}
 use borrow.Author.Tests.{lt-ltb}
@@ -13,15 +14,15 @@ use Rattle.paper.specs.Keys.{Key, find}
 use Rattle.paper.specs.Entry.{Entry}
 use Rattle.paper.specs.Grammar as G
 use Rattle.paper.specs.Grammar.{Tree}
-use Rattle.paper.specs.Types.{Ty, bool, int, of, sameTy, when, andThen, Field, fieldNamed, meet, typeOf}
-use Rattle.paper.specs.Meaning.{Value, truth, whole, matched, tyOf, bareValue, fieldValue, prefixValue, connective, convertValue, joinValue, inType, compareValue, comparisonValue, valueOf}
+use Rattle.paper.specs.Types.{Ty, bool, int, of, sameTy, when, andThen, Field, fieldNamed, meet, takes, typeOf}
+use Rattle.paper.specs.Meaning.{Value, truth, whole, matched, tyOf, bareValue, fieldValue, prefixValue, connective, joinValue, inType, compareValue, comparisonValue, valueOf}
 use Rattle.paper.specs.Code.{Instruction, pushBool, pushInt, pushKey, pushField, pushPriority, convert, compare, connects, Action, mostHeld, put, act, ends, walk, typeAction, valueAction, actionOf}
 use Rattle.paper.specs.Translating.{hasType, changed, convertTo, pushing, operation, codeOf}
 use Rattle.paper.specs.Sound.{seenBy, Covers}
 use Rattle.paper.specs.Translated.{needs, CodePushesType, CodePushesValue}
 use Rattle.paper.proofs.Walks.{walk-append}
 use Rattle.paper.proofs.Sound.{types-follow}
-use Rattle.paper.proofs.Meant.{meets, values-have-types, typed-meant}
+use Rattle.paper.proofs.Meant.{Comes, stays, meets, compared-there, values-have-types, typed-meant}
 
 -- sequences one after another, whatever is held
 
@@ -58,27 +59,21 @@ module _ (ks : List Key) (e : Entry) where
   abbrev run : Instruction → Action Value
   run i = valueAction ks e i
 
-  converts-to : (m : Ty) (a x : Value) (s : List Value) → length s < mostHeld → sameTy (tyOf a) m ≡ false → inType m a ≡ some x
-      → Leads run (convertTo m) (a ∷ s) (x ∷ s)
-  converts-to bool a x s room other h = absurd (Option·none-ne-some x (rw other at h))
-  converts-to int a x s room other h = absurd (Option·none-ne-some x (rw other at h))
-  converts-to (of k w) a x s room other h =
-      let c : convertValue k w a ≡ some x = rw other at h in
-      gives-one run (convert k w) (a ∷ s) s (some x) (ap (λ o. put o s) c) room
+  converts-to : (m : Ty) (a : Value) (s : List Value) → length s < mostHeld → takes m (tyOf a) ≡ true
+      → Leads run (convertTo m) (a ∷ s) (inType m a ∷ s)
+  converts-to bool a s room h = absurd (false≢true h)
+  converts-to int a s room h = absurd (false≢true h)
+  converts-to (of k w) a s room h = gives-one run (convert k w) (a ∷ s) s (some (inType (of k w) a)) (rw h) room
 
-  keeps : (m : Ty) (a : Value) → sameTy (tyOf a) m ≡ true → inType m a ≡ some a
-  keeps bool a h = rw h
-  keeps int a h = rw h
-  keeps (of k w) a h = rw h
-
-  converts : (m : Ty) (a x : Value) (s : List Value) → length s < mostHeld → inType m a ≡ some x
-      → Leads run (changed (some (tyOf a)) (some m)) (a ∷ s) (x ∷ s)
+  converts : (m : Ty) (a : Value) (s : List Value) → length s < mostHeld → Comes m a
+      → Leads run (changed (some (tyOf a)) (some m)) (a ∷ s) (inType m a ∷ s)
   unfolding walk
-  converts m a x s room h = go (sameTy (tyOf a) m) refl
+  converts m a s room comes = go (sameTy (tyOf a) m) refl comes
     where
-      go : (b : Bool) → sameTy (tyOf a) m ≡ b → Leads run (cond b [] (convertTo m)) (a ∷ s) (x ∷ s)
-      go true q = λ i. ap (λ y. ends (y ∷ s)) (Option·some-injective a x (sym (keeps m a q) ∙ h))
-      go false q = converts-to m a x s room q h
+      go : (b : Bool) → sameTy (tyOf a) m ≡ b → Comes m a → Leads run (cond b [] (convertTo m)) (a ∷ s) (inType m a ∷ s)
+      go true q h = λ i. ap (λ y. ends (y ∷ s)) (sym (stays m a q))
+      go false q (inl h) = absurd (false≢true (sym q ∙ h))
+      go false q (inr h) = converts-to m a s room h
 
   -- an operand on each side, and its conversion behind it
   compared-gives : (c : Comparison) (xs ys : List Instruction) (a b : Value) (s : List Value) → length s + 1 < mostHeld
@@ -87,17 +82,17 @@ module _ (ks : List Key) (e : Entry) where
   compared-gives c xs ys a b s room left right none q = rw q tt
   compared-gives c xs ys a b s room left right (some m) q =
       let both = meets a b m q in
-      let x = both .0 .into in
-      let y = both .1 .into in
+      let x = inType m a in
+      let y = inType m b in
       let first = changed (some (tyOf a)) (some m) in
       let second = changed (some (tyOf b)) (some m) in
-      rw (q, both .0 .there, both .1 .there)
+      rw (compared-there c a b m q)
       (leads-gives run (xs ++ first ++ ys ++ second) (compare c ∷ []) s (y ∷ x ∷ s) s (compareValue c x y)
       (leads-append run (xs ++ first ++ ys) second s (b ∷ x ∷ s) (y ∷ x ∷ s)
       (leads-append run (xs ++ first) ys s (x ∷ s) (b ∷ x ∷ s)
-      (leads-append run xs first s (a ∷ s) (x ∷ s) left (converts m a x s (omega arith) (both .0 .there)))
+      (leads-append run xs first s (a ∷ s) (x ∷ s) left (converts m a s (omega arith) (both .0)))
       (right (x ∷ s) (omega arith)))
-      (converts m b y (x ∷ s) (omega arith) (both .1 .there)))
+      (converts m b (x ∷ s) (omega arith) (both .1)))
       (gives-one run (compare c) (y ∷ x ∷ s) s (compareValue c x y) refl (omega arith)))
 
   comparison-gives : (c : Comparison) (xs ys : List Instruction) (ta tb : Option Ty) (va vb : Option Value)
@@ -146,7 +141,7 @@ module _ (ks : List Key) (e : Entry) where
     code-gives : (t : Tree) (s : List Value) → length s + needs t ≤ mostHeld → Gives run (codeOf ks t) s s (valueOf ks e t)
     unfolding codeOf valueOf
     code-gives (G.truth at b) s room = gives-one run (pushBool b) s s (some (truth b)) refl (omega arith)
-    code-gives (G.number at n) s room = gives-one run (pushInt n) s s (some (whole (pos n))) refl (omega arith)
+    code-gives (G.number at n) s room = gives-one run (pushInt (n .value)) s s (some (whole (pos (n .value)))) refl (omega arith)
     code-gives (G.key at w) s room = key-gives (find ks w) s (omega arith)
     code-gives (G.field at w to f) s room = field-gives (find ks w) (fieldNamed f) s (omega arith)
     code-gives (G.attribute at to f) s room = priority-gives (sameBytes f (bytes "priority")) s (omega arith)

@@ -35,7 +35,7 @@ found-there (x ∷ ks) w m k h = go (sameBytes (x .name) w) h (found-there ks w 
     go true h later = (0, x, sym (Option·some-injective m k h) ∙ sym (add-zero m), refl)
     go false h later = let (i, y, e, there) = later h in (suc i, y, omega (arith, e), there)
 
-bare-found : (ks : List Key) (w : List ℕ) (k : ℕ) → find ks w ≡ some k → (a : Ty) × (bareType ks k ≡ some a)
+pub bare-found : (ks : List Key) (w : List ℕ) (k : ℕ) → find ks w ≡ some k → (a : Ty) × (bareType ks k ≡ some a)
 bare-found ks w k h =
     let (i, x, e, there) = found-there ks w 0 k h in
     let same : k ≡ i = omega (arith, e) in
@@ -185,12 +185,12 @@ module _ (L F : Faults) (at : ℕ) (op : Ty → Option Ty) (x : Answer Ty) (wron
 
 module _ (ks : List Key) where
   key-tells : (at : ℕ) (w : List ℕ) (o : Option ℕ) → find ks w ≡ o
-      → Tells inText (TreeTypes ks (key at w)) (known at o >>= λ k. namedType at (bareType ks k))
+      → Tells inText (TreeTypes ks (key at w)) (known at (andThen o (bareType ks)))
   key-tells at w none e =
       (refl, only-wins (key-unknown at e) (λ m q f. let (d, h, _) = behind ks (key at w) m q f in (d, h)))
   key-tells at w (some k) e =
       let (a, there) = bare-found ks w k e in
-      subst (λ o. Tells inText (TreeTypes ks (key at w)) (namedType at o)) (sym there)
+      subst (λ o. Tells inText (TreeTypes ks (key at w)) (known at o)) (sym there)
       (λ m q f. let (_, _, missing) = behind ks (key at w) m q f in Option·none-ne-some k (sym missing ∙ e))
 
   module _ (at : ℕ) (w : List ℕ) (past : ℕ) (f : List ℕ) where

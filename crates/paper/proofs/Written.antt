@@ -3,7 +3,7 @@ use Prim.Native.Nat.{ℕ, zero, suc, _+_, _*_, _-_, _/_, _%_, _≤_, _<_, min}
 use native.Mathlib.Nat.{sub-zero, div-add-mod, zero-add}
 use native.Mathlib.Numerals.{add-one}
 use native.Mathlib.Omega.{arith}
-use mathlib.Core.Path.{_≡_, refl, sym, ap, _∙_}
+use mathlib.Core.Path.{_≡_, sym, ap, _∙_}
 use mathlib.Core.Bool.{true}
 use mathlib.Core.Option.{some}
 use mathlib.Core.List.{List, _∷_, _++_, map, append-assoc}
@@ -14,13 +14,14 @@ use Rattle.paper.specs.Answers.{ok}
 use Rattle.paper.specs.Numbers.{bytesAt}
 use Rattle.paper.specs.Keys.{mostKeys}
 use Rattle.paper.specs.Code.{Instruction, pushPriority, instructionSize, encode, partsAt, decode}
-use Rattle.paper.specs.Blocks.{blockSize, inBlock, mostBlocks, checkOf, sealed, blocksNeeded, blocksFrom, blocksOf, countAt, countsFrom, totalOf, countOk, layoutFrom, layout}
+use Rattle.paper.specs.Blocks.{blockSize, inBlock, mostBlocks, checkOf, sealed, blocksNeeded, blocksFrom, blocksOf, countAt, countsFrom, blocksIn, totalOf, countOk, blockTest, layout}
 use Rattle.paper.specs.Loading.{instructionAt, instructionsFrom}
 use Rattle.paper.specs.Written.{All, InRange, Written, BlocksBack}
 use Rattle.paper.proofs.Basics.{all-at}
 use Rattle.paper.proofs.Digits.{number-back}
 use Rattle.paper.proofs.Encoded.{bytes-back, row-there}
 use Rattle.paper.proofs.OneBlock.{body, behindCode, at-count, at-code, block-passes, taken, block-length, blocks-length, block-there}
+use Rattle.paper.proofs.InTurn.{all-pass}
 
 module _ (keys : ℕ) (code : List Instruction) (keys-few : keys ≤ mostKeys) (nonempty : 1 ≤ length code) (few : length code ≤ mostBlocks * inBlock) where
   abbrev total : ℕ
@@ -88,11 +89,11 @@ module _ (keys : ℕ) (code : List Instruction) (keys-few : keys ≤ mostKeys) (
       rw (le-leb 1 (length (part k)) (omega (arith, part-length k)), le-leb (length (part k)) inBlock (few-here k))
   count-ok (suc n) k e = eq-eqb (length (part k)) inBlock (omega (arith, part-length k))
 
-  each-passes : (n k : ℕ) → k + n ≡ many → layoutFrom keys blocks k n ≡ ok tt
-  each-passes zero k e = refl
-  each-passes (suc n) k e =
-      let p = block-passes total keys k (part k) (few-here k) blocks n (stands k (omega arith)) counted (count-ok n k e) (omega arith) (omega arith) (omega arith) in
-      rw p (each-passes n (k + 1) (omega arith))
+  each : (k : ℕ) → k < many → blockTest keys blocks k ≡ ok tt
+  each k h =
+      let later : blocksIn blocks - (k + 1) ≡ many - (k + 1) = rw as-many in
+      let fits : countOk (blocksIn blocks - (k + 1)) (length (part k)) ≡ true = rw later (count-ok (many - (k + 1)) k (omega arith)) in
+      rw (block-passes total keys k (part k) (few-here k) blocks (stands k h) counted fits (omega arith) (omega arith) (omega arith))
 
   passes : layout keys blocks ≡ ok tt
   unfolding layout
@@ -101,7 +102,7 @@ module _ (keys : ℕ) (code : List Instruction) (keys-few : keys ≤ mostKeys) (
       let long : 0 < length blocks = omega (arith, whole-length) in
       let even : length blocks % blockSize ≡ 0 = omega (arith, whole-length) in
       rw (lt-ltb 0 (length blocks) long, eq-eqb (length blocks % blockSize) 0 even, le-leb (length blocks) (mostBlocks * blockSize) sized, as-many)
-      (each-passes many 0 (omega arith))
+      (all-pass (blockTest keys blocks) many each)
 
   -- the sequence
 

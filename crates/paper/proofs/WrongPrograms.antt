@@ -1,40 +1,47 @@
 -- The wrong programs fail, each at an input: the cases 2 and 7 of the marked judgements, `true` with no keys, and `true; v == 0`.
-use Prim.Native.Nat.{ℕ, zero, suc, _*_, _≤_}
+use Prim.Native.Nat.{ℕ, zero, suc, _+_, _*_, _≤_}
 use native.Mathlib.Omega.{arith}
 use mathlib.Core.Path.{_≡_, refl, sym, ap, _∙_}
 use mathlib.Core.Bool.{Bool, true, false, true≢false}
 use mathlib.Core.Option.{some}
 use mathlib.Core.List.{List, [], _∷_}
 use lib.ListN.{length, take, replicate, length-replicate}
+use lib.Dec.{lit<}
 use Rattle.paper.specs.declared.Checking.the-variants as C
 use Rattle.paper.specs.declared.Judgement.the-variants as J
 use Rattle.paper.specs.declared.Loading.the-variants as L
+use Rattle.paper.specs.declared.Translation.the-variants as T
 use Rattle.paper.specs.Answers.{ok, refused, inBlocks, judgementSays, translationSays, loadingSays}
 use Rattle.paper.specs.Numbers.{byteAt}
-use Rattle.paper.specs.Tokens.{bytes}
+use Rattle.paper.specs.Tokens.{bytes, is}
 use Rattle.paper.specs.Keys.{keys}
-use Rattle.paper.specs.Meaning.{truth, isTrue, valueOf}
+use Rattle.paper.specs.Meaning.{truth, isTrue}
 use Rattle.paper.specs.Code.{invert}
 use Rattle.paper.specs.Blocks.{blockSize, mostBlocks, blocksNeeded, blocksOf, countAt, layout}
-use Rattle.paper.specs.Calls.{checkAnswer, judgeAnswer, loadAnswer, runAnswer}
+use Rattle.paper.specs.Grammar.{nodes}
+use Rattle.paper.specs.Translating.{conversions}
+use Rattle.paper.specs.Calls.{Restriction, checkAnswer, translateAnswer, judgeAnswer, loadAnswer, runAnswer}
 use Rattle.paper.specs.Marked.{theKeys, theEntry}
-use Rattle.paper.specs.Promised.{verdict, Programs, Kept}
-use Rattle.paper.specs.Demands.{DemandTwo, DemandThree}
-use Rattle.paper.specs.WrongPrograms.{RefusesAll, AcceptsAll, WritesNothing, FirstPartOnly, PassesNothing, PassesAll, CountsRight, KeepsCheck, KeepsLoad, WrongProgramsFail, NoWrongProgram, paddedText, paddedBlocks, PaddingSeen}
+use Rattle.paper.specs.Promised.{verdict, Bytes, Programs, KeepsCheck, KeepsLoad}
+use Rattle.paper.specs.Demands.{DemandOne, DemandTwo, DemandThree}
+use Rattle.paper.specs.WrongPrograms.{RefusesAll, AcceptsAll, WritesNothing, FirstPartOnly, PassesNothing, PassesAll, WantsAllBlocks, CountsRight, WrongProgramsFail, NoWrongProgram, paddedText, paddedBlocks, PaddingSeen}
 use Rattle.paper.proofs.Stages.{never-ok, ok-same}
-use Rattle.paper.proofs.Carried.{counted, translates, translating, translated}
 use Rattle.paper.proofs.Laid.{first-counted}
+use Rattle.paper.proofs.Table.{table-holds}
 use Rattle.paper.proofs.Damaged.{called}
 use Rattle.paper.proofs.Promised.{checking-same}
-use Rattle.paper.proofs.Demands.{judgeable-answer, answer-judgeable, judgeable-truth, demand-two-met, demand-three-met}
+use Rattle.paper.proofs.ByteLists.{take-bytes, zero-bytes, all-bytes, blocks-bytes}
+use Rattle.paper.proofs.DemandOne.{demand-one-met}
+use Rattle.paper.proofs.DemandTwo.{restricts, checkable-restriction, worth as value, judgeable-answer, answer-judgeable, judgeable-truth, demand-two-met}
+use Rattle.paper.proofs.DemandThree.{demand-three-met}
 
 -- what demand 2 says of an entry that is judged
-by-demand-two : (p : Programs) → DemandTwo p → (text list entry : List ℕ) (b : Bool) → judgeAnswer text list entry ≡ ok b
+by-demand-two : (p : Programs) → DemandTwo p → (text list entry : List ℕ) → Bytes text → Bytes list → Bytes entry → (b : Bool) → judgeAnswer text list entry ≡ ok b
     → p .judge text list entry ≡ verdict b
-by-demand-two p two text list entry b e = go b e
+by-demand-two p two text list entry bt bl be b e = go b e
   where
     worth : (b : Bool) (e : judgeAnswer text list entry ≡ ok b) →
-        (let j = answer-judgeable text list entry b e in valueOf (j .ks) (j .on) (j .root) ≡ some (truth b))
+        (let j = answer-judgeable text list entry b e in value text list entry j ≡ some (truth b))
     worth b e =
         let j = answer-judgeable text list entry b e in
         let (c, there) = judgeable-truth text list entry j in
@@ -42,11 +49,17 @@ by-demand-two p two text list entry b e = go b e
         there ∙ ap (λ x. some (truth x)) same
 
     go : (b : Bool) → judgeAnswer text list entry ≡ ok b → p .judge text list entry ≡ verdict b
-    go true e = two .accepts text list entry (answer-judgeable text list entry true e) .1 (worth true e)
-    go false e = two .violates text list entry (answer-judgeable text list entry false e) .1 (worth false e)
+    go true e = two .judges text list entry bt bl be .accepts (answer-judgeable text list entry true e) .1 (worth true e)
+    go false e = two .judges text list entry bt bl be .violates (answer-judgeable text list entry false e) .1 (worth false e)
 
 not-both : J.Accepted ≡ J.Violated → ⊥
 not-both e = true≢false (ok-same true false (ap judgementSays e))
+
+keys-bytes : Bytes theKeys
+keys-bytes = all-bytes theKeys refl
+
+entry-bytes : Bytes theEntry
+entry-bytes = all-bytes theEntry refl
 
 -- case 2
 
@@ -56,7 +69,8 @@ case-two = refl
 
 refusing-fails : (p : Programs) → DemandTwo p → ¬ RefusesAll p
 refusing-fails p two all =
-    two .refuses (bytes "true;") theKeys theEntry .0 (all (bytes "true;") theKeys theEntry)
+    let t : Bytes (bytes "true;") = all-bytes (bytes "true;") refl in
+    two .judges (bytes "true;") theKeys theEntry t keys-bytes entry-bytes .refuses .0 (all (bytes "true;") theKeys theEntry t keys-bytes entry-bytes)
     (answer-judgeable (bytes "true;") theKeys theEntry true case-two)
 
 -- case 7
@@ -67,7 +81,10 @@ case-seven = refl
 
 accepting-fails : (p : Programs) → DemandTwo p → ¬ AcceptsAll p
 accepting-fails p two all =
-    not-both (sym (all (bytes "d == 0x20") theKeys theEntry) ∙ by-demand-two p two (bytes "d == 0x20") theKeys theEntry false case-seven)
+    let t : Bytes (bytes "d == 0x20") = all-bytes (bytes "d == 0x20") refl in
+    not-both
+    (sym (all (bytes "d == 0x20") theKeys theEntry t keys-bytes entry-bytes)
+    ∙ by-demand-two p two (bytes "d == 0x20") theKeys theEntry t keys-bytes entry-bytes false case-seven)
 
 -- a buffer of 82 blocks, which any translation fits
 
@@ -78,9 +95,21 @@ enough : mostBlocks * blockSize ≤ length zeros
 unfolding zeros
 enough = omega (arith, length-replicate {A = ℕ} 41984 0)
 
-passes : (p : Programs) → KeepsCheck p → (text list : List ℕ) → checkAnswer text list ≡ ok tt → p .check text list ≡ C.Passed
-passes p checks text list e =
-    checking-same (p .check text list) C.Passed (checks text list ∙ e)
+zeros-bytes : Bytes zeros
+unfolding zeros
+zeros-bytes = zero-bytes 41984
+
+passes : (p : Programs) → KeepsCheck p → (text list : List ℕ) → Bytes text → Bytes list → checkAnswer text list ≡ ok tt
+    → p .check text list ≡ C.Passed
+passes p checks text list t l e =
+    checking-same (p .check text list) C.Passed (checks text list t l ∙ e)
+
+-- a text that passes is written there
+written-there : (p : Programs) → KeepsCheck p → DemandThree p → (text list : List ℕ) → Bytes text → Bytes list
+    → checkAnswer text list ≡ ok tt → (n : ℕ) × (p .translate text list zeros .answer ≡ T.Written n)
+written-there p checks three text list t l e =
+    let w = three .translates text list t l (passes p checks text list t l e) in
+    (w .count, w .enough zeros zeros-bytes (omega (arith, w .few, enough)))
 
 -- `true` with no keys
 
@@ -107,17 +136,22 @@ zeros-refused list k n e =
 
 idle-fails : (p : Programs) → KeepsCheck p → KeepsLoad p → DemandThree p → ¬ WritesNothing p
 idle-fails p checks loads three idle =
-    let (n, written) = three .translates (bytes "true") [] zeros (passes p checks (bytes "true") [] plain-passes) enough in
-    let there = three .carries (bytes "true") [] zeros n written .loads in
-    let same : p .load [] (take (blockSize * blocksNeeded n) zeros) ≡ L.Loaded n = rw (idle (bytes "true") [] zeros) at there in
-    zeros-refused [] (blockSize * blocksNeeded n) n (sym (loads [] (take (blockSize * blocksNeeded n) zeros)) ∙ ap loadingSays same)
+    let t : Bytes (bytes "true") = all-bytes (bytes "true") refl in
+    let (n, written) = written-there p checks three (bytes "true") [] t tt plain-passes in
+    let there = three .carries (bytes "true") [] zeros t tt zeros-bytes n written .loads in
+    let same : p .load [] (take (blockSize * blocksNeeded n) zeros) ≡ L.Loaded n = rw (idle (bytes "true") [] zeros t tt zeros-bytes) at there in
+    zeros-refused [] (blockSize * blocksNeeded n) n (sym (loads [] (take (blockSize * blocksNeeded n) zeros) tt (take-bytes (blockSize * blocksNeeded n) zeros zeros-bytes)) ∙ ap loadingSays same)
 
 barring-fails : (p : Programs) → KeepsCheck p → DemandThree p → ¬ PassesNothing p
 barring-fails p checks three none-passes =
-    let (n, written) = three .translates (bytes "true") [] zeros (passes p checks (bytes "true") [] plain-passes) enough in
-    let there = three .carries (bytes "true") [] zeros n written .loads in
-    let (m, at, e) = none-passes [] (take (blockSize * blocksNeeded n) (p .translate (bytes "true") [] zeros .buffer)) in
-    never-ok (ap loadingSays (sym e ∙ there))
+    let t : Bytes (bytes "true") = all-bytes (bytes "true") refl in
+    let (n, written) = written-there p checks three (bytes "true") [] t tt plain-passes in
+    let there = three .carries (bytes "true") [] zeros t tt zeros-bytes n written in
+    let exit = p .translate (bytes "true") [] zeros .buffer in
+    let (m, at, e) =
+    none-passes [] (take (blockSize * blocksNeeded n) exit) tt (take-bytes (blockSize * blocksNeeded n) exit (three .bytes (bytes "true") [] zeros t tt zeros-bytes))
+    in
+    never-ok (ap loadingSays (sym e ∙ there .loads))
 
 -- `true; v == 0`
 
@@ -133,14 +167,29 @@ first-accepted : judgeAnswer (bytes "true") theKeys theEntry ≡ ok true
 unfolding judgeAnswer
 first-accepted = refl
 
+plain-there : checkAnswer (bytes "true") theKeys ≡ ok tt
+unfolding checkAnswer
+plain-there = refl
+
+rest-passes : checkAnswer (bytes " v == 0") theKeys ≡ ok tt
+unfolding checkAnswer
+rest-passes = refl
+
 cutting-fails : (p : Programs) → KeepsCheck p → DemandTwo p → DemandThree p → ¬ FirstPartOnly p
 cutting-fails p checks two three cuts =
-    let (n, written) = three .translates paddedText theKeys zeros (passes p checks paddedText theKeys parts-pass) enough in
-    let there = three .carries paddedText theKeys zeros n written .runs theEntry in
-    let first = cuts (bytes "true") (bytes " v == 0") theKeys zeros n written theEntry in
+    let b : Bytes paddedText = all-bytes paddedText refl in
+    let f : Bytes (bytes "true") = all-bytes (bytes "true") refl in
+    let s : Bytes (bytes " v == 0") = all-bytes (bytes " v == 0") refl in
+    let (n, written) = written-there p checks three paddedText theKeys b keys-bytes parts-pass in
+    let there = three .runs-alike paddedText theKeys zeros b keys-bytes zeros-bytes n written theEntry entry-bytes in
+    let first =
+    cuts (bytes "true") (bytes " v == 0") theKeys zeros f s keys-bytes zeros-bytes refl
+    (passes p checks (bytes "true") theKeys f keys-bytes plain-there)
+    (passes p checks (bytes " v == 0") theKeys s keys-bytes rest-passes) n written theEntry entry-bytes
+    in
     not-both
-    (sym (by-demand-two p two (bytes "true") theKeys theEntry true first-accepted) ∙ sym first ∙ there
-    ∙ by-demand-two p two paddedText theKeys theEntry false whole-violated)
+    (sym (by-demand-two p two (bytes "true") theKeys theEntry f keys-bytes entry-bytes true first-accepted) ∙ sym first ∙ there
+    ∙ by-demand-two p two paddedText theKeys theEntry b keys-bytes entry-bytes false whole-violated)
 
 -- a block of one "not", which finds no operand
 
@@ -161,16 +210,35 @@ lone-refused = refl
 
 admitting-fails : (p : Programs) → KeepsLoad p → ¬ PassesAll p
 admitting-fails p loads all =
-    let (n, e) = all [] lone [] no-keys lone-laid in
-    never-ok (sym lone-refused ∙ sym (loads [] lone) ∙ ap loadingSays e)
+    let b : Bytes lone = blocks-bytes 0 (invert ∷ []) in
+    let (n, e) = all [] lone tt b [] no-keys lone-laid in
+    never-ok (sym lone-refused ∙ sym (loads [] lone tt b) ∙ ap loadingSays e)
+
+-- one block is enough for `true`
+
+abbrev pub little : List ℕ
+little = replicate 512 0
+
+pub plain-written : translateAnswer (bytes "true") [] little ≡ ok 1
+unfolding translateAnswer
+plain-written = refl
+
+wanting-fails : (p : Programs) → DemandOne p → ¬ WantsAllBlocks p
+wanting-fails p one wants =
+    let t : Bytes (bytes "true") = all-bytes (bytes "true") refl in
+    let b : Bytes little = zero-bytes 512 in
+    let (n, at, e) = wants (bytes "true") [] little t tt b (lit< tt) in
+    let clear = table-holds .translate (bytes "true") [] little .passes .0 (1, plain-written) in
+    let (v, said) = one .translate (bytes "true") [] little t tt b .says .table .passes .1 clear in
+    never-ok (sym (ap translationSays e) ∙ said)
 
 -- the count
 
-counts-right : (p : Programs) → Kept p → CountsRight p
-counts-right p kept text list buffer n written r passed =
-    let answer = sym (translates text list buffer) ∙ sym (kept .translate text list buffer .says) ∙ ap translationSays written in
-    let here : translating buffer r ≡ ok n = rw passed at answer in
-    sym (translated buffer r n here .0) ∙ counted text list r passed
+counts-right : (p : Programs) → DemandTwo p → CountsRight p
+counts-right p two text list buffer t l b n written r passed =
+    let can = two .translates text list buffer t l b n .0 written in
+    let same = ok-same (restricts text list (can .passes)) r (sym (checkable-restriction text list (can .passes)) ∙ passed) in
+    can .count ∙ ap (λ (x : Restriction). nodes (x .root) + conversions (x .keys) (x .root)) same
 
 pub wrong-programs-fail : WrongProgramsFail
 wrong-programs-fail p =
@@ -181,6 +249,8 @@ wrong-programs-fail p =
       cutting = cutting-fails p;
       barring = barring-fails p;
       admitting = admitting-fails p;
+      wanting = wanting-fails p;
+      counting = counts-right p;
     }
 
 pub no-wrong-program : NoWrongProgram
@@ -194,7 +264,8 @@ no-wrong-program p kept =
       cutting = cutting-fails p (kept .check) two three;
       barring = barring-fails p (kept .check) three;
       admitting = admitting-fails p (kept .load);
-      counting = counts-right p kept;
+      wanting = wanting-fails p (demand-one-met p kept);
+      counting = counts-right p two;
     }
 
 padded-loads : loadAnswer theKeys paddedBlocks ≡ ok 3

@@ -5,9 +5,9 @@ use mathlib.Core.Option.{Option, none, some}
 use mathlib.Core.List.{List, [], _∷_}
 use lib.ListN.{length}
 use lib.Dec.{eqb}
-use Rattle.paper.specs.Tokens.{bytes, sameBytes, undotted, Prefix, Join, Comparison, Sign, join, comparison, prefix, opening, closing, colons, Tok, word, numeral, string, sign, Token}
+use Rattle.paper.specs.Tokens.{Literal, plain, bytes, sameBytes, undotted, Prefix, Join, Comparison, Sign, join, comparison, prefix, opening, closing, colons, Tok, word, numeral, string, sign, Token}
 use Rattle.paper.specs.Addresses.{Scheme, schemeOf}
-use Rattle.paper.specs.Grammar.{Tree, truth, number, key, field, attribute, prefixed, joined, compared, got, stuck, Out, ends, deep, bad, _>>>_, Parser, Make, joinNo, signJoins, signCompares, bySign, onceWith, onceMore, once, behind, moreWith, more, chain, Mark, opens, closes, doubles, others, markOf, closeAt, closed, nameAt, named, Reader, addressWith, addressAt, addressed, opensAddress, keyAt, keyed, worded, signed, operandAt, operand}
+use Rattle.paper.specs.Grammar.{Tree, truth, number, key, field, attribute, prefixed, joined, compared, got, stuck, Out, ends, deep, bad, _>>>_, Parser, Make, joinNo, signJoins, signCompares, bySign, onceWith, onceMore, once, behind, moreWith, more, chain, isSign, closed, nameAt, named, Reader, addressWith, addressAt, addressed, opensAddress, keyed, worded, signed, operandAt, operand}
 use Rattle.paper.proofs.Basics.{If}
 use Rattle.paper.proofs.TokenNumbers.{Good, AllGood}
 
@@ -113,17 +113,15 @@ module _ (P R : Tree → Type 0) (op : Token → Option Make) (p : Parser) (yiel
 
 module _ (R : Tree → Type 0) (leaf-truth : (at : ℕ) (b : Bool) → R (truth at b)) (leaf-key : (at : ℕ) (w : List ℕ) → R (key at w))
     (leaf-field : (at : ℕ) (w : List ℕ) (to : ℕ) (f : List ℕ) → R (field at w to f)) (leaf-attribute : (at to : ℕ) (f : List ℕ) → R (attribute at to f))
-    (leaf-number : (at n : ℕ) → Good (numeral n) → R (number at n)) (within : (at : ℕ) (o : Prefix) (t : Tree) → R t → R (prefixed at o t))
-    (read : Reader) (reads : (s : Scheme) (q : List ℕ) → If (λ n. Good (numeral n)) (read s q)) where
-  close-got : (m : Mark) (t : Tree) (u : Token) (us : List Token) → R t → AllGood us → Got R (closeAt m t u us)
-  close-got opens t u us h gs = tt
-  close-got closes t u us h gs = (h, gs)
-  close-got doubles t u us h gs = tt
-  close-got others t u us h gs = tt
-
+    (leaf-number : (at : ℕ) (n : Literal) → Good (numeral n) → R (number at n)) (within : (at : ℕ) (o : Prefix) (t : Tree) → R t → R (prefixed at o t))
+    (read : Reader) (reads : (s : Scheme) (q : List ℕ) → If (λ n. Good (numeral (plain n))) (read s q)) where
   closed-got : (t : Tree) (us : List Token) → R t → AllGood us → Got R (closed t us)
   closed-got t [] h gs = tt
-  closed-got t (u ∷ us) h gs = close-got (markOf (u .tok)) t u us h (gs .1)
+  closed-got t (u ∷ us) h gs = go (isSign closing (u .tok))
+    where
+      go : (b : Bool) → Got R (cond b (ends (got t) us) (ends stuck (u ∷ us)))
+      go true = (h, gs .1)
+      go false = tt
 
   name-got : (make : ℕ → List ℕ → Tree) → ((to : ℕ) (f : List ℕ) → R (make to f)) → (t : Tok) (u : Token) (us : List Token) → AllGood us
       → Got R (nameAt t make u us)
@@ -140,9 +138,9 @@ module _ (R : Tree → Type 0) (leaf-truth : (at : ℕ) (b : Bool) → R (truth 
   named-got make h [] gs = tt
   named-got make h (u ∷ us) gs = name-got make h (u .tok) u us (gs .1)
 
-  address-got : (o : Option ℕ) (at : ℕ) (u : Token) (us : List Token) → If (λ n. Good (numeral n)) o → AllGood us → Got R (addressWith o at u us)
+  address-got : (o : Option ℕ) (at : ℕ) (u : Token) (us : List Token) → If (λ n. Good (numeral (plain n))) o → AllGood us → Got R (addressWith o at u us)
   address-got none at u us h gs = tt
-  address-got (some n) at u us h gs = closed-got (number at n) us (leaf-number at n h) gs
+  address-got (some n) at u us h gs = closed-got (number at (plain n)) us (leaf-number at (plain n) h) gs
 
   addressAt-got : (s : Scheme) (at : ℕ) (t : Tok) (u : Token) (us : List Token) → AllGood us → Got R (addressAt read s at t u us)
   addressAt-got s at (word w) u us gs = tt
@@ -158,15 +156,14 @@ module _ (R : Tree → Type 0) (leaf-truth : (at : ℕ) (b : Bool) → R (truth 
   opens-got none at w u us gs = (leaf-key at w, gs)
   opens-got (some s) at w u us gs = addressed-got s at us (gs .1)
 
-  key-got : (at : ℕ) (w : List ℕ) (m : Mark) (u : Token) (us : List Token) → AllGood (u ∷ us) → Got R (keyAt read at w m u us)
-  key-got at w opens u us gs = opens-got (schemeOf w) at w u us gs
-  key-got at w closes u us gs = (leaf-key at w, gs)
-  key-got at w doubles u us gs = named-got (field at w) (leaf-field at w) us (gs .1)
-  key-got at w others u us gs = (leaf-key at w, gs)
-
   keyed-got : (at : ℕ) (w : List ℕ) (us : List Token) → AllGood us → Got R (keyed read at w us)
   keyed-got at w [] gs = (leaf-key at w, tt)
-  keyed-got at w (u ∷ us) gs = key-got at w (markOf (u .tok)) u us gs
+  keyed-got at w (u ∷ us) gs = go (isSign colons (u .tok)) (isSign opening (u .tok))
+    where
+      go : (c o : Bool) → Got R (cond c (named (field at w) us) (cond o (opensAddress read (schemeOf w) at w u us) (ends (got (key at w)) (u ∷ us))))
+      go true o = named-got (field at w) (leaf-field at w) us (gs .1)
+      go false true = opens-got (schemeOf w) at w u us gs
+      go false false = (leaf-key at w, gs)
 
   worded-got : (at : ℕ) (w : List ℕ) (us : List Token) → AllGood us → Got R (worded read at w us)
   worded-got at w us gs = go (sameBytes w (bytes "true")) (sameBytes w (bytes "false"))

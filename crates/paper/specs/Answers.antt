@@ -1,6 +1,6 @@
 -- 01, "Refusal numbers": "A refusal's place says which input it lies in (text, key list, entry, blocks, buffer) and a byte
 -- offset." And for every public enum, this paper's number and values for each of its cases.
-use Prim.Native.Nat.{ℕ}
+use Prim.Native.Nat.{ℕ, zero, suc}
 use mathlib.Core.Bool.{Bool, true, false}
 use Rattle.paper.specs.declared.Place.{Place}
 use Rattle.paper.specs.declared.Place.the-variants as P
@@ -33,6 +33,11 @@ refused n i at >>= f = refused n i at
 abbrev pub require : Bool → ℕ → Input → ℕ → Answer (Unit {0})
 require true n i at = ok tt
 require false n i at = refused n i at
+
+-- "In a stage the earliest place wins": n tests in turn, from that of index k on, of which the first that refuses decides
+abbrev pub inTurn : (ℕ → Answer (Unit {0})) → ℕ → ℕ → Answer (Unit {0})
+inTurn test k zero = ok tt
+inTurn test k (suc n) = test k >>= λ _. inTurn test (suc k) n
 
 abbrev pub inputOf : Place → Input
 inputOf (P.Text at) = inText

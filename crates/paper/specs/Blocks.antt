@@ -3,11 +3,11 @@
 -- instructions, then zeros; 504, 505 the total count, which is the sum of the counts in all the blocks given; 506, 507 the number
 -- of keys, as in the list given; 508 to 511 the check."
 use Prim.Native.Nat.{ℕ, zero, suc, _+_, _*_, _-_, _/_, _%_}
-use mathlib.Core.Bool.{Bool, true, false, cond, _&&_}
+use mathlib.Core.Bool.{Bool, _&&_}
 use mathlib.Core.List.{List, [], _∷_, _++_}
 use lib.ListN.{length, take, drop, replicate}
 use lib.Dec.{eqb, ltb, leb}
-use Rattle.paper.specs.Answers.{Answer, ok, refused, _>>=_, require, inBlocks}
+use Rattle.paper.specs.Answers.{Answer, _>>=_, require, inTurn, inBlocks}
 use Rattle.paper.specs.Numbers.{bytesAt, numberAt, bigEndian}
 use Rattle.paper.specs.Tokens.{sameBytes}
 use Rattle.paper.specs.Keys.{allZero}
@@ -28,6 +28,7 @@ pub record Sums : Type 0 where
   pub first : ℕ
   pub second : ℕ
 
+-- of two sums so far; a single byte is no word, and there is none at the end of an even number of bytes
 abbrev pub sumsFrom : ℕ → ℕ → List ℕ → Sums
 sumsFrom a b [] = record { first = a; second = b }
 sumsFrom a b (x ∷ []) = record { first = a; second = b }
@@ -75,6 +76,9 @@ blocksOf keys code = blocksFrom (length code) keys 0 (blocksNeeded (length code)
 
 -- reading
 
+abbrev pub blocksIn : List ℕ → ℕ
+blocksIn blocks = length blocks / blockSize
+
 abbrev pub countAt : List ℕ → ℕ → ℕ
 countAt blocks k = numberAt blocks (k * blockSize + 2) 2
 
@@ -84,18 +88,18 @@ countsFrom blocks k zero = 0
 countsFrom blocks k (suc n) = countAt blocks k + countsFrom blocks (k + 1) n
 
 abbrev pub totalOf : List ℕ → ℕ
-totalOf blocks = countsFrom blocks 0 (length blocks / blockSize)
+totalOf blocks = countsFrom blocks 0 (blocksIn blocks)
 
--- "25 except in the last block (1 to 25)"
+-- "25 except in the last block (1 to 25)": of a block that so many later ones follow
 abbrev pub countOk : ℕ → ℕ → Bool
 countOk zero c = leb 1 c && leb c inBlock
 countOk (suc later) c = eqb c inBlock
 
--- block k, behind which so many stand
-abbrev pub blockOk : ℕ → List ℕ → ℕ → ℕ → Bool
-blockOk keys blocks k later =
+abbrev pub blockOk : ℕ → List ℕ → ℕ → Bool
+blockOk keys blocks k =
     let b = bytesAt blocks (k * blockSize) blockSize in
     let count = numberAt b 2 2 in
+    let later = blocksIn blocks - (k + 1) in
     eqb (numberAt b 0 2) k
     && countOk later count
     && allZero (bytesAt b (4 + instructionSize * count) (500 - instructionSize * count))
@@ -103,12 +107,9 @@ blockOk keys blocks k later =
     && eqb (numberAt b 506 2) keys
     && sameBytes (bytesAt b 508 4) (checkOf (take 508 b))
 
--- 17: "a block breaks its layout", its first byte; from block k on, with n blocks left
-abbrev pub layoutFrom : ℕ → List ℕ → ℕ → ℕ → Answer (Unit {0})
-layoutFrom keys blocks k zero = ok tt
-layoutFrom keys blocks k (suc n) =
-    let later = layoutFrom keys blocks (k + 1) n in
-    cond (blockOk keys blocks k n) later (refused 17 inBlocks (k * blockSize))
+-- 17: "a block breaks its layout". Of block k
+abbrev pub blockTest : ℕ → List ℕ → ℕ → Answer (Unit {0})
+blockTest keys blocks k = require (blockOk keys blocks k) 17 inBlocks (k * blockSize)
 
 -- 16: "blocks: length 0, no multiple of 512, or over 82 blocks"; then 17
 unfoldable pub layout : ℕ → List ℕ → Answer (Unit {0})
@@ -116,4 +117,4 @@ unfolding sumsOf
 layout keys blocks =
     require (ltb 0 (length blocks) && eqb (length blocks % blockSize) 0 && leb (length blocks) (mostBlocks * blockSize)) 16 inBlocks
     (length blocks)
-    >>= λ _. layoutFrom keys blocks 0 (length blocks / blockSize)
+    >>= λ _. inTurn (blockTest keys blocks) 0 (blocksIn blocks)

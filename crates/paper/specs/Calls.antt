@@ -1,4 +1,4 @@
--- What each public call answers for any bytes, and what the buffer holds behind `translate`.
+-- What each public call answers for any bytes, and what the buffer holds after `translate`.
 -- 01, "Stages run in the order below, those that a call has": 1; 2; 3 and 4; 5 to 7; 8 to 10; 11 to 13; 14; 15; 16; 17; 18; 19; 20.
 use Prim.Native.Nat.{ℕ, _*_}
 use mathlib.Core.Bool.{Bool}
@@ -40,6 +40,7 @@ restriction text list =
     >>= λ t. typed ks t
     >>= λ _. ok (record { keys = ks; root = t })
 
+-- 1; 5 to 10. What is answered is our choice: the number of nodes of the tree
 unfoldable pub readAnswer : List ℕ → Answer ℕ
 unfolding tree
 readAnswer text = sized text >>= λ _. tree text >>= λ t. ok (nodes t)
@@ -56,28 +57,33 @@ judgeAnswer text list entry =
     >>= λ e. ok (isTrue (valueOf (r .keys) e (r .root)))
 
 -- 15: "lent buffer below the bytes needed", at its length
-unfoldable pub translateAnswer : List ℕ → List ℕ → List ℕ → Answer ℕ
+abbrev pub roomFor : List ℕ → Restriction → Answer Restriction
+roomFor buffer r =
+    require (leb (blockSize * blocksNeeded (length (codeOf (r .keys) (r .root)))) (length buffer)) 15 inBuffer (length buffer)
+    >>= λ _. ok r
+
+-- a text and a list that pass, and whose blocks the buffer has room for
+unfoldable pub translatable : List ℕ → List ℕ → List ℕ → Answer Restriction
 unfolding restriction codeOf
-translateAnswer text list buffer =
-    restriction text list
-    >>= λ r.
-    let n = length (codeOf (r .keys) (r .root)) in
-    require (leb (blockSize * blocksNeeded n) (length buffer)) 15 inBuffer (length buffer)
-    >>= λ _. ok n
+translatable text list buffer = restriction text list >>= roomFor buffer
+
+-- "Translation returns the number of instructions"
+unfoldable pub translateAnswer : List ℕ → List ℕ → List ℕ → Answer ℕ
+unfolding translatable codeOf
+translateAnswer text list buffer = translatable text list buffer >>= λ r. ok (length (codeOf (r .keys) (r .root)))
 
 -- "fills exactly the blocks needed, and leaves every later byte of the buffer unchanged"
 abbrev pub over : List ℕ → List ℕ → List ℕ
 over new old = new ++ drop (length new) old
 
-abbrev pub filled : Answer ℕ → Answer Restriction → List ℕ → List ℕ
-filled (ok n) (ok r) buffer = over (blocksOf (length (r .keys)) (codeOf (r .keys) (r .root))) buffer
-filled (ok n) (refused m i at) buffer = buffer
-filled (refused m i at) r buffer = buffer
-
 -- "A refusal changes nothing lent."
+abbrev pub filled : Answer Restriction → List ℕ → List ℕ
+filled (ok r) buffer = over (blocksOf (length (r .keys)) (codeOf (r .keys) (r .root))) buffer
+filled (refused n i at) buffer = buffer
+
 unfoldable pub translateBuffer : List ℕ → List ℕ → List ℕ → List ℕ
-unfolding translateAnswer restriction blocksOf codeOf
-translateBuffer text list buffer = filled (translateAnswer text list buffer) (restriction text list) buffer
+unfolding translatable blocksOf codeOf
+translateBuffer text list buffer = filled (translatable text list buffer) buffer
 
 unfoldable pub loadAnswer : List ℕ → List ℕ → Answer ℕ
 unfolding keys loaded

@@ -1,17 +1,17 @@
 -- 01, "Blocks", the instructions: their bytes, their types and their meaning.
 -- "Instructions are 20 bytes: operation, detail byte, two-byte operand, 16-byte constant; unused parts zero."
-use Prim.Native.Nat.{ℕ, zero, suc, _+_, _*_, _/_, _%_, _^_}
+use Prim.Native.Nat.{ℕ, _+_, _-_}
 use mathlib.Core.Bool.{Bool, true, false, cond, _&&_}
 use mathlib.Core.Option.{Option, none, some}
 use mathlib.Core.List.{List, [], _∷_, _++_}
-use lib.ListN.{length}
+use lib.ListN.{length, getElem?}
 use lib.Dec.{eqb, ltb, leb}
 use lib.IntN.{pos}
 use Rattle.paper.specs.Numbers.{byteAt, numberAt, bigEndian}
 use Rattle.paper.specs.Tokens.{Comparison, equal, unequal, greater, atLeast, less, atMost}
 use Rattle.paper.specs.Keys.{Kind, kindNo, kindOf, Key}
 use Rattle.paper.specs.Entry.{Entry}
-use Rattle.paper.specs.Types.{Ty, bool, int, of, when, takes, Field, value, mask, prefixLength, low, high, bareType, fieldType, notType, negateType, joinType, compareType}
+use Rattle.paper.specs.Types.{Ty, bool, int, of, when, andThen, takes, Field, value, mask, prefixLength, low, high, bareType, fieldType, notType, negateType, joinType, compareType}
 use Rattle.paper.specs.Meaning.{Value, truth, whole, bareValue, fieldValue, notValue, negateValue, Connective, both, either, ifThen, joinValue, compareValue, convertValue}
 
 -- "Operations: 1 push bool (operand 0 or 1), 2 push int (constant), 3 push bare key (operand: index), 4 push field (operand:
@@ -35,7 +35,7 @@ fieldNo prefixLength = 2
 fieldNo low = 3
 fieldNo high = 4
 
--- of a number up to 4
+-- of a number up to 4; a higher one is the number of none
 abbrev pub fieldOf : ℕ → Field
 fieldOf n =
     cond (eqb n 0) value
@@ -51,7 +51,7 @@ comparisonNo atLeast = 3
 comparisonNo less = 4
 comparisonNo atMost = 5
 
--- of a number up to 5
+-- of a number up to 5; a higher one is the number of none
 abbrev pub comparisonOf : ℕ → Comparison
 comparisonOf n =
     cond (eqb n 0) equal
@@ -97,26 +97,49 @@ abbrev pub partsAt : List ℕ → ℕ → Parts
 partsAt s at =
     record { operation = byteAt s at; detail = byteAt s (at + 1); operand = numberAt s (at + 2) 2; constant = numberAt s (at + 4) 16 }
 
--- "unused parts zero", "instruction fields in range"
+-- the instruction that a number of 01's list names, with the detail, the operand and the constant beside it. (Number 0 comes out as
+-- the first; it is no operation, since no instruction is spelled with it.)
+abbrev pub instructionNamed : Parts → Option Instruction
+instructionNamed p =
+    getElem?
+    (pushBool (eqb (p .operand) 1)
+    ∷ pushInt (p .constant)
+    ∷ pushKey (p .operand)
+    ∷ pushField (fieldOf (p .detail)) (p .operand)
+    ∷ pushPriority
+    ∷ invert
+    ∷ negate
+    ∷ convert (kindOf (p .detail)) (p .operand)
+    ∷ compare (comparisonOf (p .detail))
+    ∷ connects both
+    ∷ connects either
+    ∷ connects ifThen
+    ∷ [])
+    (p .operation - 1)
+
+-- "unused parts zero": the parts are those that spell it, no others
+abbrev pub sameParts : Parts → Parts → Bool
+sameParts p q =
+    eqb (p .operation) (q .operation)
+    && eqb (p .detail) (q .detail)
+    && eqb (p .operand) (q .operand)
+    && eqb (p .constant) (q .constant)
+
+-- "instruction fields in range": "operand W, 1 to 128". The other ranges are those of what the numbers name.
+abbrev pub inRange : Instruction → Bool
+inRange (pushBool b) = true
+inRange (pushInt n) = true
+inRange (pushKey k) = true
+inRange (pushField f k) = true
+inRange pushPriority = true
+inRange invert = true
+inRange negate = true
+inRange (convert k w) = leb 1 w && leb w 128
+inRange (compare c) = true
+inRange (connects o) = true
+
 abbrev pub decode : Parts → Option Instruction
-decode p =
-    let noDetail = eqb (p .detail) 0 in
-    let noOperand = eqb (p .operand) 0 in
-    let noConstant = eqb (p .constant) 0 in
-    let bare = noDetail && noOperand && noConstant in
-    cond (eqb (p .operation) 1) (when (noDetail && noConstant && leb (p .operand) 1) (pushBool (eqb (p .operand) 1)))
-    (cond (eqb (p .operation) 2) (when (noDetail && noOperand) (pushInt (p .constant)))
-    (cond (eqb (p .operation) 3) (when (noDetail && noConstant) (pushKey (p .operand)))
-    (cond (eqb (p .operation) 4) (when (noConstant && leb (p .detail) 4) (pushField (fieldOf (p .detail)) (p .operand)))
-    (cond (eqb (p .operation) 5) (when bare pushPriority)
-    (cond (eqb (p .operation) 6) (when bare invert)
-    (cond (eqb (p .operation) 7) (when bare negate)
-    (cond (eqb (p .operation) 8)
-    (when (noConstant && leb (p .detail) 4 && leb 1 (p .operand) && leb (p .operand) 128) (convert (kindOf (p .detail)) (p .operand)))
-    (cond (eqb (p .operation) 9) (when (noOperand && noConstant && leb (p .detail) 5) (compare (comparisonOf (p .detail))))
-    (cond (eqb (p .operation) 10) (when bare (connects both))
-    (cond (eqb (p .operation) 11) (when bare (connects either))
-    (cond (eqb (p .operation) 12) (when bare (connects ifThen)) none)))))))))))
+decode p = andThen (instructionNamed p) (λ i. when (inRange i && sameParts p (partsOf i)) i)
 
 -- One machine, which holds types in the load check and values in the run. "Running starts with nothing held; each instruction
 -- takes its operands off the top, the right one uppermost, and leaves what "Types and meaning" gives." The load check asks for

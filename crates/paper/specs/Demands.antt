@@ -1,5 +1,13 @@
--- What is demanded of the six calls, in terms of what they return for the bytes lent to them.
-use Prim.Native.Nat.{ℕ, _*_, _≤_}
+-- The three demands on the six calls, each as one statement about what programs return for the bytes lent to them.
+--
+-- 1. "Any text, key list, entry or blocks get an answer. Every public entry point tests its own input. A refusal gives its number and
+--    place as the documents fix them, and no byte of a lent buffer has changed."
+-- 2. "The judgement is that of the p4-constraints specification, with document 01 where it is silent. Texts and entries are refused
+--    exactly as the documents say; otherwise accepted exactly when the restriction holds."
+-- 3. "For every text and list that pass, the blocks written load with that list, and running them gives demand 2's answer. Any other
+--    blocks that load, whoever made them, run on every conforming entry to accepted or violated, each instruction once, never missing an
+--    operand, never holding more than 384 values."
+use Prim.Native.Nat.{ℕ, _+_, _*_, _≤_, _<_}
 use mathlib.Core.Path.{_≡_}
 use mathlib.Core.Logic.{_↔_}
 use mathlib.Core.Bool.{true, false}
@@ -7,27 +15,36 @@ use mathlib.Core.Option.{some}
 use mathlib.Core.List.{List, [], _∷_, List·Memᴰ}
 use lib.ListN.{length, take, drop}
 use Rattle.paper.specs.declared.Place.{Place}
+use Rattle.paper.specs.declared.Place.the-variants as P
+use Rattle.paper.specs.declared.Reading.{Reading}
 use Rattle.paper.specs.declared.Reading.the-variants as R
+use Rattle.paper.specs.declared.Checking.{Checking}
 use Rattle.paper.specs.declared.Checking.the-variants as C
 use Rattle.paper.specs.declared.Judgement.{Judgement}
 use Rattle.paper.specs.declared.Judgement.the-variants as J
 use Rattle.paper.specs.declared.Translation.the-variants as T
+use Rattle.paper.specs.declared.Loading.{Loading}
 use Rattle.paper.specs.declared.Loading.the-variants as L
-use Rattle.paper.specs.Answers.{Input, inText, inList, inEntry, inBlocks, inBuffer, ok, inputOf, offsetOf}
+use Rattle.paper.specs.Answers.{Input, inText, inList, inEntry, inBlocks, inBuffer, Answer, ok, refused, readingSays, checkingSays, judgementSays, translationSays, loadingSays}
 use Rattle.paper.specs.Tokens.{Token, mostText}
 use Rattle.paper.specs.Keys.{Key, keys}
 use Rattle.paper.specs.Entry.{Entry, entryOf}
-use Rattle.paper.specs.Grammar.{Tree}
+use Rattle.paper.specs.Grammar.{Tree, nodes}
 use Rattle.paper.specs.Sentences.{Valid}
 use Rattle.paper.specs.Types.{bool, typeOf}
 use Rattle.paper.specs.Meaning.{truth, valueOf}
-use Rattle.paper.specs.Blocks.{blockSize, mostBlocks, blocksNeeded}
+use Rattle.paper.specs.Blocks.{blockSize, inBlock, mostBlocks, blocksNeeded}
+use Rattle.paper.specs.Code.{ends}
+use Rattle.paper.specs.Loading.{program, loaded, valuesAlong}
+use Rattle.paper.specs.Translating.{conversions}
 use Rattle.paper.specs.Sound.{Runs}
 use Rattle.paper.specs.Faults.{Cuts}
-use Rattle.paper.specs.Promised.{verdict, Programs, Kept}
+use Rattle.paper.specs.Table.{lastNumber, Stage, ByTable, readStages, checkStages, judgeStages, translateStages, loadStages, runStages}
+use Rattle.paper.specs.Promised.{verdict, TranslateResult, Bytes, Programs, Kept}
 
--- Demand 1: every input gets an answer, and a refusal changes nothing lent. An answer is one of the enum's cases; if a refusal, its
--- number is one of 1 to 20, and its place lies in an input that was lent, or at its length.
+-- Demand 1. An answer is one of the enum's cases. It is a refusal exactly as the table of 01 says, with that number at that place, and
+-- passes exactly when no stage of the call has a fault. The number is one of the table's, and the place lies in an input that was lent, or
+-- at its length.
 
 pub record Lent : Type 0 where
   pub input : Input
@@ -36,31 +53,56 @@ pub record Lent : Type 0 where
 abbrev pub lent : Input → List ℕ → Lent
 lent i s = record { input = i; bytes = s }
 
-pub record Refusal (inputs : List Lent) (n : ℕ) (at : Place) : Type 0 where
+pub record Refusal (inputs : List Lent) (n : ℕ) (i : Input) (at : ℕ) : Type 0 where
   pub low : 1 ≤ n
-  pub high : n ≤ 20
+  pub high : n ≤ lastNumber
   pub lies : Lent
   pub among : List·Memᴰ lies inputs
-  pub named : inputOf at ≡ lies .input
-  pub inside : offsetOf at ≤ length (lies .bytes)
+  pub named : i ≡ lies .input
+  pub inside : at ≤ length (lies .bytes)
+
+-- what a call with these inputs and stages says
+pub record Answered {A : Type 0} (inputs : List Lent) (stages : List Stage) (a : Answer A) : Type 0 where
+  pub table : ByTable a stages
+  pub inside : (n : ℕ) (i : Input) (at : ℕ) → a ≡ refused n i at → Refusal inputs n i at
+
+-- for the inputs of each call, and what it answers for them
+
+abbrev pub ReadAnswered : List ℕ → Reading → Type 0
+ReadAnswered text r = Answered (lent inText text ∷ []) (readStages text) (readingSays r)
+
+abbrev pub CheckAnswered : List ℕ → List ℕ → Checking → Type 0
+CheckAnswered text list r = Answered (lent inText text ∷ lent inList list ∷ []) (checkStages text list) (checkingSays r)
+
+abbrev pub JudgeAnswered : List ℕ → List ℕ → List ℕ → Judgement → Type 0
+JudgeAnswered text list entry r =
+    Answered (lent inText text ∷ lent inList list ∷ lent inEntry entry ∷ []) (judgeStages text list entry) (judgementSays r)
+
+-- and the buffer, which a refusal leaves as it is
+pub record TranslateAnswered (text list buffer : List ℕ) (r : TranslateResult) : Type 0 where
+  pub says : Answered (lent inText text ∷ lent inList list ∷ lent inBuffer buffer ∷ []) (translateStages text list buffer)
+      (translationSays (r .answer))
+  pub unchanged : (n : ℕ) (at : Place) → r .answer ≡ T.Refused n at → r .buffer ≡ buffer
+
+abbrev pub LoadAnswered : List ℕ → List ℕ → Loading → Type 0
+LoadAnswered list blocks r = Answered (lent inList list ∷ lent inBlocks blocks ∷ []) (loadStages list blocks) (loadingSays r)
+
+abbrev pub RunAnswered : List ℕ → List ℕ → List ℕ → Judgement → Type 0
+RunAnswered list blocks entry r =
+    Answered (lent inList list ∷ lent inBlocks blocks ∷ lent inEntry entry ∷ []) (runStages list blocks entry) (judgementSays r)
 
 pub record DemandOne (p : Programs) : Type 0 where
-  pub read : (text : List ℕ) (n : ℕ) (at : Place) → p .read text ≡ R.Refused n at → Refusal (lent inText text ∷ []) n at
-  pub check : (text list : List ℕ) (n : ℕ) (at : Place) → p .check text list ≡ C.Refused n at
-      → Refusal (lent inText text ∷ lent inList list ∷ []) n at
-  pub judge : (text list entry : List ℕ) (n : ℕ) (at : Place) → p .judge text list entry ≡ J.Refused n at
-      → Refusal (lent inText text ∷ lent inList list ∷ lent inEntry entry ∷ []) n at
-  pub translate : (text list buffer : List ℕ) (n : ℕ) (at : Place) → p .translate text list buffer .answer ≡ T.Refused n at
-      → Refusal (lent inText text ∷ lent inList list ∷ lent inBuffer buffer ∷ []) n at
-  pub load : (list blocks : List ℕ) (n : ℕ) (at : Place) → p .load list blocks ≡ L.Refused n at
-      → Refusal (lent inList list ∷ lent inBlocks blocks ∷ []) n at
-  pub run : (list blocks entry : List ℕ) (n : ℕ) (at : Place) → p .run list blocks entry ≡ J.Refused n at
-      → Refusal (lent inList list ∷ lent inBlocks blocks ∷ lent inEntry entry ∷ []) n at
-  pub unchanged : (text list buffer : List ℕ) (n : ℕ) (at : Place) → p .translate text list buffer .answer ≡ T.Refused n at
-      → p .translate text list buffer .buffer ≡ buffer
+  pub read : (text : List ℕ) → Bytes text → ReadAnswered text (p .read text)
+  pub check : (text list : List ℕ) → Bytes text → Bytes list → CheckAnswered text list (p .check text list)
+  pub judge : (text list entry : List ℕ) → Bytes text → Bytes list → Bytes entry → JudgeAnswered text list entry (p .judge text list entry)
+  pub translate : (text list buffer : List ℕ) → Bytes text → Bytes list → Bytes buffer
+      → TranslateAnswered text list buffer (p .translate text list buffer)
+  pub load : (list blocks : List ℕ) → Bytes list → Bytes blocks → LoadAnswered list blocks (p .load list blocks)
+  pub run : (list blocks entry : List ℕ) → Bytes list → Bytes blocks → Bytes entry → RunAnswered list blocks entry (p .run list blocks entry)
 
--- Demand 2: an entry is refused exactly when the text is over a limit or ill-formed, the list does not pass, the text is ill-typed against
--- it, or the entry does not conform to it; else it is accepted exactly when the restriction holds of it.
+-- Demand 2, for every call that takes a text or an entry. A text is refused exactly when it is over a limit or ill-formed, the list does
+-- not pass, or the text is ill-typed against it; an entry exactly when it does not conform to the list. Else it is accepted exactly when
+-- the restriction holds of it.
 
 -- within the limits, and a sentence
 pub record WellFormed (text : List ℕ) (root : Tree) : Type 0 where
@@ -69,47 +111,110 @@ pub record WellFormed (text : List ℕ) (root : Tree) : Type 0 where
   pub cut : Cuts text words
   pub sentence : Valid root words
 
-pub record Judgeable (text list entry : List ℕ) : Type 0 where
+-- and of type bool with the keys of a list
+pub record Checkable (text list : List ℕ) : Type 0 where
   pub root : Tree
   pub formed : WellFormed text root
   pub ks : List Key
   pub listed : keys list ≡ ok ks
   pub typed : typeOf ks root ≡ ok bool
+
+-- with an entry that conforms
+pub record Judgeable (text list entry : List ℕ) : Type 0 where
+  pub passes : Checkable text list
+  pub on : Entry
+  pub conforms : entryOf (passes .ks) entry ≡ ok on
+
+-- blocks that load, with an entry that conforms
+pub record Runnable (list blocks entry : List ℕ) : Type 0 where
+  pub ks : List Key
+  pub listed : keys list ≡ ok ks
+  pub count : ℕ
+  pub loads : loaded ks blocks ≡ ok count
   pub on : Entry
   pub conforms : entryOf ks entry ≡ ok on
 
 abbrev pub Refuses : Judgement → Type 0
 Refuses r = (n : ℕ) × (at : Place) × (r ≡ J.Refused n at)
 
-pub record DemandTwo (p : Programs) : Type 0 where
-  pub refuses : (text list entry : List ℕ) → Refuses (p .judge text list entry) ↔ ¬ Judgeable text list entry
-  pub accepts : (text list entry : List ℕ) (j : Judgeable text list entry)
-      → (p .judge text list entry ≡ J.Accepted) ↔ (valueOf (j .ks) (j .on) (j .root) ≡ some (truth true))
-  pub violates : (text list entry : List ℕ) (j : Judgeable text list entry)
-      → (p .judge text list entry ≡ J.Violated) ↔ (valueOf (j .ks) (j .on) (j .root) ≡ some (truth false))
+-- for the inputs of each call, and what it answers for them
 
--- Demand 3: a text and a list that pass are translated, if the buffer has room; the blocks written load with that list, with the number
--- returned, and running them on any entry gives what judging the text gives, refusals included; the buffer's later bytes stay. And all
--- blocks that load, whoever made them, run on every conforming entry to accepted or violated, each instruction once, never missing an
--- operand, never holding more than 384 values (`Runs`).
+abbrev pub ReadRight : List ℕ → Reading → Type 0
+ReadRight text r = (n : ℕ) → (r ≡ R.Read n) ↔ ((root : Tree) × WellFormed text root × (nodes root ≡ n))
 
-pub record Carried (p : Programs) (text list buffer : List ℕ) (n : ℕ) : Type 0 where
+abbrev pub CheckedRight : List ℕ → List ℕ → Checking → Type 0
+CheckedRight text list r = (r ≡ C.Passed) ↔ Checkable text list
+
+pub record JudgedRight (text list entry : List ℕ) (r : Judgement) : Type 0 where
+  pub refuses : Refuses r ↔ ¬ Judgeable text list entry
+  pub accepts : (j : Judgeable text list entry)
+      → (r ≡ J.Accepted) ↔ (valueOf (j .passes .ks) (j .on) (j .passes .root) ≡ some (truth true))
+  pub violates : (j : Judgeable text list entry)
+      → (r ≡ J.Violated) ↔ (valueOf (j .passes .ks) (j .on) (j .passes .root) ≡ some (truth false))
+
+-- n instructions, as 01 counts them, for a buffer that their blocks fit in
+pub record Translatable (text list buffer : List ℕ) (n : ℕ) : Type 0 where
+  pub passes : Checkable text list
+  pub count : n ≡ nodes (passes .root) + conversions (passes .ks) (passes .root)
   pub room : blockSize * blocksNeeded n ≤ length buffer
-  pub loads : p .load list (take (blockSize * blocksNeeded n) (p .translate text list buffer .buffer)) ≡ L.Loaded n
-  pub runs : (entry : List ℕ)
-      → p .run list (take (blockSize * blocksNeeded n) (p .translate text list buffer .buffer)) entry ≡ p .judge text list entry
-  pub later : drop (blockSize * blocksNeeded n) (p .translate text list buffer .buffer) ≡ drop (blockSize * blocksNeeded n) buffer
+
+abbrev pub TranslatedRight : List ℕ → List ℕ → List ℕ → TranslateResult → Type 0
+TranslatedRight text list buffer r = (n : ℕ) → (r .answer ≡ T.Written n) ↔ Translatable text list buffer n
+
+-- "The entry is accepted exactly when the bool left at the end is true, else violated; this holds for all blocks that load"
+pub record RanRight (list blocks entry : List ℕ) (r : Judgement) : Type 0 where
+  pub refuses : Refuses r ↔ ¬ Runnable list blocks entry
+  pub accepts : (j : Runnable list blocks entry)
+      → (r ≡ J.Accepted) ↔ (valuesAlong (j .ks) (j .on) (program blocks) ≡ ends (truth true ∷ []))
+  pub violates : (j : Runnable list blocks entry)
+      → (r ≡ J.Violated) ↔ (valuesAlong (j .ks) (j .on) (program blocks) ≡ ends (truth false ∷ []))
+
+pub record DemandTwo (p : Programs) : Type 0 where
+  pub reads : (text : List ℕ) → Bytes text → ReadRight text (p .read text)
+  pub checks : (text list : List ℕ) → Bytes text → Bytes list → CheckedRight text list (p .check text list)
+  pub judges : (text list entry : List ℕ) → Bytes text → Bytes list → Bytes entry → JudgedRight text list entry (p .judge text list entry)
+  pub translates : (text list buffer : List ℕ) → Bytes text → Bytes list → Bytes buffer
+      → TranslatedRight text list buffer (p .translate text list buffer)
+  pub runs : (list blocks entry : List ℕ) → Bytes list → Bytes blocks → Bytes entry → RanRight list blocks entry (p .run list blocks entry)
+
+-- Demand 3. A text and a list that pass have a number of instructions, and are translated with it into every buffer that has room for
+-- its blocks; every other buffer is refused, 15 at its length. The blocks written load with that list, with the number returned, and
+-- running them on any entry gives what judging the text gives, refusals included; the buffer's later bytes stay. And all blocks that
+-- load, whoever made them, run on every conforming entry to accepted or violated, as `Runs` says.
+
+pub record Translates (p : Programs) (text list : List ℕ) : Type 0 where
+  pub count : ℕ
+  pub few : count ≤ mostBlocks * inBlock
+  pub enough : (buffer : List ℕ) → Bytes buffer → blockSize * blocksNeeded count ≤ length buffer
+      → p .translate text list buffer .answer ≡ T.Written count
+  pub short : (buffer : List ℕ) → Bytes buffer → length buffer < blockSize * blocksNeeded count
+      → p .translate text list buffer .answer ≡ T.Refused 15 (P.Buffer (length buffer))
+
+abbrev pub blocksWritten : ℕ → List ℕ → List ℕ
+blocksWritten n exit = take (blockSize * blocksNeeded n) exit
+
+-- n instructions written to a buffer, which then holds `exit`, and what loading the blocks there answers
+pub record Carried (buffer exit : List ℕ) (n : ℕ) (loaded : Loading) : Type 0 where
+  pub room : blockSize * blocksNeeded n ≤ length buffer
+  pub loads : loaded ≡ L.Loaded n
+  pub later : drop (blockSize * blocksNeeded n) exit ≡ drop (blockSize * blocksNeeded n) buffer
 
 pub record Judged (p : Programs) (list blocks entry : List ℕ) (ks : List Key) (e : Entry) (n : ℕ) : Type 0 where
   pub goes : Runs ks e blocks n
   pub answer : p .run list blocks entry ≡ verdict (goes .bit)
 
 pub record DemandThree (p : Programs) : Type 0 where
-  pub translates : (text list buffer : List ℕ) → p .check text list ≡ C.Passed → mostBlocks * blockSize ≤ length buffer
-      → (n : ℕ) × (p .translate text list buffer .answer ≡ T.Written n)
-  pub carries : (text list buffer : List ℕ) (n : ℕ) → p .translate text list buffer .answer ≡ T.Written n → Carried p text list buffer n
-  pub runs : (list blocks : List ℕ) (n : ℕ) → p .load list blocks ≡ L.Loaded n → (ks : List Key) → keys list ≡ ok ks
-      → (entry : List ℕ) (e : Entry) → entryOf ks entry ≡ ok e → Judged p list blocks entry ks e n
+  pub translates : (text list : List ℕ) → Bytes text → Bytes list → p .check text list ≡ C.Passed → Translates p text list
+  pub bytes : (text list buffer : List ℕ) → Bytes text → Bytes list → Bytes buffer → Bytes (p .translate text list buffer .buffer)
+  pub carries : (text list buffer : List ℕ) → Bytes text → Bytes list → Bytes buffer → (n : ℕ)
+      → p .translate text list buffer .answer ≡ T.Written n
+      → Carried buffer (p .translate text list buffer .buffer) n (p .load list (blocksWritten n (p .translate text list buffer .buffer)))
+  pub runs-alike : (text list buffer : List ℕ) → Bytes text → Bytes list → Bytes buffer → (n : ℕ)
+      → p .translate text list buffer .answer ≡ T.Written n → (entry : List ℕ) → Bytes entry
+      → p .run list (blocksWritten n (p .translate text list buffer .buffer)) entry ≡ p .judge text list entry
+  pub runs : (list blocks : List ℕ) → Bytes list → Bytes blocks → (n : ℕ) → p .load list blocks ≡ L.Loaded n
+      → (ks : List Key) → keys list ≡ ok ks → (entry : List ℕ) → Bytes entry → (e : Entry) → entryOf ks entry ≡ ok e
+      → Judged p list blocks entry ks e n
 
 -- programs that keep the promises meet them
 

@@ -2,14 +2,15 @@
 -- "An entry for n keys has exactly 4 + 36n bytes, numbers big-endian. Bytes 0 to 3: priority, below 2^31. Each key's record:
 -- byte 0 present (0 or 1); byte 1 prefix length; bytes 2, 3 zero; 16 bytes first number (value or low); 16 bytes second
 -- number (mask or high). Fields a kind lacks are zero. Numbers are below 2^W."
-use Prim.Native.Nat.{ℕ, zero, suc, _+_, _*_, _-_, _%_, _^_}
+use Prim.Native.Nat.{ℕ, suc, _+_, _*_, _-_, _%_, _^_}
 use mathlib.Core.Bool.{Bool, true, false, not, cond, _&&_, _||_}
-use mathlib.Core.List.{List, [], _∷_}
-use lib.ListN.{length, drop}
+use mathlib.Core.Option.{Option, none, some}
+use mathlib.Core.List.{List, [], _∷_, _++_}
+use lib.ListN.{length, drop, getElem?}
 use lib.Bits.{bitAnd}
 use lib.Dec.{eqb, ltb, leb}
-use Rattle.paper.specs.Answers.{Answer, ok, refused, _>>=_, require, inEntry}
-use Rattle.paper.specs.Numbers.{byteAt, bytesAt, numberAt}
+use Rattle.paper.specs.Answers.{Answer, ok, _>>=_, require, inTurn, inEntry}
+use Rattle.paper.specs.Numbers.{byteAt, bytesAt, numberAt, bigEndian}
 use Rattle.paper.specs.Keys.{Kind, exact, ternary, lpm, range, optional, Key, allZero}
 
 abbrev pub headSize : ℕ
@@ -17,6 +18,13 @@ headSize = 4
 
 abbrev pub matchSize : ℕ
 matchSize = 36
+
+-- writing: "byte 0 present (0 or 1); byte 1 prefix length; bytes 2, 3 zero; 16 bytes first number (value or low); 16 bytes second
+-- number (mask or high)"
+abbrev pub matchRecord : ℕ → ℕ → ℕ → ℕ → List ℕ
+matchRecord present length first second = present ∷ length ∷ 0 ∷ 0 ∷ (bigEndian 16 first ++ bigEndian 16 second)
+
+-- reading
 
 -- what a key's record reads as: value or low, mask or high, prefix length
 pub record Match : Type 0 where
@@ -64,7 +72,8 @@ presentRule k r =
 abbrev pub matchOk : Key → List ℕ → Bool
 matchOk k r = cond (eqb (byteAt r 0) 0) (absentRule k r) (eqb (byteAt r 0) 1 && presentRule k r)
 
--- "It reads as value 0 with mask 0, prefix length 0, or low 0 with high 2^W − 1."
+-- "It reads as value 0 with mask 0, prefix length 0, or low 0 with high 2^W − 1." An absent key is not exact: the first clause is
+-- never asked
 abbrev pub absent : Kind → ℕ → Match
 absent exact w = record { first = 0; second = 0; length = 0 }
 absent ternary w = record { first = 0; second = 0; length = 0 }
@@ -83,20 +92,23 @@ abbrev pub matchesFrom : List ℕ → ℕ → List Key → List Match
 matchesFrom entry k [] = []
 matchesFrom entry k (key ∷ keys) = matchOf key (matchAt entry k) ∷ matchesFrom entry (suc k) keys
 
--- 20: "priority or a key's entry record breaks its rule", from record k on
-abbrev pub rulesFrom : List ℕ → ℕ → List Key → Answer (Unit {0})
-rulesFrom entry k [] = ok tt
-rulesFrom entry k (key ∷ keys) =
-    let later = rulesFrom entry (suc k) keys in
-    cond (matchOk key (matchAt entry k)) later (refused 20 inEntry (headSize + k * matchSize))
-
 abbrev pub priorityOf : List ℕ → ℕ
 priorityOf entry = numberAt entry 0 4
+
+-- a rule asked of a key, if there is one: of no key, nothing is asked
+abbrev pub asked : Option Key → (Key → Bool) → Bool
+asked none rule = true
+asked (some key) rule = rule key
+
+-- 20: "priority or a key's entry record breaks its rule". Of the record of key k
+abbrev pub ruleTest : List Key → List ℕ → ℕ → Answer (Unit {0})
+ruleTest keys entry k =
+    require (asked (getElem? keys k) (λ key. matchOk key (matchAt entry k))) 20 inEntry (headSize + k * matchSize)
 
 -- 19: "entry length wrong"; then 20
 unfoldable pub entryOf : List Key → List ℕ → Answer Entry
 entryOf keys entry =
     require (eqb (length entry) (headSize + matchSize * length keys)) 19 inEntry (length entry)
     >>= λ _. require (ltb (priorityOf entry) (2 ^ 31)) 20 inEntry 0
-    >>= λ _. rulesFrom entry 0 keys
+    >>= λ _. inTurn (ruleTest keys entry) 0 (length keys)
     >>= λ _. ok (record { priority = priorityOf entry; matches = matchesFrom entry 0 keys })

@@ -4,6 +4,9 @@
 -- parenthesis, inside which the whole ladder starts again. "ipv4", "ipv6" and "mac" begin an address only before "(", else they
 -- are keys. After "::" any undotted word is a name, "true" included. One trailing ";" is allowed, at top level only. A level is
 -- opened by each prefix operator and each parenthesis (not an address's); 64 may be open."
+--
+-- Here is how tokens are read. What they are read as stands in Sentences, as a grammar that knows nothing of reading; its
+-- `ParsedIsRight` says that this stage answers what the grammar says and nothing else, refusals and their places included.
 use Prim.Native.Nat.{ℕ, zero, suc, _+_}
 use mathlib.Core.Bool.{Bool, true, false, cond}
 use mathlib.Core.Option.{Option, none, some}
@@ -11,14 +14,14 @@ use mathlib.Core.List.{List, [], _∷_}
 use lib.ListN.{length}
 use lib.Dec.{eqb}
 use Rattle.paper.specs.Answers.{Answer, ok, refused, inText}
-use Rattle.paper.specs.Tokens.{bytes, sameBytes, undotted, Prefix, Join, sequel, implies, orElse, andAlso, Comparison, Sign, join, comparison, prefix, opening, closing, colons, Tok, word, numeral, string, sign, Token}
+use Rattle.paper.specs.Tokens.{bytes, sameBytes, undotted, Literal, plain, Prefix, Join, sequel, implies, orElse, andAlso, Comparison, Sign, join, comparison, prefix, opening, closing, colons, Tok, word, numeral, string, sign, Token}
 use Rattle.paper.specs.Addresses.{Scheme, schemeOf, address}
 
 -- "Parentheses make no node; a node's place is its operator ("::" counts as none here and in a print), else its first token":
 -- each node's first number is its place. A field and an attribute have a second, that of the name behind "::".
 pub data Tree : Type 0 where
   truth : ℕ → Bool → Tree
-  number : ℕ → ℕ → Tree
+  number : ℕ → Literal → Tree
   key : ℕ → List ℕ → Tree
   field : ℕ → List ℕ → ℕ → List ℕ → Tree
   attribute : ℕ → ℕ → List ℕ → Tree
@@ -153,31 +156,26 @@ sequence last p = chain last (joins sequel) (implication p)
 
 -- atoms
 
-pub data Mark : Type 0 where
-  opens closes doubles others : Mark
+-- the signs of which atoms are made, by number; the other signs are operators
+abbrev pub atomSign : Sign → ℕ
+atomSign (join j) = 0
+atomSign (comparison c) = 0
+atomSign (prefix p) = 0
+atomSign opening = 1
+atomSign closing = 2
+atomSign colons = 3
 
--- what a token is to the atom before it
-abbrev pub markOf : Tok → Mark
-markOf (word w) = others
-markOf (numeral n) = others
-markOf (string q) = others
-markOf (sign (join j)) = others
-markOf (sign (comparison c)) = others
-markOf (sign (prefix p)) = others
-markOf (sign opening) = opens
-markOf (sign closing) = closes
-markOf (sign colons) = doubles
-
-abbrev pub closeAt : Mark → Tree → Token → List Token → Out
-closeAt opens t u us = ends stuck (u ∷ us)
-closeAt closes t u us = ends (got t) us
-closeAt doubles t u us = ends stuck (u ∷ us)
-closeAt others t u us = ends stuck (u ∷ us)
+-- whether a token is this one of them
+abbrev pub isSign : Sign → Tok → Bool
+isSign g (word w) = false
+isSign g (numeral n) = false
+isSign g (string q) = false
+isSign g (sign h) = eqb (atomSign h) (atomSign g)
 
 -- a tree that ")" must follow
 abbrev pub closed : Tree → List Token → Out
 closed t [] = ends stuck []
-closed t (u ∷ us) = closeAt (markOf (u .tok)) t u us
+closed t (u ∷ us) = cond (isSign closing (u .tok)) (ends (got t) us) (ends stuck (u ∷ us))
 
 abbrev pub nameAt : Tok → (ℕ → List ℕ → Tree) → Token → List Token → Out
 nameAt (word w) make u us = cond (undotted w) (ends (got (make (u .at) w)) us) (ends stuck (u ∷ us))
@@ -196,7 +194,7 @@ Reader = Scheme → List ℕ → Option ℕ
 
 abbrev pub addressWith : Option ℕ → ℕ → Token → List Token → Out
 addressWith none at u us = bad (u .at)
-addressWith (some n) at u us = closed (number at n) us
+addressWith (some n) at u us = closed (number at (plain n)) us
 
 abbrev pub addressAt : Reader → Scheme → ℕ → Tok → Token → List Token → Out
 addressAt read s at (word w) u us = ends stuck (u ∷ us)
@@ -214,15 +212,11 @@ abbrev pub opensAddress : Reader → Option Scheme → ℕ → List ℕ → Toke
 opensAddress read none at w u us = ends (got (key at w)) (u ∷ us)
 opensAddress read (some s) at w u us = addressed read s at us
 
-abbrev pub keyAt : Reader → ℕ → List ℕ → Mark → Token → List Token → Out
-keyAt read at w opens u us = opensAddress read (schemeOf w) at w u us
-keyAt read at w closes u us = ends (got (key at w)) (u ∷ us)
-keyAt read at w doubles u us = named (field at w) us
-keyAt read at w others u us = ends (got (key at w)) (u ∷ us)
-
 abbrev pub keyed : Reader → ℕ → List ℕ → List Token → Out
 keyed read at w [] = ends (got (key at w)) []
-keyed read at w (u ∷ us) = keyAt read at w (markOf (u .tok)) u us
+keyed read at w (u ∷ us) =
+    cond (isSign colons (u .tok)) (named (field at w) us)
+    (cond (isSign opening (u .tok)) (opensAddress read (schemeOf w) at w u us) (ends (got (key at w)) (u ∷ us)))
 
 abbrev pub worded : Reader → ℕ → List ℕ → List Token → Out
 worded read at w us =

@@ -3,12 +3,12 @@
 -- 4 optional. Byte 2: width W, 1 to 128. Bytes 3 to 15 zero. Bytes 16 to 79: the name, a key by 004's grammar and neither
 -- "true" nor "false", then zeros."
 use Prim.Native.Nat.{ℕ, zero, suc, _+_, _*_, _-_, _/_, _%_}
-use mathlib.Core.Bool.{Bool, true, false, not, cond, _&&_, _||_}
-use mathlib.Core.Option.{Option, none, some, Option·map}
-use mathlib.Core.List.{List, [], _∷_}
-use lib.ListN.{length, take, drop}
-use lib.Dec.{eqb, ltb, leb}
-use Rattle.paper.specs.Answers.{Answer, ok, refused, _>>=_, require, inList}
+use mathlib.Core.Bool.{Bool, true, false, not, cond, _&&_}
+use mathlib.Core.Option.{Option, none, some}
+use mathlib.Core.List.{List, [], _∷_, _++_}
+use lib.ListN.{length, drop, replicate}
+use lib.Dec.{eqb, leb}
+use Rattle.paper.specs.Answers.{Answer, ok, _>>=_, require, inTurn, inList}
 use Rattle.paper.specs.Numbers.{byteAt, bytesAt}
 use Rattle.paper.specs.Tokens.{bytes, sameBytes, isKey}
 
@@ -22,7 +22,7 @@ kindNo lpm = 2
 kindNo range = 3
 kindNo optional = 4
 
--- of a number up to 4
+-- of a number up to 4: a record with a greater one is refused, so that its kind is never asked
 abbrev pub kindOf : ℕ → Kind
 kindOf n =
     cond (eqb n 0) exact
@@ -46,6 +46,16 @@ recordSize = 80
 
 abbrev pub mostKeys : ℕ
 mostKeys = 32
+
+-- writing: "Byte 0: name length, 1 to 64. Byte 1: kind, ... Byte 2: width W, 1 to 128. Bytes 3 to 15 zero. Bytes 16 to 79: the
+-- name, ... then zeros." Of a name, a kind's number and a width
+abbrev pub keyRecord : List ℕ → ℕ → ℕ → List ℕ
+keyRecord name kind width = length name ∷ kind ∷ width ∷ (replicate 13 0 ++ name ++ replicate (64 - length name) 0)
+
+-- reading
+
+abbrev pub recordsIn : List ℕ → ℕ
+recordsIn list = length list / recordSize
 
 abbrev pub recordAt : List ℕ → ℕ → List ℕ
 recordAt list k = bytesAt list (k * recordSize) recordSize
@@ -84,18 +94,30 @@ abbrev pub isNone : {A : Type 0} → Option A → Bool
 isNone none = true
 isNone (some a) = false
 
--- 3: "a key record breaks its layout"; 4: "a name repeats an earlier one". From record k on, with n records left
-abbrev pub recordsFrom : List ℕ → ℕ → ℕ → Answer (Unit {0})
-recordsFrom list k zero = ok tt
-recordsFrom list k (suc n) =
-    let later = recordsFrom list (suc k) n in
-    cond (recordOk (recordAt list k))
-    (cond (isNone (find (keysFrom list 0 k) (nameOf (recordAt list k)))) later (refused 4 inList (k * recordSize)))
-    (refused 3 inList (k * recordSize))
+-- no earlier record has the name of record k
+abbrev pub isNew : List ℕ → ℕ → Bool
+isNew list k = isNone (find (keysFrom list 0 k) (nameOf (recordAt list k)))
+
+-- what is asked of a record, by its index, before its name is compared
+abbrev pub RecordRule : Type 0
+RecordRule = ℕ → List ℕ → Bool
+
+-- 3: "a key record breaks its layout"; 4: "a name repeats an earlier one". Of record k
+abbrev pub recordTest : RecordRule → List ℕ → ℕ → Answer (Unit {0})
+recordTest rule list k =
+    require (rule k (recordAt list k)) 3 inList (k * recordSize)
+    >>= λ _. require (isNew list k) 4 inList (k * recordSize)
 
 -- 2: "key list length not a multiple of 80, or over 2,560"; then 3 and 4
-unfoldable pub keys : List ℕ → Answer (List Key)
-keys list =
+abbrev pub keysBy : RecordRule → List ℕ → Answer (List Key)
+keysBy rule list =
     require (eqb (length list % recordSize) 0 && leb (length list) (mostKeys * recordSize)) 2 inList (length list)
-    >>= λ _. recordsFrom list 0 (length list / recordSize)
-    >>= λ _. ok (keysFrom list 0 (length list / recordSize))
+    >>= λ _. inTurn (recordTest rule list) 0 (recordsIn list)
+    >>= λ _. ok (keysFrom list 0 (recordsIn list))
+
+-- the layout, which is the same for every index
+abbrev pub layoutRule : RecordRule
+layoutRule k r = recordOk r
+
+unfoldable pub keys : List ℕ → Answer (List Key)
+keys list = keysBy layoutRule list

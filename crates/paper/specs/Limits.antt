@@ -1,36 +1,21 @@
 -- Both sides of every limit that 01 sets, as cases that compute.
 use Prim.Native.Nat.{ℕ, zero, suc, _+_, _*_, _-_, _/_, _%_, _^_}
 use mathlib.Core.Path.{_≡_}
-use mathlib.Core.Bool.{Bool, true, false}
-use mathlib.Core.Option.{Option, none, some}
-use mathlib.Core.List.{List, [], _∷_, _++_, map}
-use lib.ListN.{length, take, replicate}
-use Rattle.paper.specs.Answers.{Answer, ok, refused, _>>=_, inText, inList, inEntry, inBlocks, inBuffer}
+use mathlib.Core.Bool.{Bool, true}
+use mathlib.Core.Option.{Option, some}
+use mathlib.Core.List.{List, [], _∷_, _++_}
+use lib.ListN.{length, replicate}
+use Rattle.paper.specs.Answers.{ok, refused, _>>=_, inText, inList, inEntry, inBlocks, inBuffer}
 use Rattle.paper.specs.Numbers.{bigEndian}
 use Rattle.paper.specs.Tokens.{bytes}
-use Rattle.paper.specs.Keys.{keys}
-use Rattle.paper.specs.Types.{Ty, bool}
+use Rattle.paper.specs.Keys.{keyRecord, keys}
+use Rattle.paper.specs.Entry.{matchRecord}
+use Rattle.paper.specs.Types.{bool}
 use Rattle.paper.specs.Meaning.{both}
-use Rattle.paper.specs.Code.{Instruction, pushBool, invert, connects, Walk, fails, ends}
-use Rattle.paper.specs.Blocks.{blocksOf}
+use Rattle.paper.specs.Code.{Instruction, pushBool, connects, fails, ends}
 use Rattle.paper.specs.Loading.{typesAlong}
 use Rattle.paper.specs.Calls.{readAnswer, judgeAnswer, translateAnswer, loadAnswer}
-use Rattle.paper.specs.Marked.{keyRecord, matchRecord, theKeys}
-
-abbrev pub repeat : ℕ → List ℕ → List ℕ
-repeat zero s = []
-repeat (suc n) s = s ++ repeat n s
-
--- what is given, and what must be said of it
-pub record On (A : Type 0) : Type 0 where
-  pub given : List ℕ
-  pub says : Answer A
-
-abbrev pub on : {A : Type 0} → List ℕ → Answer A → On A
-on s a = record { given = s; says = a }
-
-abbrev pub Agree : {A : Type 0} → (List ℕ → Answer A) → List (On A) → Type 0
-Agree {A} f cs = map (λ (c : On A). f (c .given)) cs ≡ map (λ (c : On A). c .says) cs
+use Rattle.paper.specs.Examples.{on, Agree, On, repeat}
 
 -- texts: 4,096 bytes; 1,024 tokens; 64 levels of each kind, and mixed; 2^128 − 1 in each base
 
@@ -41,22 +26,34 @@ nested n = repeat n (bytes "(") ++ bytes "true" ++ repeat n (bytes ")")
 abbrev pub mixed : ℕ → List ℕ → List ℕ
 mixed n inner = repeat n (bytes "!-(") ++ inner ++ repeat n (bytes ")")
 
+-- 1,024 tokens, 2,560 bytes
+abbrev pub fullTape : List ℕ
+fullTape = repeat 512 (bytes "true;")
+
 abbrev pub texts : List (On ℕ)
 texts =
     on (bytes "true" ++ replicate 4092 32) (ok 1)
     ∷ on (bytes "true" ++ replicate 4093 32) (refused 1 inText 4096)
     ∷ on (replicate 4096 97) (ok 1)
     ∷ on (replicate 4097 97) (refused 1 inText 4096)
-    ∷ on (bytes "true" ++ repeat 511 (bytes ";true") ++ bytes ";") (ok 1023)
-    ∷ on (bytes "true" ++ repeat 512 (bytes ";true")) (refused 7 inText 2560)
+    ∷ on fullTape (ok 1023)
+    ∷ on (fullTape ++ bytes "true") (refused 7 inText 2560)
+    ∷ on (fullTape ++ bytes "@") (refused 5 inText 2560)
+    ∷ on (fullTape ++ bytes "340282366920938463463374607431768211456") (refused 6 inText 2560)
     ∷ on (repeat 64 (bytes "!") ++ bytes "true") (ok 65)
     ∷ on (repeat 65 (bytes "!") ++ bytes "true") (refused 9 inText 64)
     ∷ on (repeat 64 (bytes "-") ++ bytes "1") (ok 65)
     ∷ on (repeat 65 (bytes "-") ++ bytes "1") (refused 9 inText 64)
     ∷ on (nested 64) (ok 1)
     ∷ on (nested 65) (refused 9 inText 64)
+    ∷ on (repeat 64 (bytes "(")) (refused 8 inText 64)
+    ∷ on (repeat 65 (bytes "(")) (refused 9 inText 64)
     ∷ on (mixed 21 (bytes "!1")) (ok 44)
     ∷ on (mixed 21 (bytes "!-1")) (refused 9 inText 64)
+    -- a level closes after its operand, and with its ")"; an address's parenthesis opens none
+    ∷ on (repeat 64 (bytes "!") ++ bytes "a==" ++ repeat 64 (bytes "!") ++ bytes "a") (ok 131)
+    ∷ on (nested 64 ++ bytes "&&" ++ nested 64) (ok 3)
+    ∷ on (repeat 64 (bytes "-") ++ bytes "mac('00:00:00:00:00:05')") (ok 65)
     ∷ on (bytes "340282366920938463463374607431768211455") (ok 1)
     ∷ on (bytes "340282366920938463463374607431768211456") (refused 6 inText 0)
     ∷ on (bytes "0x" ++ repeat 32 (bytes "f")) (ok 1)
@@ -70,7 +67,7 @@ texts =
 abbrev pub Texts : Type 0
 Texts = Agree readAnswer texts
 
--- key lists: 32 records, 2,560 bytes; a byte short and a byte long; width 1 and 128; a name of 64 bytes
+-- key lists: 32 records, 2,560 bytes; a byte short and a byte long. Those of a record are in KeyExamples
 
 abbrev pub manyKeys : ℕ → List ℕ
 manyKeys zero = []
@@ -83,22 +80,12 @@ lists =
     ∷ on (manyKeys 33) (refused 2 inList 2640)
     ∷ on (manyKeys 32 ++ (0 ∷ [])) (refused 2 inList 2561)
     ∷ on (manyKeys 1 ++ replicate 79 97) (refused 2 inList 159)
-    ∷ on (keyRecord (bytes "k") 0 0) (refused 3 inList 0)
-    ∷ on (keyRecord (bytes "k") 0 1) (ok 1)
-    ∷ on (keyRecord (bytes "k") 0 128) (ok 1)
-    ∷ on (keyRecord (bytes "k") 0 129) (refused 3 inList 0)
-    ∷ on (keyRecord (bytes "k") 4 8) (ok 1)
-    ∷ on (keyRecord (bytes "k") 5 8) (refused 3 inList 0)
-    ∷ on (keyRecord [] 0 8) (refused 3 inList 0)
-    ∷ on (keyRecord (replicate 64 97) 0 8) (ok 1)
-    ∷ on (65 ∷ 0 ∷ 8 ∷ (replicate 13 0 ++ replicate 64 97)) (refused 3 inList 0)
-    ∷ on (keyRecord (bytes "k") 0 1 ++ keyRecord (bytes "k") 1 8) (refused 4 inList 80)
     ∷ []
 
 abbrev pub Lists : Type 0
 Lists = Agree (λ list. keys list >>= λ ks. ok (length ks)) lists
 
--- entries: priority below 2^31; a number below 2^W, at W 1 and 128; prefix length at most W
+-- entries: priority below 2^31; a number below 2^W, at W 1 and 128; prefix length at most W. Each rule of each kind is in EntryExamples
 
 abbrev pub entry : ℕ → List ℕ → List ℕ
 entry priority records = bigEndian 4 priority ++ records
@@ -128,18 +115,10 @@ wide =
     ∷ on (entry 0 (matchRecord 1 127 (2 ^ 128 - 1) 0)) (refused 20 inEntry 4)
     ∷ []
 
-abbrev pub eightBits : List (On Bool)
-eightBits =
-    on (entry 0 (matchRecord 1 8 255 0)) (ok true)
-    ∷ on (entry 0 (matchRecord 1 9 255 0)) (refused 20 inEntry 4)
-    ∷ on (entry 0 (matchRecord 1 8 256 0)) (refused 20 inEntry 4)
-    ∷ []
-
 pub record Entries : Type 0 where
   pub priority : Judged [] priorities
   pub one : Judged (keyRecord (bytes "k") 0 1) narrow
   pub all : Judged (keyRecord (bytes "k") 2 128) wide
-  pub eight : Judged (keyRecord (bytes "k") 2 8) eightBits
 
 -- values held: 384. n bools, then as many joins as bring them back to one
 abbrev pub piled : ℕ → List (Option Instruction)
@@ -165,19 +144,6 @@ lengths =
     ∷ on (replicate (83 * 512) 0) (refused 16 inBlocks 42496)
     ∷ []
 
--- blocks of 25 instructions and one more, whole and cut at the first one's end: the shorter program also ends in a bool, and the
--- total count forbids it
-abbrev pub justOver : List Instruction
-justOver = replicate 13 (pushBool true) ++ replicate 12 (connects both) ++ (invert ∷ [])
-
-abbrev pub cuts : List (On ℕ)
-cuts =
-    on (blocksOf 0 justOver) (ok 26)
-    ∷ on (take 512 (blocksOf 0 justOver)) (refused 17 inBlocks 0)
-    ∷ on (blocksOf 0 (take 25 justOver)) (ok 25)
-    ∷ []
-
 pub record Sizes : Type 0 where
   pub buffer : Agree (translateAnswer (bytes "true") []) buffers
   pub blocks : Agree (loadAnswer []) lengths
-  pub cut : Agree (loadAnswer []) cuts

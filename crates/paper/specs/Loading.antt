@@ -1,7 +1,7 @@
 -- 01, "The load check follows the types through the sequence: operands as above, at most 384 values held, one bool at the end;
 -- instruction fields in range." Refusal 18. And running what was loaded.
 use Prim.Native.Nat.{ℕ, zero, suc, _+_, _*_, _/_, _%_}
-use mathlib.Core.Bool.{Bool, true, false}
+use mathlib.Core.Bool.{Bool}
 use mathlib.Core.Option.{Option, none, some}
 use mathlib.Core.List.{List, [], _∷_, map}
 use lib.ListN.{length}
@@ -9,7 +9,7 @@ use Rattle.paper.specs.Answers.{Answer, ok, refused, _>>=_, inBlocks}
 use Rattle.paper.specs.Keys.{Key}
 use Rattle.paper.specs.Entry.{Entry}
 use Rattle.paper.specs.Types.{Ty, bool, int, of}
-use Rattle.paper.specs.Meaning.{Value, truth, whole, matched}
+use Rattle.paper.specs.Meaning.{Value, isTrue}
 use Rattle.paper.specs.Code.{Instruction, instructionSize, partsAt, decode, Walk, fails, ends, walk, typeAction, valueAction, actionOf}
 use Rattle.paper.specs.Blocks.{blockSize, inBlock, totalOf, layout}
 
@@ -49,16 +49,17 @@ loaded ks blocks =
     >>= λ _. loadCheck (length blocks) (typesAlong ks (program blocks))
     >>= λ _. ok (totalOf blocks)
 
--- "The entry is accepted exactly when the bool left at the end is true"
-
 unfoldable pub valuesAlong : List Key → Entry → List (Option Instruction) → Walk Value
 unfolding walk
 valuesAlong ks e code = walk 0 (map (actionOf (valueAction ks e)) code) []
 
+-- the one value that is left at the end; blocks that load always leave one
+abbrev pub left : Walk Value → Option Value
+left (fails i) = none
+left (ends []) = none
+left (ends (a ∷ [])) = some a
+left (ends (a ∷ b ∷ held)) = none
+
+-- "The entry is accepted exactly when the bool left at the end is true"
 abbrev pub leftTrue : Walk Value → Bool
-leftTrue (fails i) = false
-leftTrue (ends []) = false
-leftTrue (ends (truth b ∷ [])) = b
-leftTrue (ends (whole z ∷ [])) = false
-leftTrue (ends (matched k w m ∷ [])) = false
-leftTrue (ends (a ∷ b ∷ held)) = false
+leftTrue w = isTrue (left w)

@@ -1,22 +1,15 @@
 -- 01, "Marked judgements", as they stand there: the keys, the entry, and the sixteen cases.
-use Prim.Native.Nat.{ℕ, _-_}
+use Prim.Native.Nat.{ℕ}
 use Prim.Native.String as S
 use mathlib.Core.Path.{_≡_}
 use mathlib.Core.Bool.{Bool, true, false}
 use mathlib.Core.List.{List, [], _∷_, _++_, map}
-use lib.ListN.{length, replicate}
 use Rattle.paper.specs.Answers.{Answer, ok, refused, inText}
 use Rattle.paper.specs.Numbers.{bigEndian}
 use Rattle.paper.specs.Tokens.{bytes}
+use Rattle.paper.specs.Keys.{keyRecord}
+use Rattle.paper.specs.Entry.{matchRecord}
 use Rattle.paper.specs.Calls.{judgeAnswer}
-
--- a key record of a name, a kind's number and a width
-abbrev pub keyRecord : List ℕ → ℕ → ℕ → List ℕ
-keyRecord name kind width = length name ∷ kind ∷ width ∷ (replicate 13 0 ++ name ++ replicate (64 - length name) 0)
-
--- a key's record in an entry: present, prefix length, first and second number
-abbrev pub matchRecord : ℕ → ℕ → ℕ → ℕ → List ℕ
-matchRecord present length first second = present ∷ length ∷ 0 ∷ 0 ∷ (bigEndian 16 first ++ bigEndian 16 second)
 
 -- "Keys: v exact 1, d ternary 8, p lpm 8, r range 16, o optional 4."
 abbrev pub theKeys : List ℕ
@@ -71,6 +64,9 @@ cases =
     ∷ []
 
 -- each case is judged as it is marked
+
+abbrev pub AreJudged : List ℕ → List ℕ → List Case → Type 0
+AreJudged list entry cs = map (λ (c : Case). judgeAnswer (bytes (c .text)) list entry) cs ≡ map (λ (c : Case). c .says) cs
+
 abbrev pub Marked : Type 0
-Marked =
-    map (λ (c : Case). judgeAnswer (bytes (c .text)) theKeys theEntry) cases ≡ map (λ (c : Case). c .says) cases
+Marked = AreJudged theKeys theEntry cases

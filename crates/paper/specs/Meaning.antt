@@ -1,18 +1,18 @@
 -- 01, "Types and meaning", the meaning: what a tree is worth on an entry.
 use Prim.Native.Nat.{ℕ, _-_, _^_}
-use mathlib.Core.Bool.{Bool, true, false, not, cond, _&&_, _||_, Bool·beq}
+use mathlib.Core.Bool.{Bool, false, not, cond, _&&_, _||_, Bool·beq}
 use mathlib.Core.Option.{Option, none, some}
-use mathlib.Core.List.{List, [], _∷_}
+use mathlib.Core.List.{List}
 use lib.ListN.{getElem?}
 use lib.Dec.{eqb, ltb}
-use lib.IntN.{ℤ, pos, negsuc, negℤ}
+use lib.IntN.{ℤ, pos, negℤ}
 use Rattle.paper.specs.Numbers.{modulo, sameWhole, lessWhole}
 use Rattle.paper.specs.Tokens.{bytes, sameBytes, Prefix, notSign, minusSign, Join, sequel, implies, orElse, andAlso, Comparison, equal, unequal, greater, atLeast, less, atMost}
-use Rattle.paper.specs.Keys.{Kind, exact, ternary, lpm, range, optional, Key, find}
+use Rattle.paper.specs.Keys.{Kind, exact, ternary, lpm, range, optional, kindNo, Key, find}
 use Rattle.paper.specs.Entry.{Match, Entry, isExact}
 use Rattle.paper.specs.Grammar as G
 use Rattle.paper.specs.Grammar.{Tree}
-use Rattle.paper.specs.Types.{Ty, bool, int, of, sameTy, when, andThen, Field, value, mask, prefixLength, low, high, fieldNamed, has, takes, meet, suits}
+use Rattle.paper.specs.Types.{Ty, bool, int, of, sameTy, when, andThen, Field, value, mask, prefixLength, low, high, fieldNamed, has, meet, compares, takes, suits}
 
 -- a number of bit<W> is the exact match of that number
 pub data Value : Type 0 where
@@ -52,7 +52,7 @@ abbrev pub fieldValue : List Key → Entry → Field → ℕ → Option Value
 fieldValue ks e f k =
     andThen (getElem? ks k) (λ x. andThen (getElem? (e .matches) k) (λ m. when (has (x .kind) f) (fieldIn (x .width) f m)))
 
--- operators
+-- operators; nothing where Types gives no type
 
 abbrev pub notValue : Value → Option Value
 notValue (truth b) = some (truth (not b))
@@ -90,25 +90,22 @@ joinValue o (truth a) (matched k w m) = none
 joinValue o (whole y) b = none
 joinValue o (matched k w m) b = none
 
--- "An int meeting width W is reduced modulo 2^W first."
-abbrev pub asNumber : ℕ → Value → ℕ
-asNumber w (truth b) = 0
-asNumber w (whole z) = modulo z (2 ^ w)
-asNumber w (matched k x m) = m .first
+-- comparisons
 
-abbrev pub convertValue : Kind → ℕ → Value → Option Value
-convertValue k w a = when (takes (of k w) (tyOf a)) (matched k w (oneValue k w (asNumber w a)))
+-- "An int meeting width W is reduced modulo 2^W first. A number meeting a bare key becomes the match of that one value": a value in the
+-- type in which it meets another. One of that type stays as it is, and so does a bool, which "never meets a number".
+abbrev pub inType : Ty → Value → Value
+inType bool a = a
+inType int a = a
+inType (of k w) (truth b) = truth b
+inType (of k w) (whole z) = matched k w (oneValue k w (modulo z (2 ^ w)))
+inType (of k w) (matched l x m) = matched k w (cond (eqb (kindNo k) (kindNo l)) m (oneValue k w (m .first)))
 
--- a value in the type in which it meets another
-abbrev pub inType : Ty → Value → Option Value
-inType bool a = when (sameTy (tyOf a) bool) a
-inType int a = when (sameTy (tyOf a) int) a
-inType (of k w) a = cond (sameTy (tyOf a) (of k w)) (some a) (convertValue k w a)
-
--- "equal types (equal in all fields)"
+-- "equal in all fields"
 abbrev pub sameMatch : Match → Match → Bool
 sameMatch m n = eqb (m .first) (n .first) && eqb (m .second) (n .second) && eqb (m .length) (n .length)
 
+-- two bools, two whole numbers, or two matches; no others are of one type
 abbrev pub sameValue : Value → Value → Bool
 sameValue (truth a) (truth b) = Bool·beq a b
 sameValue (truth a) (whole z) = false
@@ -120,7 +117,7 @@ sameValue (matched k w m) (truth b) = false
 sameValue (matched k w m) (whole z) = false
 sameValue (matched k w m) (matched l x n) = sameMatch m n
 
--- of two numbers of one type
+-- two whole numbers, or two numbers of bit<W>; ordering takes no others
 abbrev pub lessValue : Value → Value → Bool
 lessValue (truth a) b = false
 lessValue (whole y) (truth b) = false
@@ -130,6 +127,7 @@ lessValue (matched k w m) (truth b) = false
 lessValue (matched k w m) (whole z) = false
 lessValue (matched k w m) (matched l x n) = ltb (m .first) (n .first)
 
+-- of two values of one type
 abbrev pub holds : Comparison → Value → Value → Bool
 holds equal a b = sameValue a b
 holds unequal a b = not (sameValue a b)
@@ -138,19 +136,22 @@ holds atLeast a b = not (lessValue a b)
 holds less a b = lessValue a b
 holds atMost a b = not (lessValue b a)
 
--- of two operands of one type
-abbrev pub compareValue : Comparison → Value → Value → Option Value
-compareValue c a b = when (sameTy (tyOf a) (tyOf b) && suits c (tyOf a)) (truth (holds c a b))
-
--- of two operands that meet in one
 abbrev pub comparisonValue : Comparison → Value → Value → Option Value
 comparisonValue c a b =
-    andThen (meet (tyOf a) (tyOf b)) (λ m. andThen (inType m a) (λ x. andThen (inType m b) (λ y. compareValue c x y)))
+    andThen (meet (tyOf a) (tyOf b)) (λ m. when (compares c (tyOf a) (tyOf b)) (truth (holds c (inType m a) (inType m b))))
+
+-- instructions 8 and 9
+
+abbrev pub convertValue : Kind → ℕ → Value → Option Value
+convertValue k w a = when (takes (of k w) (tyOf a)) (inType (of k w) a)
+
+abbrev pub compareValue : Comparison → Value → Value → Option Value
+compareValue c a b = when (sameTy (tyOf a) (tyOf b) && suits c (tyOf a)) (truth (holds c a b))
 
 -- trees; nothing where a tree has no type
 unfoldable pub valueOf : List Key → Entry → Tree → Option Value
 valueOf ks e (G.truth at b) = some (truth b)
-valueOf ks e (G.number at n) = some (whole (pos n))
+valueOf ks e (G.number at n) = some (whole (pos (n .value)))
 valueOf ks e (G.key at w) = andThen (find ks w) (bareValue ks e)
 valueOf ks e (G.field at w to f) = andThen (find ks w) (λ k. andThen (fieldNamed f) (λ g. fieldValue ks e g k))
 valueOf ks e (G.attribute at to f) = when (sameBytes f (bytes "priority")) (whole (pos (e .priority)))
@@ -158,6 +159,7 @@ valueOf ks e (G.prefixed at o t) = andThen (valueOf ks e t) (prefixValue o)
 valueOf ks e (G.joined at o l r) = andThen (valueOf ks e l) (λ a. andThen (valueOf ks e r) (joinValue (connective o) a))
 valueOf ks e (G.compared at c l r) = andThen (valueOf ks e l) (λ a. andThen (valueOf ks e r) (comparisonValue c a))
 
+-- of a text that passes, the value is a bool; no other is true
 abbrev pub isTrue : Option Value → Bool
 isTrue none = false
 isTrue (some (truth b)) = b

@@ -1,6 +1,6 @@
 -- 01, "Holding the promises to account": "Each public function states its result in full for all inputs, and what each lent byte
 -- holds afterwards, refused calls included. .. Show that no second result satisfies it".
-use Prim.Native.Nat.{ℕ}
+use Prim.Native.Nat.{ℕ, _<_}
 use mathlib.Core.Path.{_≡_}
 use mathlib.Core.Bool.{Bool, true, false}
 use mathlib.Core.List.{List}
@@ -11,6 +11,7 @@ use Rattle.paper.specs.declared.Judgement.the-variants as J
 use Rattle.paper.specs.declared.Translation.{Translation}
 use Rattle.paper.specs.declared.Loading.{Loading}
 use Rattle.paper.specs.Answers.{readingSays, checkingSays, judgementSays, translationSays, loadingSays}
+use Rattle.paper.specs.Written.{All}
 use Rattle.paper.specs.Calls.{readAnswer, checkAnswer, judgeAnswer, translateAnswer, translateBuffer, loadAnswer, runAnswer}
 
 -- what is promised of the result of each call, for the bytes that are lent to it
@@ -57,7 +58,11 @@ pub record NoSecondResult : Type 0 where
   pub load : (list blocks : List ℕ) → Sole (LoadPromised list blocks)
   pub run : (list blocks entry : List ℕ) → Sole (RunPromised list blocks entry)
 
--- the six calls as programs: any that return such results, and those that keep their promises on all inputs
+-- what can be lent: numbers below 256
+abbrev pub Bytes : List ℕ → Type 0
+Bytes s = All (λ b. b < 256) s
+
+-- the six calls as programs: any that return such results, and those that keep their promises on all bytes
 
 pub record Programs : Type 0 where
   pub read : List ℕ → Reading
@@ -67,13 +72,35 @@ pub record Programs : Type 0 where
   pub load : List ℕ → List ℕ → Loading
   pub run : List ℕ → List ℕ → List ℕ → Judgement
 
+abbrev pub KeepsRead : Programs → Type 0
+KeepsRead p = (text : List ℕ) → Bytes text → ReadPromised text (p .read text)
+
+abbrev pub KeepsCheck : Programs → Type 0
+KeepsCheck p = (text list : List ℕ) → Bytes text → Bytes list → CheckPromised text list (p .check text list)
+
+abbrev pub KeepsJudge : Programs → Type 0
+KeepsJudge p =
+    (text list entry : List ℕ) → Bytes text → Bytes list → Bytes entry → JudgePromised text list entry (p .judge text list entry)
+
+abbrev pub KeepsTranslate : Programs → Type 0
+KeepsTranslate p =
+    (text list buffer : List ℕ) → Bytes text → Bytes list → Bytes buffer
+    → TranslatePromised text list buffer (p .translate text list buffer)
+
+abbrev pub KeepsLoad : Programs → Type 0
+KeepsLoad p = (list blocks : List ℕ) → Bytes list → Bytes blocks → LoadPromised list blocks (p .load list blocks)
+
+abbrev pub KeepsRun : Programs → Type 0
+KeepsRun p =
+    (list blocks entry : List ℕ) → Bytes list → Bytes blocks → Bytes entry → RunPromised list blocks entry (p .run list blocks entry)
+
 pub record Kept (p : Programs) : Type 0 where
-  pub read : (text : List ℕ) → ReadPromised text (p .read text)
-  pub check : (text list : List ℕ) → CheckPromised text list (p .check text list)
-  pub judge : (text list entry : List ℕ) → JudgePromised text list entry (p .judge text list entry)
-  pub translate : (text list buffer : List ℕ) → TranslatePromised text list buffer (p .translate text list buffer)
-  pub load : (list blocks : List ℕ) → LoadPromised list blocks (p .load list blocks)
-  pub run : (list blocks entry : List ℕ) → RunPromised list blocks entry (p .run list blocks entry)
+  pub read : KeepsRead p
+  pub check : KeepsCheck p
+  pub judge : KeepsJudge p
+  pub translate : KeepsTranslate p
+  pub load : KeepsLoad p
+  pub run : KeepsRun p
 
 -- there are such programs
 abbrev pub CanBeKept : Type 0

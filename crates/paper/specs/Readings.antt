@@ -1,9 +1,6 @@
 -- Where 01 leaves room for two readings, texts that show ours, judged with the marked keys and entry (docs/DECISIONS.md).
-use mathlib.Core.Path.{_≡_}
-use mathlib.Core.List.{List, [], _∷_, map}
-use Rattle.paper.specs.Tokens.{bytes}
-use Rattle.paper.specs.Calls.{judgeAnswer}
-use Rattle.paper.specs.Marked.{Case, accepted, violated, refusedAt, theKeys, theEntry}
+use mathlib.Core.List.{List, [], _∷_}
+use Rattle.paper.specs.Marked.{Case, accepted, violated, refusedAt, theKeys, theEntry, AreJudged}
 
 abbrev pub readings : List Case
 readings =
@@ -134,5 +131,4 @@ readings =
     ∷ []
 
 abbrev pub Readings : Type 0
-Readings =
-    map (λ (c : Case). judgeAnswer (bytes (c .text)) theKeys theEntry) readings ≡ map (λ (c : Case). c .says) readings
+Readings = AreJudged theKeys theEntry readings

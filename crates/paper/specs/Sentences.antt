@@ -9,7 +9,7 @@ use mathlib.Core.Bool.{true, false}
 use mathlib.Core.Option.{Option, none, some}
 use mathlib.Core.List.{List, [], _∷_, _++_}
 use Rattle.paper.specs.Answers.{Input, inText, Answer, ok, refused}
-use Rattle.paper.specs.Tokens.{bytes, undotted, Prefix, Join, sequel, implies, orElse, andAlso, Comparison, Sign, join, comparison, prefix, opening, closing, colons, Tok, word, numeral, string, sign, Token}
+use Rattle.paper.specs.Tokens.{Literal, plain, bytes, undotted, Prefix, Join, sequel, implies, orElse, andAlso, Comparison, Sign, join, comparison, prefix, opening, closing, colons, Tok, word, numeral, string, sign, Token}
 use Rattle.paper.specs.Addresses.{Scheme, schemeOf, address}
 use Rattle.paper.specs.Grammar.{Tree, truth, number, key, field, attribute, prefixed, joined, compared, Make, stuck, ends, Reader, whole, mostLevels, parsed}
 
@@ -62,9 +62,9 @@ Name w = (w ≢ bytes "true") × (w ≢ bytes "false")
 pub data Operand (read : Reader) (Inner Outer : Phrases) : Tree → List Token → Type 0 where
   a-true : (at : ℕ) → Operand read Inner Outer (truth at true) (tokenAt at (word (bytes "true")) ∷ [])
   a-false : (at : ℕ) → Operand read Inner Outer (truth at false) (tokenAt at (word (bytes "false")) ∷ [])
-  a-numeral : (at n : ℕ) → Operand read Inner Outer (number at n) (tokenAt at (numeral n) ∷ [])
+  a-numeral : (at : ℕ) (n : Literal) → Operand read Inner Outer (number at n) (tokenAt at (numeral n) ∷ [])
   an-address : (at : ℕ) (w : List ℕ) (s : Scheme) (a b c : ℕ) (q : List ℕ) (n : ℕ) → schemeOf w ≡ some s → read s q ≡ some n
-      → Operand read Inner Outer (number at n)
+      → Operand read Inner Outer (number at (plain n))
       (tokenAt at (word w) ∷ signAt a opening ∷ tokenAt b (string q) ∷ signAt c closing ∷ [])
   a-key : (at : ℕ) (w : List ℕ) → Name w → Operand read Inner Outer (key at w) (tokenAt at (word w) ∷ [])
   a-field : (at : ℕ) (w : List ℕ) (a to : ℕ) (f : List ℕ) → Name w → undotted f ≡ true

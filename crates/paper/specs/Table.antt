@@ -7,9 +7,13 @@ use mathlib.Core.List.{List, [], _∷_, _++_}
 use lib.ListN.{length}
 use Rattle.paper.specs.Answers.{Input, inText, inList, inEntry, inBlocks, inBuffer, Answer, ok, refused}
 use Rattle.paper.specs.Tokens.{Token, tokens}
-use Rattle.paper.specs.Keys.{keys}
+use Rattle.paper.specs.Keys.{RecordRule, layoutRule, keys}
 use Rattle.paper.specs.Calls.{tree, restriction, readAnswer, checkAnswer, judgeAnswer, translateAnswer, loadAnswer, runAnswer}
 use Rattle.paper.specs.Faults.{Faults, TextSize, ListSize, ListRecords, Cuts, TextTokens, TextGrammar, TreeTypes, RootType, BufferSize, BlocksSize, BlocksLayout, BlocksCode, EntrySize, EntryRules}
+
+-- the table's numbers run from 1 to this one
+abbrev pub lastNumber : ℕ
+lastNumber = 20
 
 -- "In a stage the earliest place wins; at one place the lower number wins."
 
@@ -55,8 +59,11 @@ abbrev pub sizeStages : List ℕ → List Stage
 sizeStages text = stage inText (TextSize text) ∷ []
 
 -- 2; 3 and 4
+abbrev pub listStagesBy : RecordRule → List ℕ → List Stage
+listStagesBy rule list = stage inList (ListSize list) ∷ stage inList (ListRecords rule list) ∷ []
+
 abbrev pub listStages : List ℕ → List Stage
-listStages list = stage inList (ListSize list) ∷ stage inList (ListRecords list) ∷ []
+listStages list = listStagesBy layoutRule list
 
 -- 5 to 7; 8 to 10
 abbrev pub treeStages : List ℕ → List Stage

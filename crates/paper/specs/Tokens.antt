@@ -107,7 +107,7 @@ abbrev pub spelled : Option ℕ → List ℕ → List ℕ → Numeral
 spelled (some base) run rest = record { base = base; digits = rest }
 spelled none run rest = record { base = 10; digits = run }
 
--- how a run is spelled: by its letter behind a first 0, else in decimal
+-- how a run is spelled: by its letter after a first 0, else in decimal. A run has a first byte: the clause of none is never asked
 abbrev pub spelling : List ℕ → Numeral
 spelling [] = record { base = 10; digits = [] }
 spelling (b ∷ []) = record { base = 10; digits = b ∷ [] }
@@ -119,6 +119,16 @@ isNumeral n = ltb 0 (length (n .digits)) && eqb (span (λ b. ltb (digitOf b) (n 
 
 abbrev pub numeralValue : Numeral → ℕ
 numeralValue n = inBase (n .base) (map digitOf (n .digits))
+
+-- what a token and a tree keep of a number: its value, however it was spelled
+pub record Literal : Type 0 where
+  pub value : ℕ
+
+abbrev pub plain : ℕ → Literal
+plain n = record { value = n }
+
+abbrev pub literalOf : Numeral → Literal
+literalOf n = plain (numeralValue n)
 
 -- signs
 
@@ -162,7 +172,7 @@ oneByte b =
 
 pub data Tok : Type 0 where
   word : List ℕ → Tok
-  numeral : ℕ → Tok
+  numeral : Literal → Tok
   string : List ℕ → Tok
   sign : Sign → Tok
 
@@ -195,7 +205,7 @@ abbrev pub scanNumeral : ℕ → List ℕ → Scan
 scanNumeral b s =
     let more = span isIdByte s in
     let n = spelling (b ∷ take more s) in
-    cond (isNumeral n) (cond (ltb (numeralValue n) (2 ^ 128)) (token (numeral (numeralValue n)) more) tooLarge) noToken
+    cond (isNumeral n) (cond (ltb (numeralValue n) (2 ^ 128)) (token (numeral (literalOf n)) more) tooLarge) noToken
 
 abbrev pub scanOne : Option Sign → Scan
 scanOne (some g) = token (sign g) 0

@@ -1,15 +1,16 @@
 -- What it means that a translation is right: how long the code of a tree is, and that it pushes the tree's type and its value.
 use Prim.Native.Nat.{ℕ, _+_, _*_, _≤_, max}
 use mathlib.Core.Path.{_≡_}
+use mathlib.Core.Bool.{cond}
 use mathlib.Core.Option.{some}
 use mathlib.Core.List.{List, _∷_, map}
 use lib.ListN.{length}
 use Rattle.paper.specs.Answers.{ok}
-use Rattle.paper.specs.Tokens.{mostTokens}
+use Rattle.paper.specs.Tokens.{Comparison, mostTokens}
 use Rattle.paper.specs.Keys.{Key}
 use Rattle.paper.specs.Entry.{Entry}
 use Rattle.paper.specs.Grammar.{Tree, truth, number, key, field, attribute, prefixed, joined, compared, nodes}
-use Rattle.paper.specs.Types.{Ty, typeOf}
+use Rattle.paper.specs.Types.{Ty, sameTy, when, andThen, meet, comparisonType, takes, compareType, typeOf}
 use Rattle.paper.specs.Meaning.{Value, valueOf}
 use Rattle.paper.specs.Code.{Instruction, Action, ends, walk, mostHeld, typeAction, valueAction, actionOf}
 use Rattle.paper.specs.Blocks.{inBlock, mostBlocks}
@@ -31,6 +32,14 @@ needs (compared at c l r) = max (needs l) (needs r + 1)
 -- "it is the nodes of the tree plus the conversions"
 abbrev pub CodeCounted : Type 0
 CodeCounted = (ks : List Key) (t : Tree) (a : Ty) → typeOf ks t ≡ ok a → length (codeOf ks t) ≡ nodes t + conversions ks t
+
+-- the type in which the operands of a comparison meet is their own, or that of one which convert makes of the other
+abbrev pub MeetsByConverting : Type 0
+MeetsByConverting = (a b : Ty) → meet a b ≡ cond (sameTy a b) (some a) (cond (takes b a) (some b) (when (takes a b) a))
+
+-- and there the instruction takes what the operator takes
+abbrev pub ComparesWhereMet : Type 0
+ComparesWhereMet = (c : Comparison) (a b : Ty) → comparisonType c a b ≡ andThen (meet a b) (λ m. compareType c m m)
 
 -- each comparison converts one operand at most
 abbrev pub FewConversions : Type 0

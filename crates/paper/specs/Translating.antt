@@ -1,14 +1,17 @@
 -- 01, "Translation is postfix, left before right; an operand that must change type is converted directly after its own code,
 -- once; compare then needs equal types. ";" and "&&" both give 10."
+--
+-- Only texts that pass are translated, so only trees that have a type. Code is given for every tree, so that it computes: where a name
+-- or a type is missing, there is no instruction for it.
 use Prim.Native.Nat.{ℕ, _+_}
-use mathlib.Core.Bool.{Bool, true, false, cond}
+use mathlib.Core.Bool.{cond}
 use mathlib.Core.Option.{Option, none, some}
 use mathlib.Core.List.{List, [], _∷_, _++_}
 use lib.ListN.{length}
 use Rattle.paper.specs.Answers.{Answer, ok, refused}
 use Rattle.paper.specs.Tokens.{Prefix, notSign, minusSign}
 use Rattle.paper.specs.Keys.{Key, find}
-use Rattle.paper.specs.Grammar.{Tree, truth, number, key, field, attribute, prefixed, joined, compared, nodes}
+use Rattle.paper.specs.Grammar.{Tree, truth, number, key, field, attribute, prefixed, joined, compared}
 use Rattle.paper.specs.Types.{Ty, bool, int, of, sameTy, andThen, fieldNamed, meet, typeOf}
 use Rattle.paper.specs.Meaning.{connective}
 use Rattle.paper.specs.Code.{Instruction, pushBool, pushInt, pushKey, pushField, pushPriority, invert, negate, convert, compare, connects}
@@ -21,6 +24,7 @@ hasType (refused n i at) = none
 abbrev pub meeting : List Key → Tree → Tree → Option Ty
 meeting ks l r = andThen (hasType (typeOf ks l)) (λ a. andThen (hasType (typeOf ks r)) (meet a))
 
+-- only types of keys and fields are converted to
 abbrev pub convertTo : Ty → List Instruction
 convertTo bool = []
 convertTo int = []
@@ -46,7 +50,7 @@ pushing (some i) = i ∷ []
 unfoldable pub codeOf : List Key → Tree → List Instruction
 unfolding typeOf
 codeOf ks (truth at b) = pushBool b ∷ []
-codeOf ks (number at n) = pushInt n ∷ []
+codeOf ks (number at n) = pushInt (n .value) ∷ []
 codeOf ks (key at w) = pushing (andThen (find ks w) (λ k. some (pushKey k)))
 codeOf ks (field at w to f) = pushing (andThen (find ks w) (λ k. andThen (fieldNamed f) (λ g. some (pushField g k))))
 codeOf ks (attribute at to f) = pushPriority ∷ []

@@ -4,12 +4,12 @@
 use Prim.Native.Nat.{ℕ}
 use mathlib.Core.Bool.{Bool, true, false, not, cond, _&&_, _||_}
 use mathlib.Core.Option.{Option, none, some, Option·map}
-use mathlib.Core.List.{List, [], _∷_}
+use mathlib.Core.List.{List}
 use lib.ListN.{getElem?}
 use lib.Dec.{eqb}
 use Rattle.paper.specs.Answers.{Answer, ok, refused, _>>=_, inText}
 use Rattle.paper.specs.Tokens.{bytes, sameBytes, Prefix, notSign, minusSign, Comparison, equal, unequal, greater, atLeast, less, atMost}
-use Rattle.paper.specs.Keys.{Kind, exact, ternary, lpm, range, optional, kindNo, Key, find}
+use Rattle.paper.specs.Keys.{Kind, exact, ternary, lpm, range, optional, kindNo, Key, isNone, find}
 use Rattle.paper.specs.Entry.{isExact}
 use Rattle.paper.specs.Grammar.{Tree, truth, number, key, field, attribute, prefixed, joined, compared, placeOf}
 
@@ -98,14 +98,15 @@ fieldType ks f k = andThen (getElem? ks k) (λ x. when (has (x .kind) f) (fieldT
 
 -- ""!" takes bool. "-" takes int, or bit<W> modulo 2^W."
 abbrev pub notType : Ty → Option Ty
-notType bool = some bool
-notType int = none
-notType (of k w) = none
+notType a = when (sameTy a bool) bool
+
+abbrev pub isNumber : Ty → Bool
+isNumber bool = false
+isNumber int = true
+isNumber (of k w) = isExact k
 
 abbrev pub negateType : Ty → Option Ty
-negateType bool = none
-negateType int = some int
-negateType (of k w) = when (isExact k) (of k w)
+negateType a = when (isNumber a) a
 
 abbrev pub prefixType : Prefix → Ty → Option Ty
 prefixType notSign a = notType a
@@ -115,37 +116,62 @@ prefixType minusSign a = negateType a
 abbrev pub joinType : Ty → Ty → Option Ty
 joinType a b = when (sameTy a bool && sameTy b bool) bool
 
--- "Convert takes int, or for a bare-key type also bit of that W."
+-- comparisons
+
+-- ""==" and "!=" take equal types (equal in all fields), int with bit<W> or a bare key, or bit<W> with a bare key of that W. .. A bool
+-- never meets a number.": each pair that they take, with the type in which the two meet
+
+-- the kinds of two types of one W
+abbrev pub meetKind : Kind → Kind → Option Kind
+meetKind k l = cond (eqb (kindNo k) (kindNo l)) (some k) (cond (isExact k) (some l) (when (isExact l) k))
+
+abbrev pub meet : Ty → Ty → Option Ty
+meet bool bool = some bool
+meet bool int = none
+meet bool (of k w) = none
+meet int bool = none
+meet int int = some int
+meet int (of k w) = some (of k w)
+meet (of k w) bool = none
+meet (of k w) int = some (of k w)
+meet (of k w) (of l x) = andThen (meetKind k l) (λ j. when (eqb w x) (of j w))
+
+-- "Ordering takes int and int, bit<W> and bit<W>, or int and bit<W>."
+abbrev pub ordered : Ty → Ty → Bool
+ordered bool b = false
+ordered int bool = false
+ordered int int = true
+ordered int (of k w) = isExact k
+ordered (of k w) bool = false
+ordered (of k w) int = isExact k
+ordered (of k w) (of l x) = isExact k && isExact l && eqb w x
+
+-- whether a comparison takes a pair
+abbrev pub compares : Comparison → Ty → Ty → Bool
+compares equal a b = not (isNone (meet a b))
+compares unequal a b = not (isNone (meet a b))
+compares greater a b = ordered a b
+compares atLeast a b = ordered a b
+compares less a b = ordered a b
+compares atMost a b = ordered a b
+
+abbrev pub comparisonType : Comparison → Ty → Ty → Option Ty
+comparisonType c a b = when (compares c a b) bool
+
+-- instructions 8 and 9
+
+-- "Convert takes int, or for a bare-key type also bit of that W." Nothing is converted to bool or int.
 abbrev pub takes : Ty → Ty → Bool
 takes bool a = false
 takes int a = false
 takes (of k w) a = sameTy a int || not (isExact k) && sameTy a (bits w)
 
--- the type in which two operands meet: their own, or that of the one to which the other is converted
-abbrev pub meet : Ty → Ty → Option Ty
-meet a b = cond (sameTy a b) (some a) (cond (takes b a) (some b) (when (takes a b) a))
-
-abbrev pub isNumber : Ty → Bool
-isNumber bool = false
-isNumber int = true
-isNumber (of k w) = isExact k
-
--- ""==" and "!=" take equal types .. Ordering takes int and int, bit<W> and bit<W>, or int and bit<W>."
+-- "compare then needs equal types": two of one type that the comparison takes
 abbrev pub suits : Comparison → Ty → Bool
-suits equal a = true
-suits unequal a = true
-suits greater a = isNumber a
-suits atLeast a = isNumber a
-suits less a = isNumber a
-suits atMost a = isNumber a
+suits c a = compares c a a
 
--- of two operands of one type
 abbrev pub compareType : Comparison → Ty → Ty → Option Ty
 compareType c a b = when (sameTy a b && suits c a) bool
-
--- of two operands that meet in one
-abbrev pub comparisonType : Comparison → Ty → Ty → Option Ty
-comparisonType c a b = andThen (meet a b) (λ m. compareType c m m)
 
 -- trees
 
@@ -155,9 +181,9 @@ operatorType at none = refused 13 inText at
 operatorType at (some a) = ok a
 
 -- 11: "unknown key", at its token
-abbrev pub known : ℕ → Option ℕ → Answer ℕ
+abbrev pub known : {A : Type 0} → ℕ → Option A → Answer A
 known at none = refused 11 inText at
-known at (some k) = ok k
+known at (some a) = ok a
 
 -- 12: "unknown field for that kind, or unknown attribute", at its name
 abbrev pub namedType : ℕ → Option Ty → Answer Ty
@@ -168,7 +194,7 @@ namedType at (some a) = ok a
 unfoldable pub typeOf : List Key → Tree → Answer Ty
 typeOf ks (truth at b) = ok bool
 typeOf ks (number at n) = ok int
-typeOf ks (key at w) = known at (find ks w) >>= λ k. namedType at (bareType ks k)
+typeOf ks (key at w) = known at (andThen (find ks w) (bareType ks))
 typeOf ks (field at w to f) = known at (find ks w) >>= λ k. namedType to (andThen (fieldNamed f) (λ g. fieldType ks g k))
 typeOf ks (attribute at to f) = namedType to (when (sameBytes f (bytes "priority")) int)
 typeOf ks (prefixed at o t) = typeOf ks t >>= λ a. operatorType at (prefixType o a)

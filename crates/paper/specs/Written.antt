@@ -1,13 +1,14 @@
 -- What it means that instructions and blocks read back as they were written.
-use Prim.Native.Nat.{ℕ, _*_, _^_, _≤_, _<_}
+use Prim.Native.Nat.{ℕ, _+_, _*_, _^_, _≤_, _<_}
 use mathlib.Core.Path.{_≡_}
 use mathlib.Core.Option.{some}
 use mathlib.Core.List.{List, [], _∷_, _++_, map}
 use lib.ListN.{length, drop}
 use Rattle.paper.specs.Answers.{ok}
+use Rattle.paper.specs.Numbers.{bytesAt}
 use Rattle.paper.specs.Keys.{Key, mostKeys, keys}
 use Rattle.paper.specs.Grammar.{Tree, truth, number, key, field, attribute, prefixed, joined, compared}
-use Rattle.paper.specs.Code.{Instruction, pushBool, pushInt, pushKey, pushField, pushPriority, invert, negate, convert, compare, connects, partsOf, encode, partsAt, decode}
+use Rattle.paper.specs.Code.{Instruction, pushBool, pushInt, pushKey, pushField, pushPriority, invert, negate, convert, compare, connects, Parts, partsOf, instructionSize, encode, partsAt, decode}
 use Rattle.paper.specs.Blocks.{blockSize, inBlock, mostBlocks, blocksNeeded, blocksOf, totalOf, layout}
 use Rattle.paper.specs.Loading.{program}
 use Rattle.paper.specs.Translating.{codeOf}
@@ -44,6 +45,22 @@ abbrev pub BytesBack : Type 0
 BytesBack =
     (i : Instruction) → InRange i → (s rest : List ℕ) (at : ℕ) → drop at s ≡ encode i ++ rest → decode (partsAt s at) ≡ some i
 
+-- And the other way: what is read as an instruction is written again as it stood, so that no second spelling is read.
+
+-- by its parts
+abbrev pub PartsAgain : Type 0
+PartsAgain = (p : Parts) (i : Instruction) → decode p ≡ some i → partsOf i ≡ p
+
+-- by its bytes
+pub record WrittenAgain (i : Instruction) (spelled : List ℕ) : Type 0 where
+  pub ranged : InRange i
+  pub again : encode i ≡ spelled
+
+abbrev pub BytesAgain : Type 0
+BytesAgain =
+    (s : List ℕ) (at : ℕ) → at + instructionSize ≤ length s → All (λ b. b < 256) (bytesAt s at instructionSize)
+    → (i : Instruction) → decode (partsAt s at) ≡ some i → WrittenAgain i (bytesAt s at instructionSize)
+
 -- the blocks of a sequence
 pub record Written (keys : ℕ) (code : List Instruction) (blocks : List ℕ) : Type 0 where
   pub size : length blocks ≡ blockSize * blocksNeeded (length code)
@@ -67,7 +84,7 @@ KeysListed = (list : List ℕ) (ks : List Key) → keys list ≡ ok ks → Liste
 -- every number of a tree is below 2^128
 abbrev pub NumbersFit : Tree → Type 0
 NumbersFit (truth at b) = Unit {0}
-NumbersFit (number at n) = n < 2 ^ 128
+NumbersFit (number at n) = n .value < 2 ^ 128
 NumbersFit (key at w) = Unit {0}
 NumbersFit (field at w to f) = Unit {0}
 NumbersFit (attribute at to f) = Unit {0}

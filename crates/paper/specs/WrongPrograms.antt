@@ -1,68 +1,103 @@
 -- 01, "Try these against it": programs that the promises must leave no room for. Each is refuted at an input, named in the proof.
-use Prim.Native.Nat.{ℕ, _+_, _*_}
+use Prim.Native.Nat.{ℕ, _+_, _*_, _<_}
 use mathlib.Core.Path.{_≡_}
-use mathlib.Core.Bool.{true, false}
+use mathlib.Core.Bool.{true, false, cond}
 use mathlib.Core.List.{List, [], _∷_, _++_}
-use lib.ListN.{length, take}
+use lib.ListN.{length}
 use Rattle.paper.specs.declared.Place.{Place}
+use Rattle.paper.specs.declared.Checking.the-variants as C
 use Rattle.paper.specs.declared.Judgement.the-variants as J
 use Rattle.paper.specs.declared.Translation.the-variants as T
 use Rattle.paper.specs.declared.Loading.the-variants as L
 use Rattle.paper.specs.Answers.{ok}
-use Rattle.paper.specs.Tokens.{bytes}
+use Rattle.paper.specs.Tokens.{bytes, is}
 use Rattle.paper.specs.Keys.{Key, keys}
 use Rattle.paper.specs.Grammar.{nodes}
 use Rattle.paper.specs.Meaning.{both}
 use Rattle.paper.specs.Code.{pushBool, connects}
-use Rattle.paper.specs.Blocks.{blockSize, blocksNeeded, blocksOf, layout}
+use Rattle.paper.specs.Blocks.{blockSize, mostBlocks, blocksOf, layout}
 use Rattle.paper.specs.Translating.{conversions}
 use Rattle.paper.specs.Calls.{Restriction, restriction, judgeAnswer, loadAnswer, runAnswer}
 use Rattle.paper.specs.Carried.{Carries}
 use Rattle.paper.specs.Marked.{theKeys, theEntry}
-use Rattle.paper.specs.Promised.{CheckPromised, LoadPromised, Programs, Kept}
-use Rattle.paper.specs.Demands.{Refuses, DemandTwo, DemandThree}
+use Rattle.paper.specs.Promised.{Bytes, Programs, KeepsRead, KeepsCheck, KeepsJudge, KeepsTranslate, KeepsLoad, KeepsRun, Kept}
+use Rattle.paper.specs.Demands.{Refuses, blocksWritten, DemandOne, DemandTwo, DemandThree}
+
+-- the bytes before the first ";"
+abbrev pub partOf : List ℕ → List ℕ
+partOf [] = []
+partOf (b ∷ s) =
+    let more = b ∷ partOf s in
+    cond (is ";" b) [] more
 
 -- "a judge that refuses everything"
 abbrev pub RefusesAll : Programs → Type 0
-RefusesAll p = (text list entry : List ℕ) → Refuses (p .judge text list entry)
+RefusesAll p = (text list entry : List ℕ) → Bytes text → Bytes list → Bytes entry → Refuses (p .judge text list entry)
 
 -- "one that accepts everything"
 abbrev pub AcceptsAll : Programs → Type 0
-AcceptsAll p = (text list entry : List ℕ) → p .judge text list entry ≡ J.Accepted
+AcceptsAll p = (text list entry : List ℕ) → Bytes text → Bytes list → Bytes entry → p .judge text list entry ≡ J.Accepted
 
 -- "a translator that writes nothing"
 abbrev pub WritesNothing : Programs → Type 0
-WritesNothing p = (text list buffer : List ℕ) → p .translate text list buffer .buffer ≡ buffer
+WritesNothing p =
+    (text list buffer : List ℕ) → Bytes text → Bytes list → Bytes buffer → p .translate text list buffer .buffer ≡ buffer
 
--- "one that translates only the first ";" part and pads with true": however it pads, its blocks say what the first part says
+-- "one that translates only the first ";" part and pads with true": of a text whose first part, up to its first ";", passes alone, and
+-- whose rest passes alone, the blocks say what the first part says, however they are padded. Nothing is said of other texts, so a
+-- translator that cuts at the first byte ";" is meant as well as one that parses
 abbrev pub FirstPartOnly : Programs → Type 0
 FirstPartOnly p =
-    (first second list buffer : List ℕ) (n : ℕ) → p .translate (first ++ bytes ";" ++ second) list buffer .answer ≡ T.Written n
-    → (entry : List ℕ)
-    → p .run list (take (blockSize * blocksNeeded n) (p .translate (first ++ bytes ";" ++ second) list buffer .buffer)) entry
-    ≡ p .judge first list entry
+    (first rest list buffer : List ℕ) → Bytes first → Bytes rest → Bytes list → Bytes buffer
+    → partOf first ≡ first → p .check first list ≡ C.Passed → p .check rest list ≡ C.Passed
+    → (n : ℕ) → p .translate (first ++ bytes ";" ++ rest) list buffer .answer ≡ T.Written n
+    → (entry : List ℕ) → Bytes entry
+    → p .run list (blocksWritten n (p .translate (first ++ bytes ";" ++ rest) list buffer .buffer)) entry ≡ p .judge first list entry
 
 -- "a loader that passes nothing"
 abbrev pub PassesNothing : Programs → Type 0
-PassesNothing p = (list blocks : List ℕ) → (n : ℕ) × (at : Place) × (p .load list blocks ≡ L.Refused n at)
+PassesNothing p = (list blocks : List ℕ) → Bytes list → Bytes blocks → (n : ℕ) × (at : Place) × (p .load list blocks ≡ L.Refused n at)
 
 -- "or all": all blocks that are laid out well, so that only 18 is left
 abbrev pub PassesAll : Programs → Type 0
 PassesAll p =
-    (list blocks : List ℕ) (ks : List Key) → keys list ≡ ok ks → layout (length ks) blocks ≡ ok tt
+    (list blocks : List ℕ) → Bytes list → Bytes blocks → (ks : List Key) → keys list ≡ ok ks → layout (length ks) blocks ≡ ok tt
     → (n : ℕ) × (p .load list blocks ≡ L.Loaded n)
 
 -- "an invented instruction count (it is the nodes of the tree plus the conversions, as defined)": there is none
 abbrev pub CountsRight : Programs → Type 0
 CountsRight p =
-    (text list buffer : List ℕ) (n : ℕ) → p .translate text list buffer .answer ≡ T.Written n
+    (text list buffer : List ℕ) → Bytes text → Bytes list → Bytes buffer → (n : ℕ) → p .translate text list buffer .answer ≡ T.Written n
     → (r : Restriction) → restriction text list ≡ ok r → n ≡ nodes (r .root) + conversions (r .keys) (r .root)
 
-abbrev pub KeepsCheck : Programs → Type 0
-KeepsCheck p = (text list : List ℕ) → CheckPromised text list (p .check text list)
+-- a translator that asks for 82 blocks, whatever the text
+abbrev pub WantsAllBlocks : Programs → Type 0
+WantsAllBlocks p =
+    (text list buffer : List ℕ) → Bytes text → Bytes list → Bytes buffer → length buffer < mostBlocks * blockSize
+    → (n : ℕ) × (at : Place) × (p .translate text list buffer .answer ≡ T.Refused n at)
 
-abbrev pub KeepsLoad : Programs → Type 0
-KeepsLoad p = (list blocks : List ℕ) → LoadPromised list blocks (p .load list blocks)
+-- each is real: there is such a program in which every other call keeps its promise
+
+pub data Call : Type 0 where
+  judging translating loading : Call
+
+abbrev pub OthersKept : Call → Programs → Type 0
+OthersKept judging p = KeepsRead p × KeepsCheck p × KeepsTranslate p × KeepsLoad p × KeepsRun p
+OthersKept translating p = KeepsRead p × KeepsCheck p × KeepsJudge p × KeepsLoad p × KeepsRun p
+OthersKept loading p = KeepsRead p × KeepsCheck p × KeepsJudge p × KeepsTranslate p × KeepsRun p
+
+abbrev pub ThereIs : (Programs → Type 0) → Call → Type 0
+ThereIs Wrong c = (p : Programs) × Wrong p × OthersKept c p
+
+pub record WrongProgramsExist : Type 0 where
+  pub refusing : ThereIs RefusesAll judging
+  pub accepting : ThereIs AcceptsAll judging
+  pub idle : ThereIs WritesNothing translating
+  pub cutting : ThereIs FirstPartOnly translating
+  pub barring : ThereIs PassesNothing loading
+  pub admitting : ThereIs PassesAll loading
+  pub wanting : ThereIs WantsAllBlocks translating
+  pub counting : ThereIs (λ p. ¬ CountsRight p) translating
 
 -- what excludes each: a demand, beside the calls that it is tried with; or the promise of `load`, by 18
 pub record DemandsExclude (p : Programs) : Type 0 where
@@ -72,6 +107,8 @@ pub record DemandsExclude (p : Programs) : Type 0 where
   pub cutting : KeepsCheck p → DemandTwo p → DemandThree p → ¬ FirstPartOnly p
   pub barring : KeepsCheck p → DemandThree p → ¬ PassesNothing p
   pub admitting : KeepsLoad p → ¬ PassesAll p
+  pub wanting : DemandOne p → ¬ WantsAllBlocks p
+  pub counting : DemandTwo p → CountsRight p
 
 abbrev pub WrongProgramsFail : Type 0
 WrongProgramsFail = (p : Programs) → DemandsExclude p
@@ -84,6 +121,7 @@ pub record Excluded (p : Programs) : Type 0 where
   pub cutting : ¬ FirstPartOnly p
   pub barring : ¬ PassesNothing p
   pub admitting : ¬ PassesAll p
+  pub wanting : ¬ WantsAllBlocks p
   pub counting : CountsRight p
 
 abbrev pub NoWrongProgram : Type 0

@@ -3,9 +3,10 @@ use crate::entries::Form;
 use crate::entries::judge_file;
 use crate::files::read_argument;
 use crate::refusals::refused;
-use crate::say::cannot_write;
+use crate::say::say_argument;
 use crate::say::say_count;
 use crate::sizes;
+use crate::writing::write_argument;
 use blocks::Block;
 use lines::say;
 use lines::start;
@@ -40,38 +41,18 @@ fn check(call: Call, text: &[u8], list: &[u8], text_size: usize, list_size: usiz
     }
 }
 
-fn write_file(path: &[u8], bytes: &[u8]) -> bool {
-    let fd = os::open_overwrite(path);
-    if fd < 0 {
-        return false;
-    }
-    let done = io::write_all(fd, bytes);
-    (0 <= libc::close(fd)) & done
-}
-
-fn write_blocks(path: &[u8], instructions: usize, buffer: &[u8]) {
-    let blocks = Block::needed(instructions);
-    if !write_file(path, sizes::first_blocks(buffer, blocks)) {
-        return cannot_write(path);
-    }
-    say_count(
-        b"translated # instruction into ",
-        b"translated # instructions into ",
-        instructions,
-    );
-    say_count(b"# block: ", b"# blocks: ", blocks);
-    say(path);
-    say(b"\n")
-}
-
 // The blocks of a translation that passed, into the file that argument 4 names.
 fn translated(instructions: usize, buffer: &[u8]) {
-    let mut path = io::buffer();
-    let n = os::arg(4, &mut path);
-    if os::errno() == 0 {
-        write_blocks(&path[..n], instructions, buffer)
-    } else {
-        cannot_write(b"a path that is too long")
+    let blocks = Block::needed(instructions);
+    if write_argument(4, sizes::first_blocks(buffer, blocks)) {
+        say_count(
+            b"translated # instruction into ",
+            b"translated # instructions into ",
+            instructions,
+        );
+        say_count(b"# block: ", b"# blocks: ", blocks);
+        say_argument(4);
+        say(b"\n")
     }
 }
 
@@ -117,7 +98,7 @@ fn answer_on(call: Call, first: &[u8], second: &[u8], first_size: usize, second_
 
 // Reads the first two files, TEXT and KEYS or KEYS and BLOCKS, and answers the call. A room has at least one byte more than a call
 // takes, so that what is too long is seen to be.
-pub fn answer(call: Call) {
+pub(crate) fn answer(call: Call) {
     let mut first = [0u8; 4097];
     let mut second = io::large_buffer();
     let a = read_argument(2, &mut first);

@@ -127,7 +127,8 @@ fn say_line(text: &[u8], line: Line, shown: Stretch)
     }
 }
 
-pub fn show(text: &[u8], at: usize) {
+// Shows the line of a text that an offset stands in, with a caret under the place.
+pub(crate) fn show(text: &[u8], at: usize) {
     let seen = seen_at(text, at);
     let line = line_of(text, seen);
     let shown = window(line, seen);

@@ -135,7 +135,7 @@ fn judge_entries(form: Form, rule: &[u8], list: &[u8], path: &[u8]) {
 }
 
 // The entries in the file that argument 4 names, against a text or blocks that are not refused.
-pub fn judge_file(form: Form, rule: &[u8], list: &[u8]) {
+pub(crate) fn judge_file(form: Form, rule: &[u8], list: &[u8]) {
     let mut path = io::buffer();
     let n = os::arg(4, &mut path);
     if os::errno() == 0 {

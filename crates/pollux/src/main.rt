@@ -3,7 +3,7 @@
 // Each answer is a line on standard output whose first word is passed, translated, loaded, accepted, violated, refused, cannot or
 // usage; the script `pollux` at the root makes an exit status of it. A refusal of a text is followed by the line and a caret under
 // the place. Files may have any length: a place that is a length is the file's true length, and entries stream through one buffer.
-// No output file is touched unless the whole call passes.
+// No output file is touched unless the whole call passes, and it is written whole or not at all.
 mod calls;
 mod caret;
 mod entries;
@@ -12,6 +12,7 @@ mod reasons;
 mod refusals;
 mod say;
 mod sizes;
+mod writing;
 
 use calls::Call;
 use calls::answer;

@@ -39,7 +39,7 @@ fn reason(number: u8, at_end: bool) -> u8 {
 }
 
 // Line N is the reason of refusal N, line 20 that of a wrong priority; 21 and 22 are those of 8 and 18 at the input's end.
-pub fn say_reason(number: u8, at_end: bool) {
+pub(crate) fn say_reason(number: u8, at_end: bool) {
     say_line(
         b"the text has more than 4,096 bytes
 the key list's length is not a multiple of 80, or is over 2,560

@@ -28,7 +28,7 @@ fn say_refused(form: &[u8], number: u8, at: usize, held: usize, size: usize) {
 
 // Refused before any entry is judged, so in the text, the key list or the blocks: the buffer has room for the blocks of every text.
 // `rule` is the text or the blocks.
-pub fn refused(
+pub(crate) fn refused(
     number: u8,
     place: Place,
     rule: &[u8],
@@ -79,7 +79,7 @@ fn say_of_entry(number: u8, at: usize) {
 }
 
 // Entry n is refused.
-pub fn entry_refused(n: usize, number: u8, place: Place) {
+pub(crate) fn entry_refused(n: usize, number: u8, place: Place) {
     let at = offset(place);
     say_three(b"refused entry #: # at byte #: ", n, number as usize, at);
     say_of_entry(number, at)

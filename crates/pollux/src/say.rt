@@ -31,20 +31,22 @@ fn say_up_to(form: &[u8], n: usize) -> &[u8] {
 }
 
 // Says a form with a number for its #.
-pub fn say_number(form: &[u8], n: usize) {
+pub(crate) fn say_number(form: &[u8], n: usize) {
     say(say_up_to(form, n))
 }
 
-pub fn say_two(form: &[u8], a: usize, b: usize) {
+// Says a form with a number for each of its two #.
+pub(crate) fn say_two(form: &[u8], a: usize, b: usize) {
     say_number(say_up_to(form, a), b)
 }
 
-pub fn say_three(form: &[u8], a: usize, b: usize, c: usize) {
+// Says a form with a number for each of its three #.
+pub(crate) fn say_three(form: &[u8], a: usize, b: usize, c: usize) {
     say_two(say_up_to(form, a), b, c)
 }
 
 // A number of things, by the form for one and the form for more.
-pub fn say_count(one: &[u8], more: &[u8], n: usize) {
+pub(crate) fn say_count(one: &[u8], more: &[u8], n: usize) {
     if n == 1 {
         say_number(one, n)
     } else {
@@ -52,18 +54,32 @@ pub fn say_count(one: &[u8], more: &[u8], n: usize) {
     }
 }
 
-// The system's reason goes to standard error, before anything else can change it.
-fn cannot(what: &[u8], path: &[u8]) {
-    os::fail(path);
+// Says an argument as it was given.
+pub fn say_argument(i: usize) {
+    let mut argument = io::buffer();
+    let n = os::arg(i, &mut argument);
+    say(&argument[..n])
+}
+
+// The system's reason, with what it is about, goes to standard error, before anything else can change it.
+fn cannot(what: &[u8], path: &[u8], about: &[u8]) {
+    os::fail(about);
     say(what);
     say(path);
     say(b"\n");
 }
 
-pub fn cannot_read(path: &[u8]) {
-    cannot(b"cannot read ", path)
+// Says that a file cannot be read.
+pub(crate) fn cannot_read(path: &[u8]) {
+    cannot(b"cannot read ", path, path)
 }
 
-pub fn cannot_write(path: &[u8]) {
-    cannot(b"cannot write ", path)
+// Says that a file cannot be written.
+pub(crate) fn cannot_write(path: &[u8]) {
+    cannot(b"cannot write ", path, path)
+}
+
+// Says that a file cannot be written because of another.
+pub(crate) fn cannot_write_by(path: &[u8], other: &[u8]) {
+    cannot(b"cannot write ", path, other)
 }

@@ -1,6 +1,6 @@
 // The promises of the six public calls, held to account.
 ghost use Rattle.paper.specs.Promised.{NoSecondResult, CanBeKept};
-ghost use Rattle.paper.specs.WrongPrograms.{WrongProgramsFail, NoWrongProgram, PaddingSeen};
+ghost use Rattle.paper.specs.WrongPrograms.{WrongProgramsExist, WrongProgramsFail, NoWrongProgram, PaddingSeen};
 
 // For all inputs one result keeps the promise of a call, and no second; of `translate`, one answer with one buffer at exit.
 pub fn no_second_result()
@@ -12,13 +12,18 @@ pub fn promises_can_be_kept()
     ensures { λ _. ⌜ CanBeKept ⌝ }
 {}
 
-// A judge that refuses or accepts everything, a translator that writes nothing or only the first part, a loader that passes nothing or all
-// that is laid out well: each fails a demand, or refusal 18.
+// Each wrong program is real: there is one that keeps the promises of all other calls.
+pub fn wrong_programs_exist()
+    ensures { λ _. ⌜ WrongProgramsExist ⌝ }
+{}
+
+// A judge that refuses or accepts everything, a translator that writes nothing or only the first part, that wants 82 blocks or invents its
+// count, a loader that passes nothing or all that is laid out well: each fails a demand, or refusal 18.
 pub fn wrong_programs_fail()
     ensures { λ _. ⌜ WrongProgramsFail ⌝ }
 {}
 
-// So none of them keeps the promises, nor one that invents its count of instructions.
+// So none of them keeps the promises.
 pub fn no_wrong_program_keeps_them()
     ensures { λ _. ⌜ NoWrongProgram ⌝ }
 {}

@@ -1,6 +1,7 @@
-// What follows from the rules, as contracts of functions that do nothing: each states a theorem about the definitions in
-// `paper`, and its proof cites it, so that a theorem that is lost fails the gate.
+// What we advertise, as contracts, so that whatever is lost fails the gate. Functions that do nothing state theorems about the definitions
+// in `paper`; those of `calls` state the demands of what the real calls of `valve` answer.
 mod accounts;
+mod calls;
 mod damage;
 mod demands;
 mod numbers;

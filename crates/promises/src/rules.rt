@@ -1,8 +1,22 @@
-// The rules by example: what document 01 marks, and both sides of every limit.
+// The rules by example: what document 01 marks, both sides of every limit, and every clause of every definition. `tools/mutate` takes
+// the modules named here for those in which a changed definition must be seen.
 ghost use Rattle.paper.specs.Marked.{Marked};
 ghost use Rattle.paper.specs.Readings.{Readings};
 ghost use Rattle.paper.specs.CaseFour.{CaseFour};
 ghost use Rattle.paper.specs.Limits.{Texts, Lists, Entries, Held, Sizes};
+ghost use Rattle.paper.specs.TokenExamples.{TokenExamples};
+ghost use Rattle.paper.specs.AddressExamples.{AddressExamples};
+ghost use Rattle.paper.specs.TreeExamples.{TreeExamples};
+ghost use Rattle.paper.specs.SentenceExamples.{SentenceExamples};
+ghost use Rattle.paper.specs.KeyExamples.{KeyExamples};
+ghost use Rattle.paper.specs.EntryExamples.{EntryExamples};
+ghost use Rattle.paper.specs.TypeExamples.{TypeExamples};
+ghost use Rattle.paper.specs.MeaningExamples.{MeaningExamples};
+ghost use Rattle.paper.specs.BlockExamples.{BlockExamples};
+ghost use Rattle.paper.specs.InstructionExamples.{InstructionExamples};
+ghost use Rattle.paper.specs.TranslationExamples.{TranslationExamples};
+ghost use Rattle.paper.specs.AnswerExamples.{AnswerExamples};
+ghost use Rattle.paper.specs.FaultExamples.{FaultExamples};
 
 // The sixteen marked judgements.
 pub fn marked_judgements()
@@ -24,7 +38,7 @@ pub fn limits_of_texts()
     ensures { λ _. ⌜ Texts ⌝ }
 {}
 
-// 32 records, widths 1 to 128, names of 1 to 64 bytes.
+// 32 records of 80 bytes.
 pub fn limits_of_lists()
     ensures { λ _. ⌜ Lists ⌝ }
 {}
@@ -39,7 +53,72 @@ pub fn limits_of_held_values()
     ensures { λ _. ⌜ Held ⌝ }
 {}
 
-// The buffer of one block, the lengths of blocks, and blocks cut at a block's end.
+// The buffer of one block, and the lengths of blocks.
 pub fn limits_of_sizes()
     ensures { λ _. ⌜ Sizes ⌝ }
+{}
+
+// Each class of bytes as a whole, each sign, and texts with their tokens.
+pub fn examples_of_tokens()
+    ensures { λ _. ⌜ TokenExamples ⌝ }
+{}
+
+// Address strings with their numbers, and bad ones.
+pub fn examples_of_addresses()
+    ensures { λ _. ⌜ AddressExamples ⌝ }
+{}
+
+// Texts with their trees, each sort of node at its place, and texts that are no sentence, refused where they stop being one.
+pub fn examples_of_trees()
+    ensures { λ _. ⌜ TreeExamples ⌝ }
+{}
+
+// Texts of each form of the grammar, derived with their trees.
+pub fn examples_of_sentences()
+    ensures { λ _. ⌜ SentenceExamples ⌝ }
+{}
+
+// Key lists with their keys, each byte of a record that may break its layout, names, and places.
+pub fn examples_of_key_lists()
+    ensures { λ _. ⌜ KeyExamples ⌝ }
+{}
+
+// Entries with what they read as, and each rule of each kind, kept and broken.
+pub fn examples_of_entries()
+    ensures { λ _. ⌜ EntryExamples ⌝ }
+{}
+
+// Every pair of operand types under every operator, every field of every kind, and the places of refusals 11 to 14.
+pub fn examples_of_types()
+    ensures { λ _. ⌜ TypeExamples ⌝ }
+{}
+
+// Each operator on each pair of values, matches that are equal in all fields, and numbers that meet a width.
+pub fn examples_of_values()
+    ensures { λ _. ⌜ MeaningExamples ⌝ }
+{}
+
+// Numbers in bytes, the check, and each byte of a block that may break its layout.
+pub fn examples_of_blocks()
+    ensures { λ _. ⌜ BlockExamples ⌝ }
+{}
+
+// The bytes of each instruction, what can be read as one, the load check of each, and what each leaves in a run.
+pub fn examples_of_instructions()
+    ensures { λ _. ⌜ InstructionExamples ⌝ }
+{}
+
+// Texts with their instructions, every instruction byte for byte, and what a buffer holds afterwards.
+pub fn examples_of_translations()
+    ensures { λ _. ⌜ TranslationExamples ⌝ }
+{}
+
+// Each case of each public answer, and of two faults the one whose stage runs first.
+pub fn examples_of_answers()
+    ensures { λ _. ⌜ AnswerExamples ⌝ }
+{}
+
+// An input with the fault of each row of the table, which of two faults wins, and the inputs of each call's stages in order.
+pub fn examples_of_faults()
+    ensures { λ _. ⌜ FaultExamples ⌝ }
 {}

@@ -1,6 +1,6 @@
 // Translating a text, and what its blocks say.
-ghost use Rattle.paper.specs.Translated.{CodeCounted, CodeFits, FewHeld};
-ghost use Rattle.paper.specs.Written.{BlocksBack};
+ghost use Rattle.paper.specs.Translated.{CodeCounted, MeetsByConverting, ComparesWhereMet, CodeFits, FewHeld};
+ghost use Rattle.paper.specs.Written.{BlocksBack, PartsAgain, BytesAgain};
 ghost use Rattle.paper.specs.Carried.{TranslationCarries, CheckedTranslates, RefusedUnchanged};
 
 // The instructions are the nodes of the tree plus the conversions.
@@ -8,7 +8,17 @@ pub fn instructions_counted()
     ensures { λ _. ⌜ CodeCounted ⌝ }
 {}
 
-// They fit 82 blocks.
+// The types in which operands meet, as document 01 lists them for "==" and "!=", are those that conversions bring them to.
+pub fn operands_meet_by_conversion()
+    ensures { λ _. ⌜ MeetsByConverting ⌝ }
+{}
+
+// And a comparison takes its operands exactly when its instruction takes two of the type in which they meet.
+pub fn comparisons_take_what_meets()
+    ensures { λ _. ⌜ ComparesWhereMet ⌝ }
+{}
+
+// The instructions fit 82 blocks.
 pub fn translation_fits()
     ensures { λ _. ⌜ CodeFits ⌝ }
 {}
@@ -21,6 +31,16 @@ pub fn few_values_held()
 // Blocks that are written read back as the instructions that were written.
 pub fn blocks_read_back()
     ensures { λ _. ⌜ BlocksBack ⌝ }
+{}
+
+// Parts that are read as an instruction are the parts of that instruction: unused ones are zero, and no second spelling is read.
+pub fn parts_have_one_spelling()
+    ensures { λ _. ⌜ PartsAgain ⌝ }
+{}
+
+// So are its bytes: 20 bytes that are read as an instruction are the ones it is written as, and it is in range.
+pub fn instructions_have_one_spelling()
+    ensures { λ _. ⌜ BytesAgain ⌝ }
 {}
 
 // The blocks written load with the list, and running them on any entry gives the judgement of the text, refusals included.

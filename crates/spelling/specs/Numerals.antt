@@ -31,10 +31,11 @@ pub record Counts (n : ℕ) (r : Grown) : Type 0 where
   pub told : r .ok ≡ ltb n (2 ^ 128)
   pub held : r .ok ≡ true → value (r .number) ≡ n
 
+-- a run by its sort, and the number beside it: that of a numeral that fits, else zero
 abbrev pub SpeltAs : P.Numeral → Magnitude → Sort → Type 0
 SpeltAs n m Fits = (isNumeral n ≡ true) × (ltb (numeralValue n) (2 ^ 128) ≡ true) × (value m ≡ numeralValue n)
-SpeltAs n m TooLarge = (isNumeral n ≡ true) × (ltb (numeralValue n) (2 ^ 128) ≡ false)
-SpeltAs n m NoNumeral = isNumeral n ≡ false
+SpeltAs n m TooLarge = (isNumeral n ≡ true) × (ltb (numeralValue n) (2 ^ 128) ≡ false) × (value m ≡ 0)
+SpeltAs n m NoNumeral = (isNumeral n ≡ false) × (value m ≡ 0)
 
 abbrev pub Spells : P.Numeral → Numeral → Type 0
 Spells n r = SpeltAs n (r .number) (r .sort)

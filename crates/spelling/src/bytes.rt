@@ -2,12 +2,14 @@
 ghost use mathlib.Core.Path.{_≡_};
 ghost use Rattle.paper.specs.Tokens.{isDigit, isBlank, digitOf};
 
+// Whether a byte is a decimal digit.
 pub fn is_digit(byte: u8) -> bool
     ensures { λ r. ⌜ r ≡ isDigit byte ⌝ }
 {
     keys::bytes::within(b'0', b'9', byte)
 }
 
+// Whether a byte is a blank: space, tab, CR or LF.
 pub fn is_blank(byte: u8) -> bool
     ensures { λ r. ⌜ r ≡ isBlank byte ⌝ }
 {

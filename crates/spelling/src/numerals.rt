@@ -4,6 +4,7 @@ ghost use mathlib.Core.List.{map};
 ghost use Prim.Native.Nat.{_<_};
 ghost use Rattle.paper.specs.Numbers.{inBase};
 ghost use Rattle.paper.specs.Tokens.{baseOf, digitOf, spelling};
+ghost use Rattle.number.specs.Values.{value};
 ghost use Rattle.spelling.specs.Numerals.{baseSaid, Announces, Counts, Spells, inBaseOf};
 use crate::bytes;
 use crate::runs;
@@ -17,7 +18,7 @@ pub enum Sort {
     NoNumeral,
 }
 
-// What a run is; the number is that of a numeral that fits.
+// What a run is; the number is that of a numeral that fits, and zero of any other run.
 pub struct Numeral {
     pub sort: Sort,
     pub number: Magnitude,
@@ -69,11 +70,12 @@ fn count(digits: &[u8], base: u8) -> Grown
     }
 }
 
-fn no_numeral() -> Numeral
-    ensures { λ r. ⌜ r .sort ≡ Sort.NoNumeral ⌝ }
+// What has no number that fits.
+fn without_number(sort: Sort) -> Numeral
+    ensures { λ r. ⌜ (r .sort ≡ sort) × (value (r .number) ≡ 0) ⌝ }
 {
     Numeral {
-        sort: Sort::NoNumeral,
+        sort: sort,
         number: Magnitude::zero(),
     }
 }
@@ -84,26 +86,23 @@ fn in_base(digits: &[u8], base: u8) -> Numeral
 {
     let end = runs::run_end(digits, 0, Run::Digits(base));
     if end == 0 {
-        return no_numeral();
+        return without_number(Sort::NoNumeral);
     }
     if end < digits.len() {
-        return no_numeral();
+        return without_number(Sort::NoNumeral);
     }
     let grown = count(digits, base);
-    let number = grown.number;
     if grown.ok {
+        let number = grown.number;
         return Numeral {
             sort: Sort::Fits,
             number: number,
         };
     }
-    Numeral {
-        sort: Sort::TooLarge,
-        number: number,
-    }
+    without_number(Sort::TooLarge)
 }
 
-// The whole of a run that starts with a digit.
+// What a run that starts with a digit is, as a whole: a numeral that fits, one that is too large, or none.
 pub fn read_numeral(run: &[u8]) -> Numeral
     ensures { λ r. ⌜ Spells (spelling (now (run .entry))) r ⌝ }
 {

@@ -33,7 +33,7 @@ fn goes_on(run: Run, byte: u8) -> bool
     }
 }
 
-// Where the run that starts at an offset ends.
+// Where the run ends that starts at an offset.
 pub fn run_end(text: &[u8], at: usize, run: Run) -> usize
     requires { ⌜ at ≤ length (now text) ⌝ }
     ensures { λ r. ⌜ EndsAt (now (text .entry)) at (span (inRun run) (drop at (now (text .entry)))) r ⌝ }

@@ -95,4 +95,4 @@ module _ (s : List ℕ) (at end : ℕ) (h : at < length s) (f : EndsAt s (at + 1
 
   pub numeral-none : SpeltAs (spelling (take (end - at) (drop at s))) m S.NoNumeral
       → Stands s at 0 (scanNumeral (getD s at 0) (drop (at + 1) s)) NoToken
-  numeral-none e = record { says = rw (subst (λ l. SpeltAs (spelling l) m S.NoNumeral) run e); ends = tt }
+  numeral-none e = record { says = rw (subst (λ l. SpeltAs (spelling l) m S.NoNumeral) run e .0); ends = tt }

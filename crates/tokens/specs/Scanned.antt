@@ -7,7 +7,7 @@ use mathlib.Core.List.{List}
 use lib.ListN.{length}
 use lib.Seq.{slice}
 use lib.Dec.{eqb}
-use Rattle.paper.specs.Tokens.{Tok, word, numeral, string, sign, Scan, blank, token, noToken, tooLarge, Sign, twoBytes, oneByte}
+use Rattle.paper.specs.Tokens.{Tok, word, numeral, string, sign, Scan, blank, token, noToken, tooLarge, Sign, twoBytes, oneByte, plain}
 use Rattle.tokens.specs.Tape.{signOf}
 use Rattle.tokens.specs.declared.found.Found.{Found}
 use Rattle.tokens.specs.declared.found.Found.the-variants as F
@@ -17,7 +17,7 @@ use Rattle.tokens.specs.declared.signs.Signs.{Signs}
 abbrev pub tokOf : List ℕ → ℕ → ℕ → ℕ → ℕ → Tok
 tokOf text kind from to number =
     cond (eqb kind 0) (word (slice from to text))
-    (cond (eqb kind 1) (numeral number)
+    (cond (eqb kind 1) (numeral (plain number))
     (cond (eqb kind 2) (string (slice (from + 1) (to - 1) text)) (sign (signOf kind))))
 
 -- how a token may stand in a text: a string has both its quotes

@@ -6,7 +6,7 @@ use mathlib.Core.List.{List, [], _∷_}
 use lib.ListN.{getD}
 use lib.Seq.{slice}
 use lib.Dec.{eqb}
-use Rattle.paper.specs.Tokens.{Sign, join, comparison, prefix, opening, closing, colons, sequel, implies, orElse, andAlso, equal, unequal, greater, atLeast, less, atMost, notSign, minusSign, Tok, word, numeral, string, sign, Token}
+use Rattle.paper.specs.Tokens.{Sign, join, comparison, prefix, opening, closing, colons, sequel, implies, orElse, andAlso, equal, unequal, greater, atLeast, less, atMost, notSign, minusSign, Tok, word, numeral, string, sign, Token, plain}
 
 pub record Tape : Type 0 where
   pub text : List ℕ
@@ -61,7 +61,7 @@ tokOn T i =
     let from = getD (T .starts) i 0 in
     let to = getD (T .ends) i 0 in
     cond (eqb k 0) (word (slice from to (T .text)))
-    (cond (eqb k 1) (numeral (limbsAt (T .limbs) (i * 4)))
+    (cond (eqb k 1) (numeral (plain (limbsAt (T .limbs) (i * 4))))
     (cond (eqb k 2) (string (slice (from + 1) (to - 1) (T .text))) (sign (signOf k))))
 
 abbrev pub tokenOn : Tape → ℕ → Token

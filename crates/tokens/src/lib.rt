@@ -26,6 +26,7 @@ pub enum Tokenized {
     Refused(u8, Place),
 }
 
+// Cuts a text into tokens and stores each in its slots; answers how many there are, or the refusal.
 pub fn tokenize(
     text: &[u8],
     kinds: &mut [u8],

@@ -8,8 +8,8 @@ use crate::kinds;
 use spelling::runs;
 use spelling::runs::Run;
 
-// Behind a quote: bytes other than quote and LF, a quote.
-pub fn string(text: &[u8], at: usize) -> Found
+// After a quote: bytes other than quote and LF, and a quote.
+pub(crate) fn string(text: &[u8], at: usize) -> Found
     requires { ⌜ at < length (now text) ⌝ }
     ensures { λ r. ⌜ Stands (now (text .entry)) at 0 (scanString (drop (at + 1) (now (text .entry)))) r ⌝ }
 {
@@ -23,8 +23,8 @@ pub fn string(text: &[u8], at: usize) -> Found
     Found::Token(kinds::STRING, end + 1)
 }
 
-// Behind a slash: another one, and what is left of the line.
-pub fn comment(text: &[u8], at: usize) -> Found
+// After a slash: another one, and what is left of the line.
+pub(crate) fn comment(text: &[u8], at: usize) -> Found
     requires { ⌜ at < length (now text) ⌝ }
     ensures { λ r. ⌜ Stands (now (text .entry)) at 0 (scanComment (drop (at + 1) (now (text .entry)))) r ⌝ }
 {

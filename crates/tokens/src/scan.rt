@@ -57,7 +57,8 @@ fn numeral(text: &[u8], at: usize) -> Scanned
     }
 }
 
-pub fn scan(text: &[u8], at: usize) -> Scanned
+// What stands at an offset.
+pub(crate) fn scan(text: &[u8], at: usize) -> Scanned
     requires { ⌜ at < length (now text) ⌝ }
     ensures { λ r. ⌜ Stands (now (text .entry)) at (value (r .number)) (paper.scan (getD (now (text .entry)) at 0) (drop (at + 1) (now (text .entry)))) (r .found) ⌝ }
 {

@@ -48,7 +48,8 @@ fn takes_two(signs: Signs, next: u8) -> bool
     next == signs.0
 }
 
-pub fn sign(text: &[u8], at: usize) -> Found
+// The longest sign at an offset.
+pub(crate) fn sign(text: &[u8], at: usize) -> Found
     requires { ⌜ at < length (now text) ⌝ }
     ensures { λ r. ⌜ Stands (now (text .entry)) at 0 (scanSign (getD (now (text .entry)) at 0) (drop (at + 1) (now (text .entry)))) r ⌝ }
 {

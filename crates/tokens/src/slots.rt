@@ -7,7 +7,8 @@ ghost use lib.Seq.{sets};
 ghost use Rattle.number.specs.Values.{limb};
 use number::Magnitude;
 
-pub fn store_token(
+// Stores a token's kind, first byte and the byte past its last in slot i; every other slot stays.
+pub(crate) fn store_token(
     kinds: &mut [u8],
     starts: &mut [u16],
     ends: &mut [u16],
@@ -24,7 +25,8 @@ pub fn store_token(
     ends[i] = end as u16;
 }
 
-pub fn store_number(limbs: &mut [u32], at: usize, number: Magnitude)
+// Stores a number's four limbs from an offset on; every other limb stays.
+pub(crate) fn store_number(limbs: &mut [u32], at: usize, number: Magnitude)
     requires { ⌜ at + 4 ≤ length (now limbs) ⌝ }
     ensures { λ _. ⌜ now (limbs .exit) ≡ sets (now (limbs .entry)) at (limb number 0 ∷ limb number 1 ∷ limb number 2 ∷ limb number 3 ∷ []) ⌝ }
 {

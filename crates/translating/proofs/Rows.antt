@@ -1,4 +1,4 @@
--- Instructions written one behind the other.
+-- Instructions written one after the other.
 use Prim.Native.Nat.{ℕ, suc, _+_, _*_, _/_, _%_, _^_}
 use native.Mathlib.Nat.{add-zero}
 use native.Mathlib.Omega.{arith}

@@ -4,13 +4,13 @@ ghost use lib.ListN.{length};
 ghost use Rattle.paper.specs.Grammar as G;
 ghost use Rattle.paper.specs.Translating.{codeOf};
 ghost use Rattle.keys.specs.Says.{keysIn};
-ghost use Rattle.trees.specs.Standing.{siteAt, leafOn};
-ghost use Rattle.trees.specs.Words.{Scratch, tapeOf};
+ghost use Rattle.trees.specs.Nodes.{leafAt, placeAt};
+ghost use Rattle.trees.specs.Standing.{leafOn};
 ghost use Rattle.translating.specs.Writing.{Room, Wrote};
 use crate::put;
 use keys::Found;
 use number::Magnitude;
-use trees::Node;
+use trees::Leaf;
 use values::fields;
 use values::fields::Named;
 
@@ -42,44 +42,33 @@ fn write_field(list: &[u8], word: &[u8], name: &[u8], i: usize, code: &mut [u8])
 
 pub fn write_leaf(
     text: &[u8],
-    kinds: &[u8],
-    starts: &[u16],
-    ends: &[u16],
     list: &[u8],
     nodes: &[u32],
     at: usize,
     i: usize,
     code: &mut [u8],
 ) -> usize
-    requires { ⌜ (Scratch (length (now kinds)) (length (now starts)) (length (now ends))) × (at * 7 + 7 ≤ length (now nodes)) × Room (now code) i (codeOf (keysIn (now list)) (leafOn (tapeOf (now text) (now kinds) (now starts) (now ends)) (siteAt (now nodes) at))) ⌝ }
-    ensures { λ r. ⌜ Wrote (now (code .entry)) i (codeOf (keysIn (now (list .entry))) (leafOn (tapeOf (now (text .entry)) (now (kinds .entry)) (now (starts .entry)) (now (ends .entry))) (siteAt (now (nodes .entry)) at))) (now (code .exit)) r ⌝ }
+    requires { ⌜ (at * 8 + 8 ≤ length (now nodes)) × Room (now code) i (codeOf (keysIn (now list)) (leafOn (now text) (placeAt (now nodes) at) (leafAt (now nodes) at))) ⌝ }
+    ensures { λ r. ⌜ Wrote (now (code .entry)) i (codeOf (keysIn (now (list .entry))) (leafOn (now (text .entry)) (placeAt (now (nodes .entry)) at) (leafAt (now (nodes .entry)) at))) (now (code .exit)) r ⌝ }
 {
-    let n = Node::read(nodes, at);
-    let kind = n.kind;
-    let token = n.token;
-    if kind == 0 {
-        let set = trees::number_at(nodes, at).equal(Magnitude::of(1));
-        return put::write(put::push_bool(set), i, code);
-    }
-    if kind == 1 {
-        return put::write(put::push_int(trees::number_at(nodes, at)), i, code);
-    }
-    if kind == 2 {
-        return write_key(
-            list,
-            trees::word_on(text, kinds, starts, ends, token),
+    let leaf = Leaf::read(nodes, at);
+    match leaf {
+        Leaf::Truth(b) => put::write(put::push_bool(b), i, code),
+        Leaf::Number(a, b, c, d) => put::write(
+            put::push_int(Magnitude {
+                limbs: [a, b, c, d],
+            }),
             i,
             code,
-        );
-    }
-    if kind == 3 {
-        return write_field(
+        ),
+        Leaf::Key(w) => write_key(list, trees::spelled(text, w), i, code),
+        Leaf::Field(w, f) => write_field(
             list,
-            trees::word_on(text, kinds, starts, ends, token),
-            trees::word_on(text, kinds, starts, ends, token + 2),
+            trees::spelled(text, w),
+            trees::spelled(text, f),
             i,
             code,
-        );
+        ),
+        Leaf::Attribute(_) => put::write(put::plain(5, 0, 0), i, code),
     }
-    put::write(put::plain(5, 0, 0), i, code)
 }

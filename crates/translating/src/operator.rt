@@ -1,49 +1,62 @@
-// The instructions of operators, by their nodes' kinds.
+// The instructions of operators.
 ghost use mathlib.Core.Path.{_≡_};
-ghost use Prim.Native.Nat.{_≤_};
+ghost use mathlib.Core.List.{[], _∷_};
+ghost use Prim.Native.Nat.{_+_, _*_, _≤_};
+ghost use lib.ListN.{length};
 ghost use Rattle.paper.specs.Meaning.{connective};
-ghost use Rattle.paper.specs.Code.{partsOf, connects, comparisonNo};
+ghost use Rattle.paper.specs.Code.{instructionSize, partsOf, connects};
 ghost use Rattle.paper.specs.Translating.{operation};
-ghost use Rattle.trees.specs.Standing.{prefixOf, joinOf, comparisonOf};
+ghost use Rattle.trees.specs.Standing.{prefixMeant, joinMeant};
 ghost use Rattle.translating.specs.Operators as spec;
-ghost use Rattle.translating.specs.Writing.{partsMeant};
+ghost use Rattle.translating.specs.Writing.{Wrote, partsMeant};
 use crate::put;
 use crate::put::Parts;
+use trees::Join;
+use trees::Operator;
+use trees::Prefix;
 
-pub fn prefix_parts(kind: u32) -> Parts
-    ensures { λ r. ⌜ partsMeant r ≡ partsOf (operation (prefixOf kind)) ⌝ }
+fn prefix_parts(o: Prefix) -> Parts
+    ensures { λ r. ⌜ partsMeant r ≡ partsOf (operation (prefixMeant o)) ⌝ }
 {
-    if kind == 5 {
-        return put::plain(6, 0, 0);
+    match o {
+        Prefix::Not => put::plain(6, 0, 0),
+        Prefix::Minus => put::plain(7, 0, 0),
     }
-    put::plain(7, 0, 0)
 }
 
-fn join_parts(kind: u32) -> Parts
-    ensures { λ r. ⌜ partsMeant r ≡ partsOf (connects (connective (joinOf kind))) ⌝ }
+// ";" and "&&" both give "and".
+fn join_parts(o: Join) -> Parts
+    ensures { λ r. ⌜ partsMeant r ≡ partsOf (connects (connective (joinMeant o))) ⌝ }
 {
-    if kind == 8 {
-        return put::plain(12, 0, 0);
+    match o {
+        Join::Sequel => put::plain(10, 0, 0),
+        Join::And => put::plain(10, 0, 0),
+        Join::Or => put::plain(11, 0, 0),
+        Join::Implies => put::plain(12, 0, 0),
     }
-    if kind == 9 {
-        return put::plain(11, 0, 0);
-    }
-    put::plain(10, 0, 0)
 }
 
-fn comparison_detail(kind: u32) -> u8
-    requires { ⌜ 11 ≤ kind ⌝ }
-    ensures { λ r. ⌜ r ≡ comparisonNo (comparisonOf kind) ⌝ }
+fn operator_parts(o: Operator) -> Parts
+    ensures { λ r. ⌜ partsMeant r ≡ partsOf (spec.operator o) ⌝ }
 {
-    let number = trees::comparison_number(kind);
-    if number < 5 { number } else { 5 }
+    match o {
+        Operator::Joins(j) => join_parts(j),
+        Operator::Compares(c) => put::plain(9, c.number(), 0),
+    }
 }
 
-pub fn operator_parts(kind: u32) -> Parts
-    ensures { λ r. ⌜ partsMeant r ≡ partsOf (spec.operator kind) ⌝ }
+// Each writes instruction number `i`, and gives the number after it.
+
+pub fn write_prefix(o: Prefix, i: usize, code: &mut [u8]) -> usize
+    requires { ⌜ instructionSize * (i + 1) ≤ length (now code) ⌝ }
+    ensures { λ r. ⌜ Wrote (now (code .entry)) i (operation (prefixMeant o) ∷ []) (now (code .exit)) r ⌝ }
 {
-    if kind < 11 {
-        return join_parts(kind);
-    }
-    put::plain(9, comparison_detail(kind), 0)
+    put::write(prefix_parts(o), i, code)
+}
+
+pub fn write_operator(o: Operator, i: usize, code: &mut [u8]) -> usize
+    requires { ⌜ instructionSize * (i + 1) ≤ length (now code) ⌝ }
+    ensures { λ r. ⌜ Wrote (now (code .entry)) i (spec.operator o ∷ []) (now (code .exit)) r ⌝ }
+{
+    put::write(operator_parts(o), i, code)
 }

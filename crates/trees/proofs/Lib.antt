@@ -1,6 +1,4 @@
-pub mod Walks
-pub mod Plans
 pub mod Stretches
-pub mod Operators
-pub mod Grown
-pub mod Leaves
+pub mod Walks
+pub mod Stored
+pub mod Stores

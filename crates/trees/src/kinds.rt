@@ -1,29 +1,37 @@
-// Operators, by their nodes' kinds: numbers and operands.
-ghost use mathlib.Core.Path.{_≡_};
-ghost use Prim.Native.Nat.{_≤_};
-ghost use Rattle.paper.specs.Code as C;
-ghost use Rattle.trees.specs.Standing.{comparisonOf, firstOperand};
+// The number of each node's kind, the first of its words. Only this crate knows them.
+pub const TRUTH: u32 = 0;
 
-// The paper's number of a comparison, by its node's kind.
-pub fn comparison_number(kind: u32) -> u8
-    requires { ⌜ 11 ≤ kind ⌝ }
-    ensures { λ r. ⌜ C.comparisonOf r ≡ comparisonOf kind ⌝ }
-{
-    if 16 < kind {
-        return 5;
-    }
-    ((kind - 11) % 256) as u8
-}
+pub const NUMBER: u32 = 1;
 
-// The first operand's node: of two the left one's; of one the node before. A walk goes on only where it is below the operator's.
-pub fn first_operand(kind: u32, left: usize, at: usize) -> usize
-    ensures { λ r. ⌜ r ≡ firstOperand kind left at ⌝ }
-{
-    if 7 <= kind {
-        return left;
-    }
-    if at == 0 {
-        return 0;
-    }
-    at - 1
-}
+pub const KEY: u32 = 2;
+
+pub const FIELD: u32 = 3;
+
+pub const ATTRIBUTE: u32 = 4;
+
+// From here on operators: two before their operand,
+pub const NOT: u32 = 5;
+
+pub const MINUS: u32 = 6;
+
+// joins,
+pub const SEQUEL: u32 = 7;
+
+pub const IMPLIES: u32 = 8;
+
+pub const OR: u32 = 9;
+
+pub const AND: u32 = 10;
+
+// and comparisons.
+pub const EQUAL: u32 = 11;
+
+pub const UNEQUAL: u32 = 12;
+
+pub const GREATER: u32 = 13;
+
+pub const AT_LEAST: u32 = 14;
+
+pub const LESS: u32 = 15;
+
+pub const AT_MOST: u32 = 16;

@@ -1,3 +1,3 @@
 pub mod Leaves
-pub mod Walked
 pub mod Rooted
+pub mod Walked

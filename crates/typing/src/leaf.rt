@@ -1,17 +1,17 @@
 // Nodes with no operand.
 ghost use mathlib.Core.Path.{_≡_};
-ghost use Prim.Native.Nat.{_+_, _*_, _≤_, _<_};
+ghost use Prim.Native.Nat.{_+_, _*_, _≤_};
 ghost use lib.ListN.{length};
 ghost use Rattle.paper.specs.Grammar as G;
+ghost use Rattle.trees.specs.Nodes.{leafAt, placeAt};
+ghost use Rattle.trees.specs.Standing.{leafOn};
 ghost use Rattle.paper.specs.Types.{namedType, operatorType, typeOf};
 ghost use Rattle.keys.specs.Says.{keysIn};
 ghost use Rattle.values.specs.Typed.{typingMeant};
-ghost use Rattle.trees.specs.Standing.{siteAt, leafOn};
-ghost use Rattle.trees.specs.Words.{Scratch, tapeOf};
 ghost use Rattle.typing.specs.Says.{typedSays};
 use keys::Found;
 use paper::Place;
-use trees::Node;
+use trees::Leaf;
 use values::fields::Named;
 use values::types::Type;
 use values::types::Typing;
@@ -75,45 +75,23 @@ fn attribute_type(list: &[u8], at: usize, to: usize, name: &[u8]) -> Typed
     Typed::Refused(12, Place::Text(to))
 }
 
-pub fn leaf_type(
-    text: &[u8],
-    kinds: &[u8],
-    starts: &[u16],
-    ends: &[u16],
-    list: &[u8],
-    nodes: &[u32],
-    at: usize,
-) -> Typed
-    requires { ⌜ (Scratch (length (now kinds)) (length (now starts)) (length (now ends))) × (at * 7 + 7 ≤ length (now nodes)) ⌝ }
-    ensures { λ r. ⌜ typedSays r ≡ typeOf (keysIn (now (list .entry))) (leafOn (tapeOf (now (text .entry)) (now (kinds .entry)) (now (starts .entry)) (now (ends .entry))) (siteAt (now (nodes .entry)) at)) ⌝ }
+pub fn leaf_type(text: &[u8], list: &[u8], nodes: &[u32], i: usize) -> Typed
+    requires { ⌜ i * 8 + 8 ≤ length (now nodes) ⌝ }
+    ensures { λ r. ⌜ typedSays r ≡ typeOf (keysIn (now (list .entry))) (leafOn (now (text .entry)) (placeAt (now (nodes .entry)) i) (leafAt (now (nodes .entry)) i)) ⌝ }
 {
-    let n = Node::read(nodes, at);
-    let kind = n.kind;
-    let i = n.token;
-    if kind == 0 {
-        return Typed::Is(Type::Bool);
-    }
-    if kind == 1 {
-        return Typed::Is(Type::Int);
-    }
-    let place = trees::place_on(starts, i);
-    let word = trees::word_on(text, kinds, starts, ends, i);
-    if kind == 2 {
-        return key_type(list, place, word);
-    }
-    if kind == 3 {
-        return field_type(
+    let place = trees::place_at(nodes, i);
+    let leaf = Leaf::read(nodes, i);
+    match leaf {
+        Leaf::Truth(_) => Typed::Is(Type::Bool),
+        Leaf::Number(_, _, _, _) => Typed::Is(Type::Int),
+        Leaf::Key(w) => key_type(list, place, trees::spelled(text, w)),
+        Leaf::Field(w, f) => field_type(
             list,
             place,
-            word,
-            trees::place_on(starts, i + 2),
-            trees::word_on(text, kinds, starts, ends, i + 2),
-        );
+            trees::spelled(text, w),
+            f.from,
+            trees::spelled(text, f),
+        ),
+        Leaf::Attribute(f) => attribute_type(list, place, f.from, trees::spelled(text, f)),
     }
-    attribute_type(
-        list,
-        place,
-        trees::place_on(starts, i + 1),
-        trees::word_on(text, kinds, starts, ends, i + 1),
-    )
 }

@@ -1,4 +1,3 @@
 pub mod Held
 mod Meeting
 pub mod Numbered
-mod Rules

@@ -2,17 +2,18 @@
 -- Assumes nothing.
 use Prim.Native.Nat.{ℕ, zero, suc, _-_, _^_, _≤_}
 use mathlib.Core.Path.{_≡_, refl}
-use mathlib.Core.Bool.{Bool, true, false, not, cond, _||_}
+use mathlib.Core.Bool.{Bool, true, false, not, cond, _&&_, _||_, and-true, and-self}
 use mathlib.Core.Option.{Option, some}
 use native.Mathlib.Omega.{arith}
-use borrow.Author.Tests.{ne-eqb, lt-ltb, le-ltb}
+use borrow.Author.Tests.{eq-eqb, ne-eqb, lt-ltb}
 use lib.Dec.{eqb, ltb}
 use Rattle.paper.specs.Tokens.{equal, unequal, greater, atLeast, less, atMost}
-use Rattle.paper.specs.Keys.{Kind, exact, ternary, lpm, range, optional, kindOf, kindNo}
+use Rattle.paper.specs.Keys.{Kind, exact, ternary, lpm, range, optional, kindOf}
 use Rattle.paper.specs.Entry.{Match, isExact}
-use Rattle.paper.specs.Types.{Ty, bits, isNumber, suits, Field, value, mask, prefixLength, low, high, has, fieldTy}
+use Rattle.paper.specs.Types.{Ty, bool, int, of, bits, isNumber, ordered, suits, Field, value, mask, prefixLength, low, high, has, fieldTy}
 use Rattle.paper.specs.Meaning.{oneValue}
 use Rattle.paper.specs.Code.{comparisonOf, fieldOf, fieldNo}
+use Rattle.paper.proofs.MeetingTypes.{meet-own}
 use Rattle.values.specs.declared.fields.Named.the-variants as N
 use Rattle.values.specs.Typed.{namedOf}
 
@@ -37,9 +38,6 @@ module _ {A : Type 0} (f : Kind → A) (t : ℕ → A) (t0 : t 0 ≡ f exact) (t
   by-kind (suc (suc zero)) = t2
   by-kind (suc (suc (suc zero))) = t3
   by-kind (suc (suc (suc (suc n)))) = at-over (suc (suc (suc (suc n)))) (omega arith)
-
-pub kind-number : (n : ℕ) → cond (ltb n 4) n 4 ≡ kindNo (kindOf n)
-kind-number = by-kind kindNo (λ n. cond (ltb n 4) n 4) refl refl refl refl (λ n h. rw (le-ltb n 4 h))
 
 pub kind-exact : (n : ℕ) → eqb n 0 ≡ isExact (kindOf n)
 kind-exact = by-kind isExact (λ n. eqb n 0) refl refl refl refl (λ n h. ne-eqb n 0 (λ e. omega arith))
@@ -80,14 +78,19 @@ named-if false f o = refl
 
 -- comparisons
 
+ordered-number : (t : Ty) → isNumber t ≡ ordered t t
+ordered-number bool = refl
+ordered-number int = refl
+ordered-number (of k w) = rw (eq-eqb w w refl, and-true (isExact k && isExact k), and-self (isExact k))
+
 by-sign : (a b c d e : Bool) (t : Ty)
     → ((a || b) || isNumber t) ≡ suits (cond a equal (cond b unequal (cond c greater (cond d atLeast (cond e less atMost))))) t
-by-sign true b c d e t = refl
-by-sign false true c d e t = refl
-by-sign false false true d e t = refl
-by-sign false false false true e t = refl
-by-sign false false false false true t = refl
-by-sign false false false false false t = refl
+by-sign true b c d e t = rw (meet-own t)
+by-sign false true c d e t = rw (meet-own t)
+by-sign false false true d e t = ordered-number t
+by-sign false false false true e t = ordered-number t
+by-sign false false false false true t = ordered-number t
+by-sign false false false false false t = ordered-number t
 
 pub suits-number : (n : ℕ) (t : Ty) → ((eqb n 0 || eqb n 1) || isNumber t) ≡ suits (comparisonOf n) t
 suits-number n t = by-sign (eqb n 0) (eqb n 1) (eqb n 2) (eqb n 3) (eqb n 4) t

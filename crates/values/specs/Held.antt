@@ -1,12 +1,14 @@
 -- The value that a cell holds.
-use Prim.Native.Nat.{ℕ, min}
+use Prim.Native.Nat.{ℕ, _^_, min}
 use mathlib.Core.Path.{_≡_}
-use mathlib.Core.Bool.{cond}
+use mathlib.Core.Bool.{cond, _||_}
 use mathlib.Core.Option.{Option, none, some}
 use lib.Dec.{eqb}
+use Rattle.paper.specs.Numbers.{modulo}
 use Rattle.paper.specs.Keys.{kindOf}
 use Rattle.paper.specs.Entry.{Match}
-use Rattle.paper.specs.Meaning.{Value, truth, whole, matched, Connective, both, either, ifThen}
+use Rattle.paper.specs.Types.{Ty, sameTy, when, takes}
+use Rattle.paper.specs.Meaning.{Value, truth, whole, matched, tyOf, inType, Connective, both, either, ifThen}
 use Rattle.number.specs.Values.{value, signed}
 use Rattle.number.specs.declared.magnitude.Magnitude.{Magnitude}
 use Rattle.values.specs.declared.cell.Cell.{Cell}
@@ -28,6 +30,17 @@ held c = heldAs (c .sort) c
 abbrev pub Is : Option Value → Value → Type 0
 Is none v = Unit {0}
 Is (some w) v = v ≡ w
+
+-- the number that a value is converted from: an int "is reduced modulo 2^W first", and a match has its first number. (A bool is never
+-- converted.)
+abbrev pub asNumber : ℕ → Value → ℕ
+asNumber w (truth b) = 0
+asNumber w (whole z) = modulo z (2 ^ w)
+asNumber w (matched k x m) = m .first
+
+-- a value in a type that it has or converts to
+abbrev pub likeValue : Ty → Value → Option Value
+likeValue t a = when (sameTy (tyOf a) t || takes t (tyOf a)) (inType t a)
 
 -- of a number up to 2
 abbrev pub connectiveOf : ℕ → Connective

@@ -33,6 +33,7 @@ pub struct Cell {
 }
 
 impl Cell {
+    // The cell of a bool.
     pub fn truth(b: bool) -> Cell
         ensures { λ r. ⌜ held r ≡ paper.truth b ⌝ }
     {
@@ -46,6 +47,7 @@ impl Cell {
         }
     }
 
+    // The cell of a whole number.
     pub(crate) fn of_whole(n: Whole) -> Cell
         ensures { λ r. ⌜ held r ≡ paper.whole (wholeOf n) ⌝ }
     {
@@ -60,12 +62,14 @@ impl Cell {
         }
     }
 
+    // The cell of a whole number that is not negative.
     pub fn whole(size: Magnitude) -> Cell
         ensures { λ r. ⌜ held r ≡ paper.whole (pos (value size)) ⌝ }
     {
         Cell::of_whole(Whole::of(size))
     }
 
+    // The cell of a match of a kind and a width.
     pub fn matched(kind: u8, width: u8, first: Magnitude, second: Magnitude, length: u8) -> Cell
         requires { ⌜ width ≤ 128 ⌝ }
         ensures { λ r. ⌜ held r ≡ paper.matched (kindOf kind) width (matchFrom first second length) ⌝ }
@@ -79,7 +83,7 @@ impl Cell {
         }
     }
 
-    // The match of one value.
+    // The cell of the match of one value.
     pub(crate) fn one_value(kind: u8, width: u8, n: Magnitude) -> Cell
         requires { ⌜ width ≤ 128 ⌝ }
         ensures { λ r. ⌜ held r ≡ paper.matched (kindOf kind) width (oneValue (kindOf kind) width (value n)) ⌝ }
@@ -92,7 +96,7 @@ impl Cell {
         }
     }
 
-    // A field of a match.
+    // The cell of a field of a match, by its number in document 01.
     pub fn field(field: u8, width: u8, first: Magnitude, second: Magnitude, length: u8) -> Cell
         requires { ⌜ width ≤ 128 ⌝ }
         ensures { λ r. ⌜ held r ≡ fieldIn width (fieldOf field) (matchFrom first second length) ⌝ }
@@ -106,6 +110,7 @@ impl Cell {
         }
     }
 
+    // Whether the cell holds the bool true.
     pub fn is_true(self) -> bool
         ensures { λ r. ⌜ r ≡ isTrue (some (held self)) ⌝ }
     {
@@ -117,7 +122,8 @@ impl Cell {
         }
     }
 
-    pub fn type_of(self) -> Type
+    // The type of what the cell holds.
+    pub(crate) fn type_of(self) -> Type
         ensures { λ r. ⌜ tyMeant r ≡ tyOf (held self) ⌝ }
     {
         let sort = self.sort;
@@ -128,6 +134,7 @@ impl Cell {
         }
     }
 
+    // The width as it is read.
     pub(crate) fn width_held(self) -> u8
         ensures { λ r. ⌜ (r ≡ min (self .width) 128) × (r ≤ 128) ⌝ }
     {

@@ -2,9 +2,9 @@
 ghost use mathlib.Core.Path.{_≡_};
 ghost use Rattle.paper.specs.Code.{comparisonOf};
 ghost use Rattle.paper.specs.Meaning as paper;
-ghost use Rattle.paper.specs.Meaning.{tyOf, inType, sameValue, lessValue, compareValue, comparisonValue};
+ghost use Rattle.paper.specs.Meaning.{tyOf, sameValue, lessValue, compareValue, comparisonValue};
 ghost use Rattle.values.specs.declared.cell.Sort.the-variants as sort;
-ghost use Rattle.values.specs.Held.{held, heldAs, Is};
+ghost use Rattle.values.specs.Held.{held, heldAs, likeValue, Is};
 use crate::cell::Cell;
 use crate::cell::Sort;
 use crate::types;
@@ -102,7 +102,7 @@ impl Cell {
         }
     }
 
-    // Of two operands of one type.
+    // The bool that a comparison makes of two operands of one type.
     pub fn compared(self, comparison: u8, right: Cell) -> Cell
         ensures { λ r. ⌜ Is (compareValue (comparisonOf comparison) (held self) (held right)) (held r) ⌝ }
     {
@@ -111,7 +111,7 @@ impl Cell {
 
     // In the type of the other.
     fn like(self, other: Cell) -> Cell
-        ensures { λ r. ⌜ Is (inType (tyOf (held other)) (held self)) (held r) ⌝ }
+        ensures { λ r. ⌜ Is (likeValue (tyOf (held other)) (held self)) (held r) ⌝ }
     {
         if types::same(self.type_of(), other.type_of()) {
             return self;
@@ -124,7 +124,8 @@ impl Cell {
         }
     }
 
-    // Of two operands that meet in one type: the one that the other's type takes is converted.
+    // The bool that a comparison makes of two operands that meet in one type: the one that the other's type takes is
+    // converted first.
     pub fn comparison(self, comparison: u8, right: Cell) -> Cell
         ensures { λ r. ⌜ Is (comparisonValue (comparisonOf comparison) (held self) (held right)) (held r) ⌝ }
     {

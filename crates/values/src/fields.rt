@@ -39,6 +39,7 @@ fn type_in(width: u8, field: u8) -> Type
     }
 }
 
+// The type of a field of a key by its kind and width, where the kind has the field.
 pub fn field_type(kind: u8, width: u8, field: u8) -> Typing
     ensures { λ r. ⌜ typingMeant r ≡ when (paper.has (kindOf kind) (fieldOf field)) (fieldTy width (fieldOf field)) ⌝ }
 {
@@ -54,6 +55,7 @@ fn spelled(word: &[u8], name: &[u8], field: u8, other: Named) -> Named
     other
 }
 
+// The field that a word names.
 pub fn field_named(word: &[u8]) -> Named
     ensures { λ r. ⌜ r ≡ namedOf (fieldNamed (now (word .entry))) ⌝ }
 {
@@ -64,6 +66,7 @@ pub fn field_named(word: &[u8]) -> Named
     spelled(word, b"value", 0, mask)
 }
 
+// Whether a word names the attribute "priority", the only one there is.
 pub fn is_priority(word: &[u8]) -> bool
     ensures { λ r. ⌜ r ≡ sameBytes (now (word .entry)) (bytes "priority") ⌝ }
 {

@@ -12,4 +12,3 @@ pub mod operators;
 pub mod types;
 
 pub use cell::Cell;
-pub use cell::Sort;

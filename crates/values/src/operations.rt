@@ -3,9 +3,9 @@ ghost use mathlib.Core.Path.{_≡_};
 ghost use Prim.Native.Nat.{_≤_};
 ghost use Rattle.paper.specs.Keys.{kindOf};
 ghost use Rattle.paper.specs.Meaning as paper;
-ghost use Rattle.paper.specs.Meaning.{notValue, negateValue, joinValue, convertValue, asNumber};
+ghost use Rattle.paper.specs.Meaning.{notValue, negateValue, joinValue, convertValue};
 ghost use Rattle.number.specs.Values.{value};
-ghost use Rattle.values.specs.Held.{held, Is, connectiveOf};
+ghost use Rattle.values.specs.Held.{held, Is, asNumber, connectiveOf};
 use crate::cell::Cell;
 use crate::cell::Sort;
 use number::Magnitude;
@@ -22,12 +22,14 @@ fn connect(connective: u8, a: bool, b: bool) -> bool
 }
 
 impl Cell {
+    // What "!" makes of the cell.
     pub fn inverted(self) -> Cell
         ensures { λ r. ⌜ Is (notValue (held self)) (held r) ⌝ }
     {
         Cell::truth(!self.is_true())
     }
 
+    // What "-" makes of the cell.
     pub fn negated(self) -> Cell
         ensures { λ r. ⌜ Is (negateValue (held self)) (held r) ⌝ }
     {
@@ -43,6 +45,7 @@ impl Cell {
         }
     }
 
+    // What a connective makes of two cells.
     pub fn connected(self, connective: u8, right: Cell) -> Cell
         ensures { λ r. ⌜ Is (joinValue (connectiveOf connective) (held self) (held right)) (held r) ⌝ }
     {
@@ -61,6 +64,7 @@ impl Cell {
         }
     }
 
+    // The cell converted to a kind and a width.
     pub fn converted(self, kind: u8, width: u8) -> Cell
         requires { ⌜ width ≤ 128 ⌝ }
         ensures { λ r. ⌜ Is (convertValue (kindOf kind) width (held self)) (held r) ⌝ }

@@ -9,24 +9,28 @@ use crate::types;
 use crate::types::Type;
 use crate::types::Typing;
 
+// The type that "!" gives, where it takes its operand.
 pub fn not_type(a: Type) -> Typing
     ensures { λ r. ⌜ typingMeant r ≡ notType (tyMeant a) ⌝ }
 {
     types::when(types::is_bool(a), Type::Bool)
 }
 
+// The type that "-" gives, where it takes its operand.
 pub fn negate_type(a: Type) -> Typing
     ensures { λ r. ⌜ typingMeant r ≡ negateType (tyMeant a) ⌝ }
 {
     types::when(is_number(a), a)
 }
 
+// The type that a join gives, where it takes its operands.
 pub fn join_type(a: Type, b: Type) -> Typing
     ensures { λ r. ⌜ typingMeant r ≡ joinType (tyMeant a) (tyMeant b) ⌝ }
 {
     types::when(types::is_bool(a) & types::is_bool(b), Type::Bool)
 }
 
+// The type that a conversion to a kind and a width gives, where it takes its operand.
 pub fn convert_type(kind: u8, width: u8, a: Type) -> Typing
     ensures { λ r. ⌜ typingMeant r ≡ when (takes (of (kindOf kind) width) (tyMeant a)) (of (kindOf kind) width) ⌝ }
 {
@@ -45,20 +49,20 @@ fn is_number(a: Type) -> bool
 }
 
 // Whether a comparison takes two operands of this type.
-pub fn suits(comparison: u8, a: Type) -> bool
+fn suits(comparison: u8, a: Type) -> bool
     ensures { λ r. ⌜ r ≡ paper.suits (comparisonOf comparison) (tyMeant a) ⌝ }
 {
     (comparison == 0) | (comparison == 1) | is_number(a)
 }
 
-// Of two operands of one type.
+// The type that a comparison gives of two operands of one type, where it takes them.
 pub fn compare_type(comparison: u8, a: Type, b: Type) -> Typing
     ensures { λ r. ⌜ typingMeant r ≡ compareType (comparisonOf comparison) (tyMeant a) (tyMeant b) ⌝ }
 {
     types::when(types::same(a, b) & suits(comparison, a), Type::Bool)
 }
 
-// Of two operands that meet in one.
+// The type that a comparison gives of two operands that meet in one type, where it takes them.
 pub fn comparison_type(comparison: u8, a: Type, b: Type) -> Typing
     ensures { λ r. ⌜ typingMeant r ≡ comparisonType (comparisonOf comparison) (tyMeant a) (tyMeant b) ⌝ }
 {

@@ -26,6 +26,7 @@ pub fn kind_number(kind: u8) -> u8
     if kind < 4 { kind } else { 4 }
 }
 
+// Whether a type is bool.
 pub fn is_bool(a: Type) -> bool
     ensures { λ r. ⌜ r ≡ sameTy (tyMeant a) bool ⌝ }
 {
@@ -36,7 +37,8 @@ pub fn is_bool(a: Type) -> bool
     }
 }
 
-pub fn is_int(a: Type) -> bool
+// Whether a type is int.
+fn is_int(a: Type) -> bool
     ensures { λ r. ⌜ r ≡ sameTy (tyMeant a) int ⌝ }
 {
     match a {
@@ -56,6 +58,7 @@ fn is_of(a: Type, kind: u8, width: u8) -> bool
     }
 }
 
+// Whether two types are equal in all fields.
 pub fn same(a: Type, b: Type) -> bool
     ensures { λ r. ⌜ r ≡ sameTy (tyMeant a) (tyMeant b) ⌝ }
 {
@@ -67,7 +70,7 @@ pub fn same(a: Type, b: Type) -> bool
 }
 
 // Whether a value of type b converts to type a.
-pub fn takes(a: Type, b: Type) -> bool
+pub(crate) fn takes(a: Type, b: Type) -> bool
     ensures { λ r. ⌜ r ≡ paper.takes (tyMeant a) (tyMeant b) ⌝ }
 {
     match a {
@@ -77,6 +80,7 @@ pub fn takes(a: Type, b: Type) -> bool
     }
 }
 
+// A type, where a condition holds.
 pub(crate) fn when(right: bool, a: Type) -> Typing
     ensures { λ r. ⌜ typingMeant r ≡ paper.when right (tyMeant a) ⌝ }
 {

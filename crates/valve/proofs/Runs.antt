@@ -15,7 +15,7 @@ use Rattle.keys.proofs.Conforming.{entered, not-entered}
 use Rattle.operands.specs.Conforming.{entryIn, Conforming}
 
 module _ (list blocks entry : List ℕ) where
-  -- behind the load, for the list's keys
+  -- after the load, for the list's keys
   abbrev judged : List Key → Answer Bool
   judged ks = entryOf ks entry >>= λ e. ok (leftTrue (valuesAlong ks e (program blocks)))
 

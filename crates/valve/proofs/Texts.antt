@@ -12,36 +12,36 @@ use Rattle.paper.specs.Calls.{tree, Restriction, restriction, readAnswer, check
 use Rattle.reading.specs.Grown.{Planted, Grows}
 use Rattle.reading.specs.declared.Grown.{Grown}
 use Rattle.reading.specs.declared.Grown.the-variants as Trees
-use Rattle.restricting.specs.Restricted.{Restricts}
-use Rattle.restricting.specs.declared.Restricted.{Restricted}
-use Rattle.restricting.specs.declared.Restricted.the-variants as R
-use Rattle.restricting.proofs.Stages.{not-restricted, rooted}
+use Rattle.reading.specs.Restricted.{Restricts}
+use Rattle.reading.specs.declared.Restricted.{Restricted}
+use Rattle.reading.specs.declared.Restricted.the-variants as R
+use Rattle.reading.proofs.Stages.{not-restricted, rooted}
 
 module _ (text : List ℕ) where
   pub too-long : mostText < length text → refused 1 inText mostText ≡ readAnswer text
   unfolding readAnswer
   too-long h = rw (lt-leb (length text) mostText h)
 
-  module _ (h : length text ≤ mostText) (kinds starts ends nodes : List ℕ) (r : Grown) (grows : Grows text kinds starts ends nodes r) where
+  module _ (h : length text ≤ mostText) (nodes : List ℕ) (r : Grown) (grows : Grows text nodes r) where
     short : readAnswer text ≡ (tree text >>= λ t. ok (G.nodes t))
     unfolding readAnswer
     short = rw (le-leb (length text) mostText h)
 
     pub not-read : {n : ℕ} {p : Place} → r ≡ Trees.Refused n p → refused n (inputOf p) (offsetOf p) ≡ readAnswer text
     not-read {n} {p} e =
-        let g : tree text ≡ refused n (inputOf p) (offsetOf p) = subst (Grows text kinds starts ends nodes) e grows in
+        let g : tree text ≡ refused n (inputOf p) (offsetOf p) = subst (Grows text nodes) e grows in
         sym (short ∙ rw g)
 
     pub is-read : {m : ℕ} → r ≡ Trees.Tree m → ok m ≡ readAnswer text
     is-read {m} e =
-        let g : Planted text kinds starts ends nodes m = subst (Grows text kinds starts ends nodes) e grows in
+        let g : Planted text nodes m = subst (Grows text nodes) e grows in
         sym (short ∙ rw (g .read) (ap ok (sym (g .count))))
 
-module _ (text list kinds starts ends nodes : List ℕ) (r : Restricted) (told : Restricts text list kinds starts ends nodes r) where
+module _ (text list nodes : List ℕ) (r : Restricted) (told : Restricts text list nodes r) where
   pub not-checked : {n : ℕ} {p : Place} → r ≡ R.Refused n p → refused n (inputOf p) (offsetOf p) ≡ checkAnswer text list
   unfolding checkAnswer restriction
-  not-checked e = sym (ap (λ (x : Answer Restriction). x >>= λ _. ok tt) (not-restricted text list kinds starts ends nodes r told e))
+  not-checked e = sym (ap (λ (x : Answer Restriction). x >>= λ _. ok tt) (not-restricted text list nodes r told e))
 
   pub is-checked : {k : ℕ} → r ≡ R.Root k → ok tt ≡ checkAnswer text list
   unfolding checkAnswer restriction
-  is-checked e = sym (ap (λ (x : Answer Restriction). x >>= λ _. ok tt) (rooted text list kinds starts ends nodes r told e .passed))
+  is-checked e = sym (ap (λ (x : Answer Restriction). x >>= λ _. ok tt) (rooted text list nodes r told e .passed))

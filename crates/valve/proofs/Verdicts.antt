@@ -18,20 +18,21 @@ use Rattle.keys.proofs.Conforming.{matches-length}
 use Rattle.keys.proofs.Conforming as K
 use Rattle.values.specs.Held.{Is}
 use Rattle.operands.specs.Conforming.{entryIn, Conforming}
-use Rattle.restricting.specs.Restricted.{rootAt, Rooted, Restricts}
-use Rattle.restricting.specs.declared.Restricted.{Restricted}
-use Rattle.restricting.specs.declared.Restricted.the-variants as R
-use Rattle.restricting.proofs.Stages.{not-restricted}
+use Rattle.trees.specs.Standing.{treeAt}
+use Rattle.reading.specs.Restricted.{Rooted, Restricts}
+use Rattle.reading.specs.declared.Restricted.{Restricted}
+use Rattle.reading.specs.declared.Restricted.the-variants as R
+use Rattle.reading.proofs.Stages.{not-restricted}
 
 module _ (text list entry : List ℕ) where
-  pub not-passed : (kinds starts ends nodes : List ℕ) (r : Restricted) → Restricts text list kinds starts ends nodes r
+  pub not-passed : (nodes : List ℕ) (r : Restricted) → Restricts text list nodes r
       → {n : ℕ} {p : Place} → r ≡ R.Refused n p → refused n (inputOf p) (offsetOf p) ≡ judgeAnswer text list entry
   unfolding judgeAnswer
-  not-passed kinds starts ends nodes r told e = rw (not-restricted text list kinds starts ends nodes r told e)
+  not-passed nodes r told e = rw (not-restricted text list nodes r told e)
 
-  module _ (kinds starts ends nodes : List ℕ) (k : ℕ) (r : Rooted text list kinds starts ends nodes k) where
+  module _ (nodes : List ℕ) (k : ℕ) (r : Rooted text list nodes k) where
     abbrev root : G.Tree
-    root = rootAt text kinds starts ends nodes k
+    root = treeAt text nodes k
 
     by-entry : judgeAnswer text list entry ≡ (entryOf (keysIn list) entry >>= λ e. ok (isTrue (valueOf (keysIn list) e root)))
     unfolding judgeAnswer

@@ -1,8 +1,9 @@
 // The public calls. Each is thin: the stages of document 01, in its order, each asked of the crate below that answers for it.
 //
-// Every call answers for all bytes, of any length and content, what the definition of its name in document 01's words
-// (`paper`, specs/Calls) says: its count or verdict, or the refusal with its number and place. It asks nothing of its caller, keeps
+// Every call keeps its promise (`paper`, specs/Promised) for all bytes, of any length and content: it answers what the definition of its
+// name in document 01's words (specs/Calls) says, its count or verdict, or the refusal with its number and place. It asks nothing of its caller, keeps
 // nothing from one call to the next, and reads nothing past the bytes it is lent. The scratch of a call lies in its own frame.
+mod account;
 mod loading;
 mod running;
 mod text;

@@ -1,16 +1,14 @@
 // An entry against blocks: the refusals of a load, then 19 and 20.
-ghost use mathlib.Core.Path.{_≡_};
-ghost use Rattle.paper.specs.Answers.{judgementSays};
-ghost use Rattle.paper.specs.Calls.{runAnswer};
+ghost use Rattle.paper.specs.Promised.{RunPromised};
 use crate::loading;
 use crate::verdict::verdict;
 use keys::Entered;
 use paper::Judgement;
 use paper::Loading;
 
-// The blocks are loaded here, whoever loaded them before.
+// What the blocks say of an entry. They are loaded here, whoever loaded them before.
 pub fn run(list: &[u8], blocks: &[u8], entry: &[u8]) -> Judgement
-    ensures { λ r. ⌜ judgementSays r ≡ runAnswer (now (list .entry)) (now (blocks .entry)) (now (entry .entry)) ⌝ }
+    ensures { λ r. ⌜ RunPromised (now (list .entry)) (now (blocks .entry)) (now (entry .entry)) r ⌝ }
 {
     match loading::load(list, blocks) {
         Loading::Refused(number, place) => Judgement::Refused(number, place),

@@ -3,6 +3,7 @@
 mod compare;
 mod histogram;
 mod options;
+mod out;
 mod pack;
 
 use std::fmt;
@@ -22,10 +23,10 @@ const USAGE: &str = "usage:
   desk show < requests                       requests in readable form
   desk compare --seed S --count N -- PROGRAM [ARGUMENT...]
                                              PROGRAM's lines against ours
-  desk pack keys FILE                        a readable key list into bytes
-  desk pack entries [--any] KEYS FILE        readable entries into bytes
-  desk unpack keys FILE                      and back again
-  desk unpack entries KEYS FILE
+  desk pack keys FILE [OUT]                  a readable key list into bytes
+  desk pack entries [--any] KEYS FILE [OUT]  readable entries into bytes
+  desk unpack keys FILE [OUT]                and back again
+  desk unpack entries KEYS FILE [OUT]        (OUT: standard output if left out)
 ";
 
 /// Why a command stopped.

@@ -1,17 +1,10 @@
+-- The four numbers are those of what `valve` answers, which keeps the promise.
 use borrow.Author.Needs.{needs}
-use mathlib.Core.Path.{_∙_, ap}
-use Rattle.abi.specs.Told.{counted}
 use Rattle.abi.proofs.pollux_load.Statement.{statement}
 use Rattle.abi.proofs.pollux_load.Tie as tie
 
-load-requires : tie.Need-load-requires
-load-requires c κs = search needs
-
-of-loading-requires : tie.Need-of-loading-requires
-of-loading-requires c κs = search needs
-
 returns : tie.Need-returns
-returns c = c .of-loading .ensures ∙ ap counted (c .before .load .ensures)
+returns c = record { result = c .before .load .result; promised = c .before .load .ensures; same = c .of-loading .ensures }
 
 pub pollux-load-spec : {M : Type 1} → statement M
-pollux-load-spec = tie.close (tie.spec load-requires of-loading-requires returns)
+pollux-load-spec = tie.close (tie.spec (λ c κs. search needs) (λ c κs. search needs) returns)

@@ -6,7 +6,7 @@ use lib.ListN.{length, drop, length-drop}
 use lib.Seq.{length-take-le, take-all}
 use Rattle.paper.specs.Addresses.{beforeGap}
 use Rattle.addresses.proofs.Strings.{gap-room, gap-inside}
-use Rattle.addresses.proofs.Wholes.{eight}
+use Rattle.addresses.proofs.Wholes.{read-as, eight}
 use borrow.Author.Needs.{needs}
 use Rattle.addresses.proofs.ipv6.read_ipv6.Statement.{statement}
 use Rattle.addresses.proofs.ipv6.read_ipv6.Tie as tie
@@ -15,7 +15,7 @@ returns : tie.Need-returns
 returns c =
     let s = c .before .before .before .before .args .string .now in
     let n = c .before .before .before-gap .ensures in
-    c .whole .ensures ∙ eight s ∙ sym (rw (eq-eqb (beforeGap s) (length s) (sym n ∙ c .before .if1 .taken)))
+    read-as (eight s ∙ sym (rw (eq-eqb (beforeGap s) (length s) (sym n ∙ c .before .if1 .taken)))) (c .whole .ensures)
 
 slice-aggregate-gapped : tie.Need-slice-aggregate-gapped
 slice-aggregate-gapped c =
@@ -53,8 +53,9 @@ returns-2 : tie.Need-returns-2
 returns-2 c =
     let s = c .before .before .before .before .before .before .args .string .now in
     let n = c .before .before .before .before .before-gap .ensures in
-    c .gapped .ensures ∙ rw
-    (ne-eqb (beforeGap s) (length s) (λ e. c .before .before .before .if1 .left (n ∙ e)), n, take-all (length s - (beforeGap s + 2)) (drop (beforeGap s + 2) s) (omega (arith, length-drop (beforeGap s + 2) s)))
+    read-as
+    (rw (ne-eqb (beforeGap s) (length s) (λ e. c .before .before .before .if1 .left (n ∙ e)), n, take-all (length s - (beforeGap s + 2)) (drop (beforeGap s + 2) s) (omega (arith, length-drop (beforeGap s + 2) s))))
+    (c .gapped .ensures)
 
 pub read-ipv6-spec : {M : Type 1} → statement M
 read-ipv6-spec =

@@ -1,8 +1,9 @@
 use Prim.Native.Nat.{_≤_}
 use native.Mathlib.Omega.{arith}
-use mathlib.Core.Path.{_≡_, sym, _∙_}
+use mathlib.Core.Path.{sym, _∙_}
 use borrow.Author.Tests.{eq-eqb, ne-eqb, not-true, not-false}
-use Rattle.blocks.proofs.Layouts.{count-most, right-by}
+use Rattle.paper.proofs.Laid.{few-counted}
+use Rattle.blocks.proofs.Layouts.{right-by}
 use borrow.Author.Needs.{needs}
 use Rattle.blocks.proofs.laying.block_right.Statement.{statement}
 use Rattle.blocks.proofs.laying.block_right.Tie as tie
@@ -31,7 +32,7 @@ returns-2 c =
 
 few : (c : tie.Else2) → c .before .before .before .before .read .result .count ≤ 25
 few c =
-    count-most (c .before .before .before .before .before .before .args .later) (c .before .before .before .before .read .result .count)
+    few-counted (c .before .before .before .before .before .before .args .later) (c .before .before .before .before .read .result .count)
     (sym (c .before .count-right .ensures) ∙ not-false _ (c .if2 .left))
 
 mul-from : tie.Need-mul-from

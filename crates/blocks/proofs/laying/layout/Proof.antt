@@ -1,69 +1,80 @@
-use Prim.Native.Nat.{ℕ, _≤_, _<_, _-_, _+_, _*_, _/_}
+-- `blocks::laying::layout` meets its contract. The invariant of its loop: the first k blocks pass, so that the tests from block k on
+-- decide. A turn settles the test of block k. The measure is how many blocks are left.
+use Prim.Native.Nat.{ℕ, _≤_, _-_, _*_}
 use native.Mathlib.Nat.{sub-zero}
 use native.Mathlib.Omega.{arith}
 use mathlib.Core.Path.{_≡_, refl, sym, _∙_, ap}
-use mathlib.Core.Bool.{false, true}
-use lib.ListN.{length}
+use mathlib.Core.List.{List}
 use borrow.Author.Needs.{needs}
 use borrow.Author.Tests.{not-true, not-false}
-use Rattle.paper.specs.Answers.{Answer, ok, _>>=_}
-use Rattle.paper.specs.Blocks.{blockOk, totalOf, layoutFrom}
+use Rattle.paper.specs.Answers.{Answer, ok, _>>=_, inTurn}
+use Rattle.paper.specs.Blocks.{blocksIn, totalOf, blockOk, blockTest}
+use Rattle.paper.proofs.InTurn.{goes-on, stops, is-over}
 use Rattle.blocks.specs.Layout.{laidOut}
-use Rattle.blocks.proofs.Layouts.{laid-empty, laid-broken, laid-long, laid-through, block-there, layout-on, layout-stop}
+use Rattle.blocks.proofs.Layouts.{laid-empty, laid-broken, laid-long, laid-through, block-there}
 use Rattle.blocks.proofs.laying.layout.Statement.{statement}
 use Rattle.blocks.proofs.laying.layout.Tie as tie
 
 abbrev Inv-loop : tie.InvT-loop
-Inv-loop blocks keys size n total k₀ k = (k ≤ n) × (layoutFrom keys blocks k (n - k) ≡ layoutFrom keys blocks 0 n)
+Inv-loop blocks keys size n total k₀ k = (k ≤ n) × (inTurn (blockTest keys blocks) k (n - k) ≡ inTurn (blockTest keys blocks) 0 n)
 
 abbrev μ-loop : tie.MeasureT-loop
 μ-loop blocks keys size n total k₀ k = n - k
 
--- the way past refusal 16, from the loop's place on
-through : (c : tie.At-loop Inv-loop μ-loop) →
-    let a = c .before .before .before .before .before .before .args in
-    laidOut (a .keys) (a .blocks .now) ≡ (layoutFrom (a .keys) (a .blocks .now) 0 (length (a .blocks .now) / 512) >>= λ _. ok (totalOf (a .blocks .now)))
-through c =
-    let a = c .before .before .before .before .before .before .args in
-    laid-through (a .keys) (a .blocks .now) (omega arith) (c .before .before .before .if2 .left) (omega arith)
+-- at the loop: what was given, the number of blocks, and how many of them are passed
 
--- the block that the loop looks at, as the paper has it
-looked : (c : tie.After-block-right Inv-loop μ-loop) →
-    let a = c .before .before .before .before .before .before .before .before .before .args in
-    let l = c .before .before .before .loop in
-    blockOk (a .keys) (a .blocks .now) (l .k) (length (a .blocks .now) / 512 - (l .k + 1)) ≡ c .block-right .result
+abbrev start : tie.At-loop Inv-loop μ-loop → tie.Start Inv-loop μ-loop
+start l = l .before .before .before .before .before .before
+
+abbrev blocks : tie.At-loop Inv-loop μ-loop → List ℕ
+blocks l = start l .args .blocks .now
+
+abbrev keys : tie.At-loop Inv-loop μ-loop → ℕ
+keys l = start l .args .keys
+
+abbrev n : tie.At-loop Inv-loop μ-loop → ℕ
+n l = blocksIn (blocks l)
+
+abbrev k : tie.At-loop Inv-loop μ-loop → ℕ
+k l = l .loop .k
+
+abbrev test : tie.At-loop Inv-loop μ-loop → ℕ → Answer (Unit {0})
+test l = blockTest (keys l) (blocks l)
+
+-- what the tests from block k on say is the answer
+decided : (l : tie.At-loop Inv-loop μ-loop) {a : Answer (Unit {0})} → inTurn (test l) (k l) (n l - k l) ≡ a
+    → laidOut (keys l) (blocks l) ≡ (a >>= λ _. ok (totalOf (blocks l)))
+decided l e =
+    laid-through (keys l) (blocks l) (omega arith) (l .before .before .before .if2 .left) (omega arith)
+    ∙ ap (λ (a : Answer (Unit {0})). a >>= λ _. ok (totalOf (blocks l))) (sym (l .loop .inv .1) ∙ e)
+
+-- the loop that a look at a block stands in
+abbrev loop-of : tie.After-block-right Inv-loop μ-loop → tie.At-loop Inv-loop μ-loop
+loop-of c = c .before .before .before
+
+-- a look at block k says whether it passes
+looked : (c : tie.After-block-right Inv-loop μ-loop) → let l = loop-of c in blockOk (keys l) (blocks l) (k l) ≡ c .block-right .result
 looked c =
-    let a = c .before .before .before .before .before .before .before .before .before .args in
-    let l = c .before .before .before .loop in
-    block-there (a .keys) (a .blocks .now) (l .k) (length (a .blocks .now) / 512 - (l .k + 1)) (c .before .before .before .before .total-of .result) (l .k * 512)
-    (c .before .before .before .before .total-of .ensures) refl
-    ∙ sym (c .block-right .ensures)
+    let l = loop-of c in
+    let total = l .before .total-of in
+    block-there (keys l) (blocks l) (k l) (total .result) (k l * 512) (total .ensures) refl ∙ sym (c .block-right .ensures)
 
 returns-4 : tie.Need-returns-4 Inv-loop μ-loop
 returns-4 c =
-    let a = c .before .before .before .before .before .before .before .before .before .before .args in
-    let l = c .before .before .before .before .loop in
-    let n = length (a .blocks .now) / 512 in
-    let e = layout-stop (a .blocks .now) (l .k) n (a .keys) (omega arith) (looked (c .before) ∙ not-true _ (c .if4 .taken)) in
-    sym (through (c .before .before .before .before) ∙ ap (λ (x : Answer (Unit {0})). x >>= λ _. ok (totalOf (a .blocks .now))) (sym (l .inv .1) ∙ e))
+    let l = loop-of (c .before) in
+    let bad = looked (c .before) ∙ not-true _ (c .if4 .taken) in
+    sym (decided l (stops (test l) (n l) (k l) (omega arith) (rw bad)))
 
 loop-again : tie.Need-loop-again Inv-loop μ-loop
 loop-again c =
-    let a = c .before .before .before .before .before .before .before .before .before .before .args in
-    let l = c .before .before .before .before .loop in
-    let n = length (a .blocks .now) / 512 in
-    (omega arith, sym (layout-on (a .blocks .now) (l .k) n (a .keys) (omega arith) (looked (c .before) ∙ not-false _ (c .if4 .left))) ∙ l .inv .1)
+    let l = loop-of (c .before) in
+    let good = looked (c .before) ∙ not-false _ (c .if4 .left) in
+    (omega arith, sym (goes-on (test l) (n l) (k l) (omega arith) (rw good)) ∙ l .loop .inv .1)
 
 returns-5 : tie.Need-returns-5 Inv-loop μ-loop
 returns-5 c =
-    let a = c .before .before .before .before .before .before .before .args in
-    let l = c .before .loop in
-    let n = length (a .blocks .now) / 512 in
-    let z : n - l .k ≡ 0 = omega arith in
-    let e : layoutFrom (a .keys) (a .blocks .now) (l .k) (n - l .k) ≡ ok tt = rw z in
-    sym
-    (through (c .before) ∙ ap (λ (x : Answer (Unit {0})). x >>= λ _. ok (totalOf (a .blocks .now))) (sym (l .inv .1) ∙ e)
-    ∙ ap (λ (x : ℕ). ok x) (sym (c .before .before .total-of .ensures)))
+    let l = c .before in
+    sym (decided l (is-over (test l) (n l) (k l) (omega arith)) ∙ ap ok (sym (l .before .total-of .ensures)))
 
 pub layout-spec : {M : Type 1} → statement M
 layout-spec =

@@ -1,3 +1,4 @@
+-- The block is written in its own part of the buffer, and the part comes back at its place.
 use Prim.Native.Nat.{ℕ, _+_, _*_, _-_}
 use native.Mathlib.Omega.{arith}
 use mathlib.Core.Path.{_≡_, _∙_, ap, ap₂}
@@ -5,12 +6,9 @@ use mathlib.Core.List.{List, _++_}
 use lib.ListN.{length, take, drop, length-take}
 use borrow.Author.Needs.{needs}
 use borrow.Rule.Slice.PartMut.{mid-len}
-use Rattle.paper.specs.Numbers.{bytesAt}
-use Rattle.paper.specs.Blocks.{blockOf}
-use Rattle.paper.proofs.OneBlock.{taken, block-length}
-use Rattle.blocks.specs.Written.{held}
+use Rattle.blocks.specs.Written.{codedBlock, blockAt}
 use Rattle.blocks.proofs.Stores.{put-back}
-use Rattle.blocks.proofs.Rows.{held-bytes}
+use Rattle.blocks.proofs.Rows.{block-length}
 use Rattle.blocks.proofs.writing.put_block.Statement.{statement}
 use Rattle.blocks.proofs.writing.put_block.Tie as tie
 
@@ -22,15 +20,15 @@ write-block-requires c κs =
     (mid-len at (at + 512) (a .buffer .now) (omega arith) ∙ omega arith, omega (arith, code))
 
 returns : tie.Need-returns
-returns c is e =
+returns c =
     let a = c .before .before .before .before .before .before .before .args in
     let at = a .k * 512 in
     let old = a .buffer .now in
     let size : at + 512 - at ≡ 512 = omega arith in
-    let block = blockOf (a .total) (a .keys) (a .k) (held (a .k) is) in
-    let code = c .before .before .before .before .code-of .ensures ∙ ap (λ (s : List ℕ). bytesAt s (a .k * 500) 500) e ∙ held-bytes (a .k) is in
-    ap₂ (λ (b : List ℕ) (n : ℕ). take at old ++ (b ++ drop n (drop at old))) (c .before .before .write-block .ensures (held (a .k) is) code) size
-    ∙ put-back old at 512 block (block-length (a .total) (a .keys) (a .k) (held (a .k) is) (taken (drop (a .k * 25) is))) (omega arith)
+    let block = blockAt (a .total) (a .keys) (a .code .now) (a .k) in
+    let written = c .before .before .write-block .ensures ∙ ap (codedBlock (a .total) (a .keys) (a .k)) (c .before .before .before .before .code-of .ensures) in
+    ap₂ (λ (b : List ℕ) (n : ℕ). take at old ++ (b ++ drop n (drop at old))) written size
+    ∙ put-back old at 512 block (block-length (a .total) (a .keys) (a .code .now) (a .k)) (omega arith)
 
 pub put-block-spec : {M : Type 1} → statement M
 put-block-spec =

@@ -13,7 +13,7 @@ use Rattle.blocks.proofs.writing.write_block.Statement.{statement}
 use Rattle.blocks.proofs.writing.write_block.Tie as tie
 
 returns : tie.Need-returns
-returns c is e =
+returns c =
     let sealing = c .before .before in
     let keyed = sealing .before .before .before .before in
     let totalled = keyed .before .before .before .before in
@@ -28,7 +28,7 @@ returns c is e =
     ∙ ap (λ (b : List ℕ). sets b 504 (bigEndian 2 (a .total))) (coded .put-code .ensures
     ∙ ap (λ (b : List ℕ). sets b 4 (padded code)) (counted .put-two-bytes2 .ensures
     ∙ ap (λ (b : List ℕ). sets b 2 (bigEndian 2 (length code / 20))) (numbered .put-two-bytes .ensures)))))
-    ∙ filled-sealed (a .block .now) code (a .k) (a .total) (a .keys) (omega arith) (omega arith) is e
+    ∙ filled-sealed (a .block .now) code (a .k) (a .total) (a .keys) (omega arith) (omega arith)
 
 pub write-block-spec : {M : Type 1} → statement M
 write-block-spec =

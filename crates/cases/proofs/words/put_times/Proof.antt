@@ -1,14 +1,39 @@
+-- As many copies are put as turns were taken.
+use Prim.Native.Nat.{ℕ, _+_, _-_, _≤_}
+use mathlib.Core.Path.{_≡_, refl, ap₂}
+use native.Mathlib.Omega.{arith}
 use lib.ListN.{length}
-use mathlib.Core.Path.{_≡_}
 use borrow.Author.Needs.{needs}
+use Rattle.cases.specs.Words.{spelled, copies, Put}
+use Rattle.cases.proofs.Rooms.{put-as, put-none, put-copy}
 use Rattle.cases.proofs.words.put_times.Statement.{statement}
 use Rattle.cases.proofs.words.put_times.Tie as tie
 
 abbrev Inv-loop : tie.InvT-loop
-Inv-loop s from to times room₀ at quotes end₀ left₀ room end left = length room ≡ length room₀
+Inv-loop s from to times room₀ at quotes end₀ left₀ room end left =
+    (length room ≡ length room₀) × (left ≤ times) × Put room₀ at (copies (times - left) (spelled (2 - quotes) s (from + quotes) to)) room end
 
 abbrev μ-loop : tie.MeasureT-loop
 μ-loop s from to times room₀ at quotes end₀ left₀ room end left = left
+
+loop-holds : tie.Need-loop-holds Inv-loop μ-loop
+loop-holds c =
+    let times = c .before .before .before .args .times in
+    let none : times - times ≡ 0 = omega arith in
+    (refl, omega arith, rw none (put-none _ _))
+
+one-more : tie.Need-loop-again Inv-loop μ-loop
+one-more c =
+    let l = c .before .before .before .before .before .loop in
+    let a = c .before .before .before .before .before .before .before .before .before .args in
+    (search needs, omega arith, put-copy (a .times) (l .left) (c .before .before .before .before .loop-test .taken) (l .inv .1) (l .inv .2) (c .before .before .put .ensures))
+
+all-put : tie.Need-returns Inv-loop μ-loop
+all-put c =
+    let l = c .before .loop in
+    let a = c .before .before .before .before .before .args in
+    let all : a .times - l .left ≡ a .times = omega arith in
+    put-as (ap₂ (λ (n q : ℕ). copies n (spelled (2 - q) (a .s .now) (a .from + q) (a .to))) all (c .before .before .quotes-at .ensures .0)) (l .inv .2)
 
 pub put-times-spec : {M : Type 1} → statement M
 put-times-spec =
@@ -17,12 +42,12 @@ put-times-spec =
     Inv-loop
     μ-loop
     (λ c κs. search needs)
-    (λ c. search needs)
+    loop-holds
     (λ c. search needs)
     (λ c. search needs)
     (λ c κs. search needs)
     (λ c. search needs)
     (λ c. search needs)
+    one-more
     (λ c. search needs)
-    (λ c. search needs)
-    (λ c. search needs))
+    all-put)

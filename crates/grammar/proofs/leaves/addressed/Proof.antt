@@ -11,7 +11,9 @@ use Rattle.tokens.specs.Tokenized.{tape}
 use Rattle.grammar.proofs.Outcomes.{found, absent, stuck-as, bad-as, same-out}
 use Rattle.grammar.proofs.Atoms.{took-leaf, addressed-here, addressed-not}
 use Rattle.grammar.proofs.Operands.{close-on}
-use Rattle.grammar.specs.Plan.{number}
+use Rattle.paper.specs.Tokens.{plain}
+use Rattle.paper.specs.Grammar as G
+use Rattle.grammar.specs.Places.{placeOn}
 use Rattle.number.specs.Values.{value}
 use borrow.Author.Needs.{needs}
 use Rattle.grammar.proofs.leaves.addressed.Statement.{statement}
@@ -44,7 +46,7 @@ returns-2 c =
     let T = tape (a .text .now) (a .kinds .now) (a .starts .now) (a .ends .now) limbs in
     let e : address k (slice (getD (a .starts .now) (a .at + 2) 0 + 1) (getD (a .ends .now) (a .at + 2) 0 - 1) (a .text .now)) ≡
     none = rw (← c .before .before .before .before .string-at .ensures)
-    (sym (c .before .before .before .read .ensures) ∙ rw (not-true (c .before .before .before .read .result .ok) (c .before .if1 .taken))) in
+    (sym (c .before .before .before .read .ensures .says) ∙ rw (not-true (c .before .before .before .read .result .ok) (c .before .if1 .taken))) in
     bad-as T (a .count) (a .at + 2) _ (c .place-at2 .result) (c .place-at2 .ensures) (f .here)
     (addressed-here T (a .count) (a .at + 2) address k _ f ∙ rw e)
 
@@ -56,10 +58,10 @@ returns-3 c =
     let a = c .before .before .before .before .before .before .before .before .before .before .before .before .before .before .before .before .before .before .args in
     let k = scheme (a .kind) in
     let m = c .before .before .before .before .before .before .before .before .read .result .number in
-    let e : address k (slice (getD (a .starts .now) (a .at + 2) 0 + 1) (getD (a .ends .now) (a .at + 2) 0 - 1) (a .text .now)) ≡ some (value m) = rw (← c .before .before .before .before .before .before .before .before .before .string-at .ensures) (sym (c .before .before .before .before .before .before .before .before .read .ensures) ∙ rw (not-false (c .before .before .before .before .before .before .before .before .read .result .ok) (c .before .before .before .before .before .before .if1 .left))) in
+    let e : address k (slice (getD (a .starts .now) (a .at + 2) 0 + 1) (getD (a .ends .now) (a .at + 2) 0 - 1) (a .text .now)) ≡ some (value m) = rw (← c .before .before .before .before .before .before .before .before .before .string-at .ensures) (sym (c .before .before .before .before .before .before .before .before .read .ensures .says) ∙ rw (not-false (c .before .before .before .before .before .before .before .before .read .result .ok) (c .before .before .before .before .before .before .if1 .left))) in
     λ limbs. let T = tape (a .text .now) (a .kinds .now) (a .starts .now) (a .ends .now) limbs in same-out T (a .count) (a .at) (a .free) _ _ _ _ (addressed-here T (a .count) (a .at + 2) address k _ f ∙ rw e) (c .close .result)
     (close-on T (a .count) (a .at) (a .at) (a .free) _ _ _ (a .free + 1) (a .at + 2 + 1)
-    (took-leaf (number (a .at) (value m)) (a .at + 2 + 1) (a .at + 2 + 1) refl refl refl (c .before .before .before .put-number .ensures) (omega arith) (omega (arith, f .here)))
+    (took-leaf (G.number (placeOn T (a .at)) (plain (value m))) (a .at + 2 + 1) (a .at + 2 + 1) refl refl refl (c .before .before .before .put-number .ensures) tt (omega arith) (omega (arith, f .here)))
     (omega arith) (c .close .result) (c .close .ensures))
 
 pub addressed-spec : {M : Type 1} → statement M

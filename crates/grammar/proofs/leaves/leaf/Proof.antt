@@ -4,7 +4,9 @@ use mathlib.Core.Logic.{⊎-elim, inl, inr}
 use native.Mathlib.Omega.{arith}
 use Rattle.tokens.specs.Tape.{limbsAt}
 use Rattle.tokens.specs.Tokenized.{tape}
-use Rattle.grammar.specs.Plan.{number}
+use Rattle.paper.specs.Tokens.{plain}
+use Rattle.paper.specs.Grammar as G
+use Rattle.grammar.specs.Places.{placeOn}
 use Rattle.grammar.proofs.Outcomes.{stuck-as, deep-as, took-as, same-out}
 use Rattle.grammar.proofs.Atoms.{took-leaf, leaf-word, leaf-numeral, leaf-deep, leaf-colons, leaf-none, leaf-end}
 use borrow.Author.Needs.{needs}
@@ -38,7 +40,7 @@ returns-3 c =
     let l : i < n = omega (arith, c .before .before .before .before .before .before .if1 .left) in
     let o = c .before .before .numeral .ensures in
     took-as T n i (a .from .node) _ _ _ (c .before .before .numeral .result) (o .0)
-    (took-leaf (number i (limbsAt (a .limbs .now) (i * 4))) (i + 1) (i + 1) refl (leaf-numeral T n i l (c .before .before .before .before .match .keys2)) refl (o .1) (omega arith) (omega arith))
+    (took-leaf (G.number (placeOn T i) (plain (limbsAt (a .limbs .now) (i * 4)))) (i + 1) (i + 1) refl (leaf-numeral T n i l (c .before .before .before .before .match .keys2)) refl (o .1) tt (omega arith) (omega arith))
 
 returns-4 : tie.Need-returns-4
 returns-4 c =

@@ -4,7 +4,8 @@ use mathlib.Core.Bool.{true, false}
 use native.Mathlib.Omega.{arith}
 use Rattle.paper.specs.Tokens.{bytes, sameBytes}
 use Rattle.tokens.specs.Tokenized.{tape}
-use Rattle.grammar.specs.Plan.{truth, wordOn}
+use Rattle.grammar.specs.Places.{placeOn, wordOn}
+use Rattle.paper.specs.Grammar as G
 use Rattle.grammar.proofs.Outcomes.{took-as, same-out}
 use Rattle.grammar.proofs.Atoms.{took-leaf, word-is}
 use borrow.Author.Needs.{needs}
@@ -21,7 +22,7 @@ returns : tie.Need-returns
 returns c =
     let a = c .before .before .before .before .before .before .before .before .before .before .before .before .before .args in
     let p = c .before .before .before .before .before .before .before .before .before .before .before .before .before .pre .leads in
-    let o = c .before .before .node .ensures in
+    let o = c .before .before .truth-node .ensures in
     λ limbs.
     let T = tape (a .text .now) (a .kinds .now) (a .starts .now) (a .ends .now) limbs in
     let w = word-is T (a .count) (a .at)
@@ -29,14 +30,14 @@ returns c =
     let e : sameBytes (wordOn T (a .at)) (bytes "true") ≡ true = rw
     (w, ← c .before .before .before .before .before .before .before .word-at .ensures)
     (sym (c .before .before .before .before .before .same-bytes .ensures) ∙ c .before .before .before .before .if1 .taken) in
-    took-as T (a .count) (a .at) (a .free) _ _ _ (c .before .before .node .result) (o .0)
-    (took-leaf (truth (a .at) true) (a .at + 1) (a .at + 1) refl (rw e) refl (o .1) (omega arith) (omega (arith, p .here)))
+    took-as T (a .count) (a .at) (a .free) _ _ _ (c .before .before .truth-node .result) (o .0)
+    (took-leaf (G.truth (placeOn T (a .at)) true) (a .at + 1) (a .at + 1) refl (rw e) refl (o .1) tt (omega arith) (omega (arith, p .here)))
 
 returns-2 : tie.Need-returns-2
 returns-2 c =
     let a = c .before .before .before .before .before .before .before .before .before .before .before .before .before .before .before .before .args in
     let p = c .before .before .before .before .before .before .before .before .before .before .before .before .before .before .before .before .pre .leads in
-    let o = c .before .before .node2 .ensures in
+    let o = c .before .before .truth-node2 .ensures in
     λ limbs.
     let T = tape (a .text .now) (a .kinds .now) (a .starts .now) (a .ends .now) limbs in
     let w = word-is T (a .count) (a .at)
@@ -47,8 +48,8 @@ returns-2 c =
     let f : sameBytes (wordOn T (a .at)) (bytes "false") ≡ true = rw
     (w, ← c .before .before .before .before .before .before .before .before .before .before .word-at .ensures)
     (sym (c .before .before .before .before .before .same-bytes2 .ensures) ∙ c .before .before .before .before .if2 .taken) in
-    took-as T (a .count) (a .at) (a .free) _ _ _ (c .before .before .node2 .result) (o .0)
-    (took-leaf (truth (a .at) false) (a .at + 1) (a .at + 1) refl (rw (e, f)) refl (o .1) (omega arith) (omega (arith, p .here)))
+    took-as T (a .count) (a .at) (a .free) _ _ _ (c .before .before .truth-node2 .result) (o .0)
+    (took-leaf (G.truth (placeOn T (a .at)) false) (a .at + 1) (a .at + 1) refl (rw (e, f)) refl (o .1) tt (omega arith) (omega (arith, p .here)))
 
 returns-3 : tie.Need-returns-3
 returns-3 c =
@@ -73,13 +74,11 @@ word-spec =
     word-at-requires
     (λ c. search needs)
     (λ c κs. search needs)
-    (λ c. search needs)
     (λ c κs. search needs)
     (λ c. search needs)
     returns
     (λ c. search needs)
     (λ c κs. search needs)
-    (λ c. search needs)
     (λ c κs. search needs)
     (λ c. search needs)
     returns-2

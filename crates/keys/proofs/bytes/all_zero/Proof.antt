@@ -1,32 +1,36 @@
-use Prim.Native.Nat.{_≤_, _-_}
-use mathlib.Core.Path.{_≡_, refl, sym, _∙_}
+-- `keys::bytes::all_zero` meets its contract. The invariant of its loop: what was gathered is 0 exactly where all bytes passed are zero.
+-- A turn gathers one byte more. The measure is how many bytes are left.
+use Prim.Native.Nat.{ℕ, _≤_, _-_}
+use mathlib.Core.Path.{_≡_, refl, ap, _∙_}
+use mathlib.Core.List.{List}
 use borrow.Author.Needs.{needs}
-use lib.ListN.{length, drop}
+use lib.Dec.{eqb}
+use lib.ListN.{length, take}
+use lib.Seq.{take-all}
 use Rattle.paper.specs.Keys.{allZero}
-use Rattle.keys.proofs.Steps.{zero-on, zero-stop, zero-end}
+use Rattle.keys.proofs.Steps.{gathers}
 use Rattle.keys.proofs.bytes.all_zero.Statement.{statement}
 use Rattle.keys.proofs.bytes.all_zero.Tie as tie
 
 abbrev Inv-loop : tie.InvT-loop
-Inv-loop s i₀ i = (i ≤ length s) × (allZero (drop i s) ≡ allZero s)
+Inv-loop s any₀ i₀ any i = (i ≤ length s) × (eqb any 0 ≡ allZero (take i s))
 
 abbrev μ-loop : tie.MeasureT-loop
-μ-loop s i₀ i = length s - i
+μ-loop s any₀ i₀ any i = length s - i
 
-returns : tie.Need-returns Inv-loop μ-loop
-returns c =
-    let l = c .before .before .before .loop in
-    sym (zero-stop _ (l .i) (search needs) (c .if1 .taken)) ∙ l .inv .1
+abbrev bytes : tie.At-loop Inv-loop μ-loop → List ℕ
+bytes l = l .before .args .s .now
 
 loop-again : tie.Need-loop-again Inv-loop μ-loop
 loop-again c =
-    let l = c .before .before .before .loop in
-    (search needs, sym (zero-on _ (l .i) (search needs) (c .if1 .left)) ∙ l .inv .1)
+    let l = c .before .before in
+    (search needs, gathers (bytes l) (l .loop .i) (l .loop .any) (search needs) (l .loop .inv .1))
 
-returns-2 : tie.Need-returns-2 Inv-loop μ-loop
-returns-2 c =
-    let l = c .before .loop in
-    sym (zero-end _ (l .i) (c .loop-test .left)) ∙ l .inv .1
+-- all bytes are passed
+returns : tie.Need-returns Inv-loop μ-loop
+returns c =
+    let l = c .before in
+    l .loop .inv .1 ∙ ap allZero (take-all (l .loop .i) (bytes l) (c .loop-test .left))
 
 pub all-zero-spec : {M : Type 1} → statement M
 all-zero-spec =
@@ -36,8 +40,7 @@ all-zero-spec =
     μ-loop
     (λ c. (search needs, refl))
     (λ c. search needs)
-    returns
     (λ c. search needs)
     (λ c. search needs)
     loop-again
-    returns-2)
+    returns)

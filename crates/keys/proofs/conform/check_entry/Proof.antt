@@ -1,20 +1,25 @@
-use Prim.Native.Nat.{_-_, _/_, _≤_, _<_, _^_}
+-- `keys::conform::check_entry` meets its contract. The invariant of its loop: the records of the first k keys pass, so that the
+-- tests from key k on decide. A turn settles the test of key k. The measure is how many keys are left.
+use Prim.Native.Nat.{ℕ, _-_, _≤_, _<_, _^_}
 use mathlib.Core.Path.{_≡_, sym, _∙_}
+use mathlib.Core.List.{List}
 use native.Mathlib.Nat.{sub-zero}
 use native.Mathlib.Omega.{arith}
 use denote.Ref.{now}
-use lib.ListN.{length}
 use borrow.Author.Needs.{needs}
-use Rattle.paper.specs.Keys.{keysFrom}
-use Rattle.paper.specs.Entry.{rulesFrom, priorityOf}
+use Rattle.paper.specs.Answers.{Answer, inTurn}
+use Rattle.paper.specs.Keys.{recordsIn}
+use Rattle.paper.specs.Entry.{priorityOf, ruleTest}
+use Rattle.paper.proofs.InTurn.{goes-on, stops, is-over}
+use Rattle.keys.specs.Says.{keysIn, conforms}
 use Rattle.keys.proofs.Steps.{refuted, granted}
-use Rattle.keys.proofs.Entering.{wrong-length, too-high, by-rules, rule-broken, rule-kept, all-kept}
+use Rattle.keys.proofs.Entering.{wrong-length, too-high, by-rules, rule-broken, rule-kept}
 use Rattle.keys.proofs.conform.check_entry.Statement.{statement}
 use Rattle.keys.proofs.conform.check_entry.Tie as tie
 
 abbrev Inv-loop : tie.InvT-loop
 Inv-loop list entry n size k₀ k =
-    (k ≤ n) × (rulesFrom entry k (keysFrom list k (n - k)) ≡ rulesFrom entry 0 (keysFrom list 0 n))
+    (k ≤ n) × (inTurn (ruleTest (keysIn list) entry) k (n - k) ≡ inTurn (ruleTest (keysIn list) entry) 0 n)
 
 abbrev μ-loop : tie.MeasureT-loop
 μ-loop list entry n size k₀ k = n - k
@@ -26,46 +31,62 @@ returns c =
 
 returns-2 : tie.Need-returns-2 Inv-loop μ-loop
 returns-2 c =
-    let a = c .before .before .before .before .before .before .args in
-    let p : 2 ^ 31 ≤ priorityOf (now (a .entry)) = omega (arith, c .before .before .read .ensures) in
-    sym (too-high (now (a .list)) (now (a .entry)) (search needs) p)
+    let r = c .before .before in
+    let a = r .before .before .before .before .args in
+    let high : 2 ^ 31 ≤ priorityOf (now (a .entry)) = omega (arith, r .read .ensures) in
+    sym (too-high (now (a .list)) (now (a .entry)) (search needs) high)
+
+-- at the loop: the priority as it was read, the list and the entry, the number of keys, and how many of them are passed
+
+abbrev read-of : tie.At-loop Inv-loop μ-loop → tie.After-read Inv-loop μ-loop
+read-of l = l .before .before .before
+
+abbrev list : tie.At-loop Inv-loop μ-loop → List ℕ
+list l = now (read-of l .before .before .before .before .args .list)
+
+abbrev entry : tie.At-loop Inv-loop μ-loop → List ℕ
+entry l = now (read-of l .before .before .before .before .args .entry)
+
+abbrev n : tie.At-loop Inv-loop μ-loop → ℕ
+n l = recordsIn (list l)
+
+abbrev k : tie.At-loop Inv-loop μ-loop → ℕ
+k l = l .loop .k
+
+abbrev test : tie.At-loop Inv-loop μ-loop → ℕ → Answer (Unit {0})
+test l = ruleTest (keysIn (list l)) (entry l)
+
+-- what the tests from key k on say is the answer
+decided : (l : tie.At-loop Inv-loop μ-loop) {a : Answer (Unit {0})} → inTurn (test l) (k l) (n l - k l) ≡ a
+    → conforms (keysIn (list l)) (entry l) ≡ a
+decided l e =
+    let low : priorityOf (entry l) < 2 ^ 31 = omega (arith, read-of l .read .ensures) in
+    by-rules (list l) (entry l) (search needs) low (sym (l .loop .inv .1) ∙ e)
+
+-- the loop that a look at a record stands in
+abbrev loop-of : tie.After-match-ok Inv-loop μ-loop → tie.At-loop Inv-loop μ-loop
+loop-of m = m .before .before .before .before
 
 returns-3 : tie.Need-returns-3 Inv-loop μ-loop
 returns-3 c =
     let m = c .before in
-    let l = m .before .before .before .before in
-    let r = l .before .before .before in
-    let a = r .before .before .before .before .args in
-    let list = now (a .list) in
-    let entry = now (a .entry) in
-    let p : priorityOf entry < 2 ^ 31 = omega (arith, r .read .ensures) in
-    sym (by-rules list entry (search needs) p
-    (sym (l .loop .inv .1) ∙ rule-broken list entry (length list / 80) (l .loop .k) (search needs)
-    (m .before .match-at .ensures .0) (m .before .before .read2 .result) (m .before .before .read2 .ensures .0)
-    (m .before .before .read2 .ensures .1) (refuted (m .match-ok .ensures) (c .if3 .taken))))
+    let l = loop-of m in
+    let key = m .before .before .read2 in
+    let bad = refuted (m .match-ok .ensures) (c .if3 .taken) in
+    sym (decided l (stops (test l) (n l) (k l) (search needs)
+    (rule-broken (list l) (entry l) (k l) (search needs) (m .before .match-at .ensures .0) (key .result) (key .ensures .0) (key .ensures .1) bad)))
 
 loop-again : tie.Need-loop-again Inv-loop μ-loop
 loop-again c =
     let m = c .before in
-    let l = m .before .before .before .before in
-    let a = l .before .before .before .before .before .before .before .args in
-    let list = now (a .list) in (
-      search needs,
-      sym (rule-kept list (now (a .entry)) (length list / 80) (l .loop .k) (search needs)
-          (m .before .match-at .ensures .0) (m .before .before .read2 .result) (m .before .before .read2 .ensures .0)
-          (m .before .before .read2 .ensures .1) (granted (m .match-ok .ensures) (c .if3 .left))) ∙ l .loop .inv .1,
-    )
+    let l = loop-of m in
+    let key = m .before .before .read2 in
+    let good = granted (m .match-ok .ensures) (c .if3 .left) in
+    let passes = rule-kept (list l) (entry l) (k l) (search needs) (m .before .match-at .ensures .0) (key .result) (key .ensures .0) (key .ensures .1) good in
+    (search needs, sym (goes-on (test l) (n l) (k l) (search needs) passes) ∙ l .loop .inv .1)
 
 returns-4 : tie.Need-returns-4 Inv-loop μ-loop
-returns-4 c =
-    let l = c .before in
-    let r = l .before .before .before in
-    let a = r .before .before .before .before .args in
-    let list = now (a .list) in
-    let entry = now (a .entry) in
-    let p : priorityOf entry < 2 ^ 31 = omega (arith, r .read .ensures) in
-    sym (by-rules list entry (search needs) p
-    (sym (l .loop .inv .1) ∙ all-kept list entry (length list / 80) (l .loop .k) (search needs)))
+returns-4 c = let l = c .before in sym (decided l (is-over (test l) (n l) (k l) (search needs)))
 
 pub check-entry-spec : {M : Type 1} → statement M
 check-entry-spec =

@@ -1,24 +1,76 @@
+-- Each arm of the match answers what the parts are read as, since its test is that they spell its instruction.
 use borrow.Author.Needs.{needs}
-use borrow.Author.Tests.{ne-eqb}
-use mathlib.Core.Path.{refl, _∙_}
-use mathlib.Core.Bool.{_&&_}
-use lib.Dec.{leb}
-use Rattle.paper.specs.Keys.{kindOf}
-use Rattle.machine.proofs.Decoded.{narrowed}
+use Prim.Native.Nat.{ℕ, _≤_}
+use native.Mathlib.Nat.{not-le-of-lt}
+use mathlib.Core.Path.{refl, sym, _∙_}
+use Rattle.number.specs.Values.{value}
+use Rattle.machine.specs.declared.decoding.Parts.{Parts}
+use Rattle.machine.specs.Decoded.{partsMeant}
+use Rattle.machine.proofs.Decoded.{reads-bool, reads-int, reads-key, reads-field, reads-convert, reads-compare, reads-none, past-six}
 use Rattle.machine.proofs.decoding.op_of.Statement.{statement}
 use Rattle.machine.proofs.decoding.op_of.Tie as tie
 
-returns-8 : tie.Need-returns-8
-returns-8 c =
-    let p = c .before .before .before .args .p in
-    let z = c .before .before .is-zero in
-    let right = z .result && leb (p .detail) 4 && leb 1 (p .operand) in
-    rw (c .before .match .keys8, ← z .ensures) (c .only8 .ensures _ _ refl ∙ narrowed right (kindOf (p .detail)) (p .operand))
+-- the parts, where the constant has been looked at
+abbrev given : tie.After-is-zero → Parts
+given c = c .before .args .p
 
-returns-13 : tie.Need-returns-13
-returns-13 c =
+abbrev detail : tie.After-is-zero → ℕ
+detail c = given c .detail
+
+abbrev operand : tie.After-is-zero → ℕ
+operand c = given c .operand
+
+abbrev constant : tie.After-is-zero → ℕ
+constant c = value (given c .constant)
+
+-- what each arm says, by the law of its operation
+
+bool-read : tie.Need-returns
+bool-read c =
+    let z = c .before .before in
+    rw (c .before .match .keys1) (c .only .ensures _ _ refl ∙ sym (reads-bool (detail z) (operand z) (constant z) (z .is-zero .result) (z .is-zero .ensures)))
+
+int-read : tie.Need-returns-2
+int-read c =
+    let z = c .before .before in
+    rw (c .before .match .keys2) (c .only2 .ensures _ _ refl ∙ sym (reads-int (detail z) (operand z) (constant z) (z .is-zero .result) (z .is-zero .ensures)))
+
+key-read : tie.Need-returns-3
+key-read c =
+    let z = c .before .before in
+    rw (c .before .match .keys3) (c .only3 .ensures _ _ refl ∙ sym (reads-key (detail z) (operand z) (constant z) (z .is-zero .result) (z .is-zero .ensures)))
+
+field-read : tie.Need-returns-4
+field-read c =
+    let z = c .before .before in
+    rw (c .before .match .keys4) (c .only4 .ensures _ _ refl ∙ sym (reads-field (detail z) (operand z) (constant z) (z .is-zero .result) (z .is-zero .ensures)))
+
+convert-read : tie.Need-returns-8
+convert-read c =
+    let z = c .before .before in
+    rw (c .before .match .keys8) (c .only8 .ensures _ _ refl ∙ sym (reads-convert (detail z) (operand z) (constant z) (z .is-zero .result) (z .is-zero .ensures)))
+
+compare-read : tie.Need-returns-9
+compare-read c =
+    let z = c .before .before in
+    rw (c .before .match .keys9) (c .only9 .ensures _ _ refl ∙ sym (reads-compare (detail z) (operand z) (constant z) (z .is-zero .result) (z .is-zero .ensures)))
+
+-- any other operation
+none-read : tie.Need-returns-13
+none-read c =
+    let p = given (c .before) in
     let r = c .match .rest in
-    rw (ne-eqb _ 1 (r .0 .0 .0 .0 .0 .0 .0 .0 .0 .0 .0 .1), ne-eqb _ 2 (r .0 .0 .0 .0 .0 .0 .0 .0 .0 .0 .1), ne-eqb _ 3 (r .0 .0 .0 .0 .0 .0 .0 .0 .0 .1), ne-eqb _ 4 (r .0 .0 .0 .0 .0 .0 .0 .0 .1), ne-eqb _ 5 (r .0 .0 .0 .0 .0 .0 .0 .1), ne-eqb _ 6 (r .0 .0 .0 .0 .0 .0 .1), ne-eqb _ 7 (r .0 .0 .0 .0 .0 .1), ne-eqb _ 8 (r .0 .0 .0 .0 .1), ne-eqb _ 9 (r .0 .0 .0 .1), ne-eqb _ 10 (r .0 .0 .1), ne-eqb _ 11 (r .0 .1), ne-eqb _ 12 (r .1))
+    let low = r .0 .0 .0 .0 .0 .0 in
+    sym
+    (reads-none (partsMeant p)
+    (λ one twelve.
+    let seven : 7 ≤ p .operation =
+    past-six (p .operation) 1 one (low .0 .0 .0 .0 .0 .1) (low .0 .0 .0 .0 .1) (low .0 .0 .0 .1) (low .0 .0 .1) (low .0 .1) (low .1)
+    in
+    let thirteen : 13 ≤ p .operation =
+    past-six (p .operation) 7 seven (r .0 .0 .0 .0 .0 .1) (r .0 .0 .0 .0 .1) (r .0 .0 .0 .1) (r .0 .0 .1) (r .0 .1) (r .1)
+    in
+    not-le-of-lt thirteen twelve))
 
 pub op-of-spec : {M : Type 1} → statement M
 op-of-spec =
@@ -38,16 +90,16 @@ op-of-spec =
     (λ c κs. search needs)
     (λ c κs. search needs)
     (λ c κs. search needs)
-    (λ c. rw (c .before .match .keys1, ← c .before .before .is-zero .ensures) (c .only .ensures _ _ refl))
-    (λ c. rw (c .before .match .keys2) (c .only2 .ensures _ _ refl))
-    (λ c. rw (c .before .match .keys3, ← c .before .before .is-zero .ensures) (c .only3 .ensures _ _ refl))
-    (λ c. rw (c .before .match .keys4, ← c .before .before .is-zero .ensures) (c .only4 .ensures _ _ refl))
+    bool-read
+    int-read
+    key-read
+    field-read
     (λ c. rw (c .before .match .keys5, ← c .before .before .is-zero .ensures) (c .only5 .ensures _ _ refl))
     (λ c. rw (c .before .match .keys6, ← c .before .before .is-zero .ensures) (c .only6 .ensures _ _ refl))
     (λ c. rw (c .before .match .keys7, ← c .before .before .is-zero .ensures) (c .only7 .ensures _ _ refl))
-    returns-8
-    (λ c. rw (c .before .match .keys9, ← c .before .before .is-zero .ensures) (c .only9 .ensures _ _ refl))
+    convert-read
+    compare-read
     (λ c. rw (c .before .match .keys10, ← c .before .before .is-zero .ensures) (c .only10 .ensures _ _ refl))
     (λ c. rw (c .before .match .keys11, ← c .before .before .is-zero .ensures) (c .only11 .ensures _ _ refl))
     (λ c. rw (c .before .match .keys12, ← c .before .before .is-zero .ensures) (c .only12 .ensures _ _ refl))
-    returns-13)
+    none-read)

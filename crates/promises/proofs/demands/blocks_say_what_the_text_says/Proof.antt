@@ -1,4 +1,4 @@
-use Rattle.paper.proofs.Demands as Theorem
+use Rattle.paper.proofs.DemandThree as Theorem
 use Rattle.promises.proofs.demands.blocks_say_what_the_text_says.Statement.{statement}
 use Rattle.promises.proofs.demands.blocks_say_what_the_text_says.Tie as tie
 

@@ -1,4 +1,4 @@
-use Rattle.paper.proofs.Demands as Theorem
+use Rattle.paper.proofs.DemandOne as Theorem
 use Rattle.promises.proofs.demands.every_input_is_answered.Statement.{statement}
 use Rattle.promises.proofs.demands.every_input_is_answered.Tie as tie
 

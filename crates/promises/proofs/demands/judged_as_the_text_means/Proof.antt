@@ -1,4 +1,4 @@
-use Rattle.paper.proofs.Demands as Theorem
+use Rattle.paper.proofs.DemandTwo as Theorem
 use Rattle.promises.proofs.demands.judged_as_the_text_means.Statement.{statement}
 use Rattle.promises.proofs.demands.judged_as_the_text_means.Tie as tie
 

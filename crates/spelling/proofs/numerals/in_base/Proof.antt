@@ -1,39 +1,46 @@
-use mathlib.Core.Path.{sym, _∙_}
+-- No digit, or a byte that is none, is no numeral; where all bytes are digits, what they count tells whether the number fits.
+use mathlib.Core.Path.{_≡_, sym, _∙_}
+use mathlib.Core.Bool.{true}
 use borrow.Author.Needs.{needs}
+use Rattle.paper.specs.Tokens.{isNumeral}
+use Rattle.spelling.specs.Numerals.{inBaseOf}
 use Rattle.spelling.proofs.Numbers.{digits-none, digits-short, digits-all}
 use Rattle.spelling.proofs.numerals.in_base.Statement.{statement}
 use Rattle.spelling.proofs.numerals.in_base.Tie as tie
 
-returns : tie.Need-returns
-returns c =
+no-digit : tie.Need-returns
+no-digit c =
     let a = c .before .before .before .before .args in
     let e = c .before .before .run-end in
-    rw (c .no-numeral .ensures) (digits-none (a .digits .now) (a .base) (e .result) (e .ensures) (c .before .if1 .taken))
+    let w = c .without-number .ensures in
+    rw (w .0) (digits-none (a .digits .now) (a .base) (e .result) (e .ensures) (c .before .if1 .taken), w .1)
 
-returns-2 : tie.Need-returns-2
-returns-2 c =
+another-byte : tie.Need-returns-2
+another-byte c =
     let a = c .before .before .before .before .before .args in
     let e = c .before .before .before .run-end in
-    rw (c .no-numeral2 .ensures) (digits-short (a .digits .now) (a .base) (e .result) (e .ensures) (c .before .if2 .taken))
+    let w = c .without-number2 .ensures in
+    rw (w .0) (digits-short (a .digits .now) (a .base) (e .result) (e .ensures) (c .before .if2 .taken), w .1)
 
-returns-3 : tie.Need-returns-3
-returns-3 c =
-    let a = c .before .before .before .before .before .before .before .args in
-    let e = c .before .before .before .before .before .run-end in
-    let n = c .before .before .count in (
-      digits-all (a .digits .now) (a .base) (e .result) (e .ensures) (c .before .before .before .before .if1 .left) (c .before .before .before .if2 .left),
-      sym (n .ensures .told) ∙ c .if3 .taken,
-      n .ensures .held (c .if3 .taken),
-    )
+-- where the count is made, every byte is a digit
+all-digits : (c : tie.After-count)
+    → isNumeral (inBaseOf (c .before .before .before .before .before .args .base) (c .before .before .before .before .before .args .digits .now)) ≡ true
+all-digits c =
+    let a = c .before .before .before .before .before .args in
+    let e = c .before .before .before .run-end in
+    digits-all (a .digits .now) (a .base) (e .result) (e .ensures) (c .before .before .if1 .left) (c .before .if2 .left)
 
-returns-4 : tie.Need-returns-4
-returns-4 c =
-    let a = c .before .before .before .before .before .before .before .args in
-    let e = c .before .before .before .before .before .run-end in
-    let n = c .before .before .count in (
-      digits-all (a .digits .now) (a .base) (e .result) (e .ensures) (c .before .before .before .before .if1 .left) (c .before .before .before .if2 .left),
-      sym (n .ensures .told) ∙ c .if3 .left,
-    )
+fits : tie.Need-returns-3
+fits c =
+    let n = c .before .before .count .ensures in
+    let h = c .before .if3 .taken in
+    (all-digits (c .before .before), sym (n .told) ∙ h, n .held h)
+
+too-large : tie.Need-returns-4
+too-large c =
+    let n = c .before .before .count .ensures in
+    let w = c .without-number3 .ensures in
+    rw (w .0) (all-digits (c .before .before), sym (n .told) ∙ c .before .if3 .left, w .1)
 
 pub in-base-spec : {M : Type 1} → statement M
 in-base-spec =
@@ -41,9 +48,10 @@ in-base-spec =
     (tie.spec
     (λ c κs. search needs)
     (λ c κs. search needs)
-    returns
+    no-digit
     (λ c κs. search needs)
-    returns-2
+    another-byte
     (λ c κs. search needs)
-    returns-3
-    returns-4)
+    fits
+    (λ c κs. search needs)
+    too-large)

@@ -1,14 +1,7 @@
-use mathlib.Core.Path.{_∙_}
-use Rattle.values.proofs.Rules.{negate-rule}
-use Rattle.values.specs.Typed.{tyMeant}
 use borrow.Author.Needs.{needs}
 use Rattle.values.proofs.operators.negate_type.Statement.{statement}
 use Rattle.values.proofs.operators.negate_type.Tie as tie
 
 pub negate-type-spec : {M : Type 1} → statement M
 negate-type-spec =
-    tie.close
-    (tie.spec
-    (λ c κs. search needs)
-    (λ c κs. search needs)
-    (λ c. c .when .ensures ∙ (rw (c .before .is-number .ensures) (negate-rule (tyMeant (c .before .before .args .a))))))
+    tie.close (tie.spec (λ c κs. search needs) (λ c κs. search needs) (λ c. rw (← c .before .is-number .ensures) (c .when .ensures)))

@@ -1,34 +1,29 @@
-use Rattle.reading.proofs.Planted.{room}
-use Rattle.valve.proofs.Texts.{too-long, not-read, is-read}
+-- `valve::read` meets its contract: refusal 1 of a text that is too long, else the answer of `read_tree`.
 use borrow.Author.Needs.{needs}
+use Rattle.valve.proofs.Texts.{too-long, not-read, is-read}
 use Rattle.valve.proofs.text.read.Statement.{statement}
 use Rattle.valve.proofs.text.read.Tie as tie
 
-returns : tie.Need-returns
-returns c =
-    too-long _ (c .if1 .taken)
+no-tree : tie.Need-returns-2
+no-tree c =
+    let at-read : tie.After-read-tree = c .before .before .before .before in
+    let t = at-read .read-tree in
+    not-read _ (at-read .before .before .if1 .left) _ (t .result) (t .ensures) (c .before .grown .given .1)
 
-returns-2 : tie.Need-returns-2
-returns-2 c =
-    let t = c .before .before .before .before .before .before .before .read-tree in
-    not-read _ (c .before .before .before .before .before .before .before .before .before .before .before .before .if1 .left) _ _ _ _ (t .result) (t .ensures) (c .before .grown .given .1)
-
-returns-3 : tie.Need-returns-3
-returns-3 c =
-    let t = c .before .before .before .before .before .before .before .read-tree in
-    is-read _ (c .before .before .before .before .before .before .before .before .before .before .before .before .if1 .left) _ _ _ _ (t .result) (t .ensures) (c .before .grown2 .given .1)
+a-tree : tie.Need-returns-3
+a-tree c =
+    let at-read : tie.After-read-tree = c .before .before .before .before in
+    let t = at-read .read-tree in
+    is-read _ (at-read .before .before .if1 .left) _ (t .result) (t .ensures) (c .before .grown2 .given .1)
 
 pub read-spec : {M : Type 1} → statement M
 read-spec =
     tie.close
     (tie.spec
-    returns
+    (λ c. too-long _ (c .if1 .taken))
+    (λ c. search needs)
+    (λ c κs. (c .before .if1 .left, search needs))
     (λ c. search needs)
     (λ c. search needs)
-    (λ c. search needs)
-    (λ c. search needs)
-    (λ c κs. (c .before .before .before .before .if1 .left, room))
-    (λ c. search needs)
-    (λ c. search needs)
-    returns-2
-    returns-3)
+    no-tree
+    a-tree)

@@ -1,28 +1,35 @@
+-- `valve::judge_by` meets its contract: the refusal of the entry, or what the tree is worth on it (`judged-by`).
 use native.Mathlib.Omega.{arith}
 use mathlib.Core.Path.{_∙_}
-use Rattle.valve.proofs.Verdicts.{conforming, not-entered, judged-by}
 use borrow.Author.Needs.{needs}
+use Rattle.valve.proofs.Verdicts.{conforming, not-entered, judged-by}
 use Rattle.valve.proofs.verdict.judge_by.Statement.{statement}
 use Rattle.valve.proofs.verdict.judge_by.Tie as tie
 
-value-at-requires : tie.Need-value-at-requires
-value-at-requires c κs =
-    let asked = c .before .before .before .before .before .before .before .before .before .before .pre in
-    let x = c .before .before .check-entry in
-    let few = asked .1 .1 .typed .few in
-    (asked .0, omega (arith, asked .1 .0, few), conforming _ _ _ _ _ _ _ _ (asked .1 .1) (x .result) (x .ensures) (c .enum-told .given .1))
+-- where the entry has been checked; and from there what the function was given
+abbrev start : tie.After-check-entry → tie.Start
+start c = c .before .before .before .before .before
 
-returns : tie.Need-returns
-returns c =
-    let x = c .before .before .before .check-entry in
-    not-entered _ _ _ _ _ _ _ _ (c .before .before .before .before .before .before .before .before .before .before .before .pre .1 .1) (x .result) (x .ensures) (c .before .entered .given .1)
+entry-conforms : tie.Need-value-at-requires
+entry-conforms c κs =
+    let at-entry = c .before .before in
+    let asked = start at-entry .pre in
+    let x = at-entry .check-entry in
+    (omega (arith, asked .0, asked .1 .typed .few), conforming _ _ _ _ _ (asked .1) (x .result) (x .ensures) (c .enum-told .given .1))
 
-returns-2 : tie.Need-returns-2
-returns-2 c =
-    let x = c .before .before .before .before .before .check-entry in
-    let e = c .before .before .before .enum-told .given .1 in
+entry-refused : tie.Need-returns
+entry-refused c =
+    let at-entry = c .before .before .before in
+    let x = at-entry .check-entry in
+    not-entered _ _ _ _ _ (start at-entry .pre .1) (x .result) (x .ensures) (c .before .entered .given .1)
+
+by-worth : tie.Need-returns-2
+by-worth c =
+    let told = c .before .before .before in
+    let at-entry = told .before .before in
+    let x = at-entry .check-entry in
     c .verdict .ensures
-    ∙ judged-by _ _ _ _ _ _ _ _ (c .before .before .before .before .before .before .before .before .before .before .before .before .before .pre .1 .1) (x .result) (x .ensures) e _ _ (c .before .before .value-at .ensures) (c .before .is-true .ensures)
+    ∙ judged-by _ _ _ _ _ (start at-entry .pre .1) (x .result) (x .ensures) (told .enum-told .given .1) _ _ (c .before .before .value-at .ensures) (c .before .is-true .ensures)
 
 pub judge-by-spec : {M : Type 1} → statement M
 judge-by-spec =
@@ -31,8 +38,8 @@ judge-by-spec =
     (λ c κs. search needs)
     (λ c. search needs)
     (λ c. search needs)
-    value-at-requires
+    entry-conforms
     (λ c κs. search needs)
     (λ c κs. search needs)
-    returns
-    returns-2)
+    entry-refused
+    by-worth)

@@ -1,65 +1,66 @@
+-- `valve::translate_by` meets its contract: the code fits its scratch (`few`), a buffer below the blocks needed is refused and kept
+-- (`refusing`), a larger one is filled with them (`filling`).
 use Prim.Native.Nat.{ℕ, _*_, _<_, _≤_}
 use native.Mathlib.Omega.{arith}
 use mathlib.Core.Path.{refl, subst}
 use lib.ListN.{length}
-use Rattle.valve.proofs.Translates.{few, count-few, refusing, filling}
 use borrow.Author.Needs.{needs}
+use Rattle.valve.proofs.Translates.{few, count-few, refusing, filling}
 use Rattle.valve.proofs.writing.translate_by.Statement.{statement}
 use Rattle.valve.proofs.writing.translate_by.Tie as tie
 
-slice-aggregate-write-code : tie.Need-slice-aggregate-write-code
-slice-aggregate-write-code c = search needs
+code-fits : tie.Need-write-code-requires
+code-fits c κs =
+    let s : tie.Start = c .before .before .before .before .before in
+    let asked = s .pre in
+    let f = few (s .args .text .now) (s .args .list .now) (s .args .nodes .now) (s .args .buffer .now) (s .args .root) (asked .1) in
+    (omega (arith, asked .0, asked .1 .typed .few), omega (arith, f))
 
-write-code-requires : tie.Need-write-code-requires
-write-code-requires c κs =
-    let asked = c .before .before .before .before .before .before .before .before .pre in
-    let f = few (c .before .before .before .before .before .before .before .before .args .text .now) (c .before .before .before .before .before .before .before .before .args .list .now) (c .before .before .before .before .before .before .before .before .args .kinds .now) (c .before .before .before .before .before .before .before .before .args .starts .now) (c .before .before .before .before .before .before .before .before .args .ends .now) (c .before .before .before .before .before .before .before .before .args .nodes .now) (c .before .before .before .before .before .before .before .before .args .buffer .now) (c .before .before .before .before .before .before .before .before .args .root) (c .before .before .before .before .before .before .before .before .pre .1 .1) in
-    (asked .0, omega (arith, asked .1 .0, asked .1 .1 .typed .few), omega (arith, f))
+-- where the code has been written; and from there what the function was given
+abbrev start : tie.After-write-code → tie.Start
+start c = c .before .before .before .before .before .before
 
-needed-requires : tie.Need-needed-requires
-needed-requires c κs = search needs
+written-few : (c : tie.After-write-code) → c .write-code .result ≤ 2050
+written-few c =
+    let s = start c in
+    count-few (s .args .text .now) (s .args .list .now) (s .args .nodes .now) (s .args .buffer .now) (s .args .root) (s .pre .1) _ _ (c .write-code .result) (c .write-code .ensures)
 
-mul-if1 : tie.Need-mul-if1
-mul-if1 c =
-    let w = c .before .before .write-code in
-    let f = count-few (c .before .before .before .before .before .before .before .before .before .before .before .args .text .now) (c .before .before .before .before .before .before .before .before .before .before .before .args .list .now) (c .before .before .before .before .before .before .before .before .before .before .before .args .kinds .now) (c .before .before .before .before .before .before .before .before .before .before .before .args .starts .now) (c .before .before .before .before .before .before .before .before .before .before .before .args .ends .now) (c .before .before .before .before .before .before .before .before .before .before .before .args .nodes .now) (c .before .before .before .before .before .before .before .before .before .before .before .args .buffer .now) (c .before .before .before .before .before .before .before .before .before .before .before .args .root) (c .before .before .before .before .before .before .before .before .before .before .before .pre .1 .1) _ _ (w .result) (w .ensures) in
-    omega (arith, f, c .needed .ensures)
+bytes-needed : tie.Need-mul-if1
+bytes-needed c = omega (arith, written-few (c .before .before), c .needed .ensures)
 
-returns : tie.Need-returns
-returns c =
-    let w = c .before .before .before .write-code in
-    refusing (c .before .before .before .before .before .before .before .before .before .before .before .before .args .text .now) (c .before .before .before .before .before .before .before .before .before .before .before .before .args .list .now) (c .before .before .before .before .before .before .before .before .before .before .before .before .args .kinds .now) (c .before .before .before .before .before .before .before .before .before .before .before .before .args .starts .now) (c .before .before .before .before .before .before .before .before .before .before .before .before .args .ends .now) (c .before .before .before .before .before .before .before .before .before .before .before .before .args .nodes .now) (c .before .before .before .before .before .before .before .before .before .before .before .before .args .buffer .now) (c .before .before .before .before .before .before .before .before .before .before .before .before .args .root) (c .before .before .before .before .before .before .before .before .before .before .before .before .pre .1 .1) _ _ (w .result) (w .ensures)
-    (subst (λ (m : ℕ). length (c .before .before .before .before .before .before .before .before .before .before .before .before .args .buffer .now) < 512 * m) (c .before .needed .ensures) (c .if1 .taken))
+too-small : tie.Need-returns
+too-small c =
+    let at-code = c .before .before .before in
+    let s = start at-code in
+    let w = at-code .write-code in
+    refusing (s .args .text .now) (s .args .list .now) (s .args .nodes .now) (s .args .buffer .now) (s .args .root) (s .pre .1) _ _ (w .result) (w .ensures)
+    (subst (λ (m : ℕ). length (s .args .buffer .now) < 512 * m) (c .before .needed .ensures) (c .if1 .taken))
 
-slice-aggregate-write-first : tie.Need-slice-aggregate-write-first
-slice-aggregate-write-first c = search needs
+large-enough : tie.Need-write-first-requires
+large-enough c κs =
+    let at-code = c .before .before .before .before .before in
+    let s = start at-code in
+    (omega (arith, written-few at-code, at-code .write-code .kept), subst (λ (m : ℕ). 512 * m ≤ length (s .args .buffer .now)) (c .before .before .before .needed .ensures) (search needs))
 
-write-first-requires : tie.Need-write-first-requires
-write-first-requires c κs =
-    let w = c .before .before .before .before .before .write-code in
-    let f = count-few (c .before .before .before .before .before .before .before .before .before .before .before .before .before .before .args .text .now) (c .before .before .before .before .before .before .before .before .before .before .before .before .before .before .args .list .now) (c .before .before .before .before .before .before .before .before .before .before .before .before .before .before .args .kinds .now) (c .before .before .before .before .before .before .before .before .before .before .before .before .before .before .args .starts .now) (c .before .before .before .before .before .before .before .before .before .before .before .before .before .before .args .ends .now) (c .before .before .before .before .before .before .before .before .before .before .before .before .before .before .args .nodes .now) (c .before .before .before .before .before .before .before .before .before .before .before .before .before .before .args .buffer .now) (c .before .before .before .before .before .before .before .before .before .before .before .before .before .before .args .root) (c .before .before .before .before .before .before .before .before .before .before .before .before .before .before .pre .1 .1) _ _ (w .result) (w .ensures) in
-    (omega (arith, f, w .kept), subst (λ (m : ℕ). 512 * m ≤ length (c .before .before .before .before .before .before .before .before .before .before .before .before .before .before .args .buffer .now)) (c .before .before .before .needed .ensures) (search needs))
-
-same-length : tie.Need-same-length
-same-length c = search needs
-
-returns-2 : tie.Need-returns-2
-returns-2 c =
-    let w = c .before .before .before .before .before .before .before .before .write-code in
-    filling (c .before .before .before .before .before .before .before .before .before .before .before .before .before .before .before .before .before .args .text .now) (c .before .before .before .before .before .before .before .before .before .before .before .before .before .before .before .before .before .args .list .now) (c .before .before .before .before .before .before .before .before .before .before .before .before .before .before .before .before .before .args .kinds .now) (c .before .before .before .before .before .before .before .before .before .before .before .before .before .before .before .before .before .args .starts .now) (c .before .before .before .before .before .before .before .before .before .before .before .before .before .before .before .before .before .args .ends .now) (c .before .before .before .before .before .before .before .before .before .before .before .before .before .before .before .before .before .args .nodes .now) (c .before .before .before .before .before .before .before .before .before .before .before .before .before .before .before .before .before .args .buffer .now) (c .before .before .before .before .before .before .before .before .before .before .before .before .before .before .before .before .before .args .root) (c .before .before .before .before .before .before .before .before .before .before .before .before .before .before .before .before .before .pre .1 .1) _ _ (w .result) (w .ensures) refl
-    (subst (λ (m : ℕ). 512 * m ≤ length (c .before .before .before .before .before .before .before .before .before .before .before .before .before .before .before .before .before .args .buffer .now)) (c .before .before .before .before .before .before .needed .ensures) (search needs))
+fills : tie.Need-returns-2
+fills c =
+    let at-code = c .before .before .before .before .before .before .before .before in
+    let s = start at-code in
+    let w = at-code .write-code in
+    filling (s .args .text .now) (s .args .list .now) (s .args .nodes .now) (s .args .buffer .now) (s .args .root) (s .pre .1) _ _ (w .result) (w .ensures) refl
+    (subst (λ (m : ℕ). 512 * m ≤ length (s .args .buffer .now)) (c .before .before .before .before .before .before .needed .ensures) (search needs))
     _ (c .before .before .write-first .ensures)
 
 pub translate-by-spec : {M : Type 1} → statement M
 translate-by-spec =
     tie.close
     (tie.spec
-    slice-aggregate-write-code
-    write-code-requires
-    needed-requires
-    mul-if1
-    returns
-    slice-aggregate-write-first
-    write-first-requires
-    same-length
-    returns-2)
+    (λ c. search needs)
+    code-fits
+    (λ c κs. search needs)
+    bytes-needed
+    too-small
+    (λ c. search needs)
+    large-enough
+    (λ c. search needs)
+    fills)

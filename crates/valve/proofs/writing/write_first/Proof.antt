@@ -1,9 +1,12 @@
 use Prim.Native.Nat.{ℕ, _*_, _/_}
 use native.Mathlib.Omega.{arith}
 use mathlib.Core.Path.{_≡_, sym, ap, _∙_}
+use mathlib.Core.List.{List}
 use lib.ListN.{length, take}
 use lib.Seq.{length-take-le}
 use borrow.Author.Needs.{needs}
+use Rattle.paper.specs.Calls.{over}
+use Rattle.blocks.proofs.Rows.{paper-blocks}
 use Rattle.valve.proofs.writing.write_first.Statement.{statement}
 use Rattle.valve.proofs.writing.write_first.Tie as tie
 
@@ -25,8 +28,12 @@ write-blocks-requires c κs =
 same-length : tie.Need-same-length
 same-length c = search needs
 
+-- of the bytes of instructions, the blocks written are the paper's
 returns : tie.Need-returns
-returns c = search needs
+returns c is e =
+    let a = c .before .before .before .before .before .before .before .args in
+    let same = paper-blocks (a .keys) (take (a .n * 20) (a .code .now)) is e in
+    c .before .before .write-blocks .ensures ∙ ap (λ (b : List ℕ). over b (a .buffer .now)) same
 
 pub write-first-spec : {M : Type 1} → statement M
 write-first-spec =

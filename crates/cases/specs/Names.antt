@@ -1,0 +1,28 @@
+-- The commands, by the places of their names in a list.
+use Prim.Native.Nat.{ℕ, suc}
+use mathlib.Core.Bool.{cond}
+use mathlib.Core.List.{List, [], _∷_}
+use lib.Dec.{ltb}
+use Rattle.paper.specs.Tokens.{bytes, sameBytes}
+use Rattle.cases.specs.Places.{partOf, nameEnd}
+
+-- one byte more before the first word
+abbrev pub longer : ℕ → List (List ℕ) → List (List ℕ)
+longer b [] = (b ∷ []) ∷ []
+longer b (w ∷ ws) = (b ∷ w) ∷ ws
+
+-- the words between blanks
+abbrev pub wordsOf : List ℕ → List (List ℕ)
+wordsOf [] = []
+wordsOf (b ∷ s) = cond (ltb 32 b) (longer b (wordsOf s)) ([] ∷ wordsOf s)
+
+-- which of some words a word is, counted from 0; their count for none of them
+abbrev pub placeIn : List (List ℕ) → List ℕ → ℕ
+placeIn [] word = 0
+placeIn (w ∷ ws) word = cond (sameBytes w word) 0 (suc (placeIn ws word))
+
+-- the command of the line at an offset
+abbrev pub commandAt : List ℕ → ℕ → ℕ
+commandAt file at =
+    placeIn (wordsOf (bytes "text list entry room title change code blocks translate read check judge load run"))
+    (partOf file at (nameEnd file at))

@@ -1,0 +1,110 @@
+-- Demand 1: programs that keep the promises answer every input as the table of 01 says, and a refusal changes nothing lent.
+use Prim.Native.Nat.{ℕ}
+use mathlib.Core.Path.{_≡_, refl, sym, ap, subst, _∙_}
+use mathlib.Core.List.{List, [], _∷_, List·Memᴰ, List·Memᴰ·head, List·Memᴰ·tail}
+use Rattle.paper.specs.declared.Reading.{Reading}
+use Rattle.paper.specs.declared.Checking.{Checking}
+use Rattle.paper.specs.declared.Judgement.{Judgement}
+use Rattle.paper.specs.declared.Loading.{Loading}
+use Rattle.paper.specs.Answers.{Input, inText, inList, inEntry, inBlocks, inBuffer, Answer, inputOf, offsetOf, readingSays, checkingSays, judgementSays, translationSays, loadingSays}
+use Rattle.paper.specs.Calls.{readAnswer, checkAnswer, judgeAnswer, translateAnswer, loadAnswer, runAnswer}
+use Rattle.paper.specs.Table.{ByTable, Stage, sizeStages, listStages, treeStages, entryStages, blockStages, bufferStages, checkStages, readStages, judgeStages, translateStages, loadStages, runStages}
+use Rattle.paper.specs.Promised.{ReadPromised, CheckPromised, JudgePromised, TranslateResult, TranslatePromised, LoadPromised, RunPromised}
+use Rattle.paper.specs.Demands.{Lent, lent, Refusal, Answered, ReadAnswered, CheckAnswered, JudgeAnswered, TranslateAnswered, LoadAnswered, RunAnswered, DemandOneMet}
+use Rattle.paper.proofs.Carried.{refused-unchanged}
+use Rattle.paper.proofs.Located.{AllLocated, LiesIn, located-then, decided-lies, size-located, list-located, tree-located, check-located, buffer-located, block-located, entry-located}
+use Rattle.paper.proofs.Table.{table-holds}
+
+lies-refusal : (inputs : List Lent) (n : ℕ) (i : Input) (at : ℕ) → LiesIn inputs n i at → Refusal inputs n i at
+lies-refusal inputs n i at l =
+    record {
+      low = l .bounded .low;
+      high = l .bounded .high;
+      lies = lent i (l .bytes);
+      among = l .among;
+      named = refl;
+      inside = l .bounded .inside;
+    }
+
+-- an answer by the table, and one that says the same
+answered-by : {A : Type 0} (inputs : List Lent) (a said : Answer A) (ss : List Stage) → ByTable a ss → AllLocated inputs ss → said ≡ a
+    → Answered inputs ss said
+answered-by inputs a said ss table located e =
+    subst (Answered inputs ss) (sym e)
+    (record {
+      table = table;
+      inside = λ n i at r. lies-refusal inputs n i at (decided-lies inputs ss n i at located (table .refuses n i at .0 r));
+    })
+
+here : {x : Lent} {xs : List Lent} → List·Memᴰ x (x ∷ xs)
+here = List·Memᴰ·head refl
+
+second : {x y : Lent} {xs : List Lent} → List·Memᴰ x (y ∷ x ∷ xs)
+second = List·Memᴰ·tail here
+
+third : {x y z : Lent} {xs : List Lent} → List·Memᴰ x (y ∷ z ∷ x ∷ xs)
+third = List·Memᴰ·tail second
+
+pub read-answered : (text : List ℕ) (r : Reading) → ReadPromised text r → ReadAnswered text r
+read-answered text r promised =
+    let inputs = lent inText text ∷ [] in
+    answered-by inputs (readAnswer text) (readingSays r) (readStages text) (table-holds .read text)
+    (located-then inputs (sizeStages text) (treeStages text) (size-located inputs text here) (λ _. tree-located inputs text here)) promised
+
+pub check-answered : (text list : List ℕ) (r : Checking) → CheckPromised text list r → CheckAnswered text list r
+check-answered text list r promised =
+    let inputs = lent inText text ∷ lent inList list ∷ [] in
+    answered-by inputs (checkAnswer text list) (checkingSays r) (checkStages text list) (table-holds .check text list)
+    (check-located inputs text list here second) promised
+
+pub judge-answered : (text list entry : List ℕ) (r : Judgement) → JudgePromised text list entry r → JudgeAnswered text list entry r
+judge-answered text list entry r promised =
+    let inputs = lent inText text ∷ lent inList list ∷ lent inEntry entry ∷ [] in
+    answered-by inputs (judgeAnswer text list entry) (judgementSays r) (judgeStages text list entry) (table-holds .judge text list entry)
+    (located-then inputs (checkStages text list) (entryStages list entry) (check-located inputs text list here second)
+    (λ _. entry-located inputs list entry third)) promised
+
+pub translate-answered : (text list buffer : List ℕ) (r : TranslateResult) → TranslatePromised text list buffer r
+    → TranslateAnswered text list buffer r
+translate-answered text list buffer r promised =
+    let inputs = lent inText text ∷ lent inList list ∷ lent inBuffer buffer ∷ [] in
+    record {
+      says =
+          answered-by inputs (translateAnswer text list buffer) (translationSays (r .answer)) (translateStages text list buffer)
+          (table-holds .translate text list buffer)
+          (located-then inputs (checkStages text list) (bufferStages text list buffer) (check-located inputs text list here second)
+          (λ _. buffer-located inputs text list buffer third)) (promised .says);
+      unchanged = λ n at e.
+          promised .holds
+          ∙ refused-unchanged text list buffer n (inputOf at) (offsetOf at) (sym (promised .says) ∙ ap translationSays e);
+    }
+
+load-located : (inputs : List Lent) (list blocks : List ℕ) → List·Memᴰ (lent inList list) inputs → List·Memᴰ (lent inBlocks blocks) inputs
+    → AllLocated inputs (loadStages list blocks)
+load-located inputs list blocks l s =
+    located-then inputs (listStages list) (blockStages list blocks) (list-located inputs list l) (λ _. block-located inputs list blocks s)
+
+pub load-answered : (list blocks : List ℕ) (r : Loading) → LoadPromised list blocks r → LoadAnswered list blocks r
+load-answered list blocks r promised =
+    let inputs = lent inList list ∷ lent inBlocks blocks ∷ [] in
+    answered-by inputs (loadAnswer list blocks) (loadingSays r) (loadStages list blocks) (table-holds .load list blocks)
+    (load-located inputs list blocks here second) promised
+
+pub run-answered : (list blocks entry : List ℕ) (r : Judgement) → RunPromised list blocks entry r → RunAnswered list blocks entry r
+run-answered list blocks entry r promised =
+    let inputs = lent inList list ∷ lent inBlocks blocks ∷ lent inEntry entry ∷ [] in
+    answered-by inputs (runAnswer list blocks entry) (judgementSays r) (runStages list blocks entry) (table-holds .run list blocks entry)
+    (located-then inputs (loadStages list blocks) (entryStages list entry) (load-located inputs list blocks here second)
+    (λ _. entry-located inputs list entry third)) promised
+
+pub demand-one-met : DemandOneMet
+demand-one-met p kept =
+    record {
+      read = λ text t. read-answered text (p .read text) (kept .read text t);
+      check = λ text list t l. check-answered text list (p .check text list) (kept .check text list t l);
+      judge = λ text list entry t l e. judge-answered text list entry (p .judge text list entry) (kept .judge text list entry t l e);
+      translate = λ text list buffer t l b.
+          translate-answered text list buffer (p .translate text list buffer) (kept .translate text list buffer t l b);
+      load = λ list blocks l s. load-answered list blocks (p .load list blocks) (kept .load list blocks l s);
+      run = λ list blocks entry l s e. run-answered list blocks entry (p .run list blocks entry) (kept .run list blocks entry l s e);
+    }

@@ -1,0 +1,86 @@
+-- Demand 3: with programs that keep the promises, the blocks of a text load and say what the text says, and all blocks that load run.
+use Prim.Native.Nat.{ℕ, _*_}
+use mathlib.Core.Path.{_≡_, sym, ap, _∙_}
+use mathlib.Core.List.{List}
+use lib.ListN.{length}
+use borrow.Author.Tests.{le-leb, lt-leb}
+use Rattle.paper.specs.declared.Place.the-variants as P
+use Rattle.paper.specs.declared.Checking.the-variants as C
+use Rattle.paper.specs.declared.Translation.the-variants as T
+use Rattle.paper.specs.declared.Loading.the-variants as L
+use Rattle.paper.specs.Answers.{ok, checkingSays, translationSays, loadingSays}
+use Rattle.paper.specs.Keys.{Key, keys}
+use Rattle.paper.specs.Entry.{Entry, entryOf}
+use Rattle.paper.specs.Blocks.{blockSize, blocksNeeded}
+use Rattle.paper.specs.Calls.{translateBuffer}
+use Rattle.paper.specs.Carried.{Filled}
+use Rattle.paper.specs.Promised.{verdict, Bytes, Programs, Kept}
+use Rattle.paper.specs.Demands.{Translates, blocksWritten, Carried, Judged, DemandThree, DemandThreeMet}
+use Rattle.paper.proofs.Carried.{translation-carries, checked-count, loaded-answers}
+use Rattle.paper.proofs.Promised.{verdict-says, judgement-same, translation-same, loading-same}
+use Rattle.paper.proofs.ByteLists.{take-bytes, buffer-bytes}
+
+module _ (p : Programs) (kept : Kept p) where
+  translates : (text list : List ℕ) → Bytes text → Bytes list → p .check text list ≡ C.Passed → Translates p text list
+  translates text list t l e =
+      let (n, few, answer) = checked-count text list (sym (kept .check text list t l) ∙ ap checkingSays e) in
+      record {
+        count = n;
+        few = few;
+        enough = λ buffer b room.
+            translation-same (p .translate text list buffer .answer) (T.Written n)
+            (kept .translate text list buffer t l b .says ∙ answer buffer ∙ rw (le-leb (blockSize * blocksNeeded n) (length buffer) room));
+        short = λ buffer b little.
+            translation-same (p .translate text list buffer .answer) (T.Refused 15 (P.Buffer (length buffer)))
+            (kept .translate text list buffer t l b .says ∙ answer buffer ∙ rw (lt-leb (blockSize * blocksNeeded n) (length buffer) little));
+      }
+
+  bytes-there : (text list buffer : List ℕ) → Bytes text → Bytes list → Bytes buffer → Bytes (p .translate text list buffer .buffer)
+  bytes-there text list buffer t l b = rw (kept .translate text list buffer t l b .holds) (buffer-bytes text list buffer b)
+
+  module _ (text list buffer : List ℕ) (t : Bytes text) (l : Bytes list) (b : Bytes buffer) (n : ℕ)
+      (e : p .translate text list buffer .answer ≡ T.Written n) where
+    abbrev blocks : List ℕ
+    blocks = blocksWritten n (translateBuffer text list buffer)
+
+    blocks-there : Bytes blocks
+    blocks-there = take-bytes (blockSize * blocksNeeded n) (translateBuffer text list buffer) (buffer-bytes text list buffer b)
+
+    filled : Filled text list buffer n
+    filled = translation-carries text list buffer n (sym (kept .translate text list buffer t l b .says) ∙ ap translationSays e)
+
+    abbrev exit : p .translate text list buffer .buffer ≡ translateBuffer text list buffer
+    exit = kept .translate text list buffer t l b .holds
+
+    carried : Carried buffer (p .translate text list buffer .buffer) n (p .load list (blocksWritten n (p .translate text list buffer .buffer)))
+    carried =
+        record {
+          room = filled .room;
+          loads = rw exit (loading-same (p .load list blocks) (L.Loaded n) (kept .load list blocks l blocks-there ∙ filled .carries .loads));
+          later = rw exit (filled .later);
+        }
+
+    runs-alike : (entry : List ℕ) → Bytes entry
+        → p .run list (blocksWritten n (p .translate text list buffer .buffer)) entry ≡ p .judge text list entry
+    runs-alike entry en =
+        rw exit
+        (judgement-same (p .run list blocks entry) (p .judge text list entry)
+        (kept .run list blocks entry l blocks-there en ∙ filled .carries .runs entry ∙ sym (kept .judge text list entry t l en)))
+
+  answered : (list blocks : List ℕ) → Bytes list → Bytes blocks → (n : ℕ) → p .load list blocks ≡ L.Loaded n
+      → (ks : List Key) → keys list ≡ ok ks → (entry : List ℕ) → Bytes entry → (e : Entry) → entryOf ks entry ≡ ok e
+      → Judged p list blocks entry ks e n
+  answered list blocks l s n h ks listed entry en e conforms =
+      let a = loaded-answers list blocks entry ks e n (sym (kept .load list blocks l s) ∙ ap loadingSays h) listed conforms in
+      record {
+        goes = a .run;
+        answer =
+            judgement-same (p .run list blocks entry) (verdict (a .run .bit))
+            (kept .run list blocks entry l s en ∙ a .answer ∙ sym (verdict-says (a .run .bit)));
+      }
+
+  demands : DemandThree p
+  demands = record { translates = translates; bytes = bytes-there; carries = carried; runs-alike = runs-alike; runs = answered }
+
+pub demand-three-met : DemandThreeMet
+demand-three-met = demands

@@ -1,0 +1,269 @@
+-- Demand 2: programs that keep the promises refuse texts and entries exactly as the documents say, and else accept exactly when the
+-- restriction holds.
+use Prim.Native.Nat.{ℕ, _+_, _*_, _≤_}
+use mathlib.Core.Path.{_≡_, refl, sym, ap, subst, _∙_}
+use mathlib.Core.Logic.{_↔_}
+use mathlib.Core.Bool.{Bool, true, false}
+use mathlib.Core.Option.{Option, some}
+use mathlib.Core.List.{List, [], _∷_}
+use lib.ListN.{length}
+use lib.Dec.{leb}
+use borrow.Author.Tests.{leb-true, le-leb}
+use Rattle.paper.specs.declared.Reading.{Reading}
+use Rattle.paper.specs.declared.Reading.the-variants as R
+use Rattle.paper.specs.declared.Checking.{Checking}
+use Rattle.paper.specs.declared.Checking.the-variants as C
+use Rattle.paper.specs.declared.Judgement.{Judgement}
+use Rattle.paper.specs.declared.Judgement.the-variants as J
+use Rattle.paper.specs.declared.Translation.the-variants as T
+use Rattle.paper.specs.Answers.{inText, Answer, ok, refused, _>>=_, readingSays, checkingSays, judgementSays, translationSays}
+use Rattle.paper.specs.Tokens.{tokens, mostText}
+use Rattle.paper.specs.Keys.{keys}
+use Rattle.paper.specs.Entry.{entryOf}
+use Rattle.paper.specs.Grammar.{Tree, nodes, parsed}
+use Rattle.paper.specs.Types.{typeOf, rootType, typed}
+use Rattle.paper.specs.Meaning.{Value, truth, valueOf, isTrue}
+use Rattle.paper.specs.Code.{Walk, ends}
+use Rattle.paper.specs.Blocks.{blockSize, blocksNeeded}
+use Rattle.paper.specs.Loading.{program, loaded, valuesAlong, leftTrue}
+use Rattle.paper.specs.Translating.{codeOf, conversions}
+use Rattle.paper.specs.Calls.{sized, tree, Restriction, restriction, readAnswer, checkAnswer, judgeAnswer, runAnswer}
+use Rattle.paper.specs.Promised.{verdict, ReadPromised, CheckPromised, JudgePromised, TranslateResult, TranslatePromised, RunPromised}
+use Rattle.paper.specs.Demands.{WellFormed, Checkable, Judgeable, Runnable, Refuses, ReadRight, CheckedRight, JudgedRight, TranslatedRight, RanRight, DemandTwoMet}
+use Rattle.paper.proofs.Stages.{never-ok, ok-same, bind-ok, require-ok}
+use Rattle.paper.proofs.Refusals.{read-is-valid}
+use Rattle.paper.proofs.Sound.{conforming, loaded-runs}
+use Rattle.paper.proofs.Meant.{judged, bool-root}
+use Rattle.paper.proofs.Carried.{passing, counted, translating, translates, translated}
+use Rattle.paper.proofs.Promised.{verdict-says, reading-same, checking-same, judgement-same, translation-same}
+use Rattle.paper.proofs.TokenFaults.{tokens-are-cut}
+
+-- a text that passes, in the words of the grammar
+
+module _ (text : List ℕ) where
+  two-stages : tree text ≡ (tokens text >>= parsed (length text))
+  unfolding tree
+  two-stages = refl
+
+  formed-tree : (root : Tree) → WellFormed text root → tree text ≡ ok root
+  formed-tree root f =
+      two-stages ∙ rw (tokens-are-cut text (f .words) .1 (f .cut)) (read-is-valid (length text) (f .words) root .1 (f .sentence))
+
+  tree-formed : (root : Tree) → length text ≤ mostText → tree text ≡ ok root → WellFormed text root
+  tree-formed root short e =
+      let (ts, cut, read) = bind-ok (tokens text) (parsed (length text)) root (sym two-stages ∙ e) in
+      record { short = short; words = ts; cut = tokens-are-cut text ts .0 cut; sentence = read-is-valid (length text) ts root .0 read }
+
+  -- it is read
+  formed-answer : (root : Tree) → WellFormed text root → readAnswer text ≡ ok (nodes root)
+  unfolding readAnswer
+  formed-answer root f = rw (le-leb (length text) mostText (f .short), formed-tree root f)
+
+  answer-formed : (n : ℕ) → readAnswer text ≡ ok n → (root : Tree) × WellFormed text root × (nodes root ≡ n)
+  unfolding readAnswer
+  answer-formed n e =
+      let (u, short, rest) = bind-ok (sized text) (λ _. tree text >>= λ t. ok (nodes t)) n e in
+      let few = require-ok (leb (length text) mostText) 1 inText mostText u short in
+      let (root, read, same) = bind-ok (tree text) (λ t. ok (nodes t)) n rest in
+      (root, tree-formed root (leb-true (length text) mostText few) read, ok-same (nodes root) n same)
+
+-- with a list, it passes a check: this is its restriction
+
+module _ (text list : List ℕ) where
+  abbrev pub restricts : Checkable text list → Restriction
+  restricts c = record { keys = c .ks; root = c .root }
+
+  pub checkable-restriction : (c : Checkable text list) → restriction text list ≡ ok (restricts c)
+  unfolding restriction typed
+  checkable-restriction c =
+      rw (le-leb (length text) mostText (c .formed .short), c .listed, formed-tree text (c .root) (c .formed), c .typed)
+
+  restriction-checkable : (r : Restriction) → restriction text list ≡ ok r → (c : Checkable text list) × (restricts c ≡ r)
+  unfolding restriction typed
+  restriction-checkable r passed =
+      let (u, short, _) =
+      bind-ok (sized text) (λ _. keys list >>= λ ks. tree text >>= λ t. typed ks t >>= λ _. ok (record { keys = ks; root = t })) r passed
+      in
+      let few = require-ok (leb (length text) mostText) 1 inText mostText u short in
+      let known = passing text list r passed in
+      let (a, has, root) = bind-ok (typeOf (r .keys) (r .root)) (rootType (r .root)) tt (known .checked) in (
+        record {
+          root = r .root;
+          formed = tree-formed text (r .root) (leb-true (length text) mostText few) (known .read);
+          ks = r .keys;
+          listed = known .listed;
+          typed = has ∙ ap (λ x. ok x) (bool-root (r .root) a tt root);
+        },
+        refl,
+      )
+
+  checkable-answer : Checkable text list → checkAnswer text list ≡ ok tt
+  unfolding checkAnswer
+  checkable-answer c = rw (checkable-restriction c)
+
+  answer-checkable : checkAnswer text list ≡ ok tt → Checkable text list
+  unfolding checkAnswer
+  answer-checkable e =
+      let (r, passed, _) = bind-ok (restriction text list) (λ _. ok tt) tt e in
+      restriction-checkable r passed .0
+
+-- with an entry, it is judged
+
+module _ (text list entry : List ℕ) where
+  abbrev pub worth : Judgeable text list entry → Option Value
+  worth j = valueOf (j .passes .ks) (j .on) (j .passes .root)
+
+  pub judgeable-answer : (j : Judgeable text list entry) → judgeAnswer text list entry ≡ ok (isTrue (worth j))
+  unfolding judgeAnswer
+  judgeable-answer j = rw (checkable-restriction text list (j .passes), j .conforms)
+
+  pub answer-judgeable : (b : Bool) → judgeAnswer text list entry ≡ ok b → Judgeable text list entry
+  unfolding judgeAnswer
+  answer-judgeable b e =
+      let (r, passed, rest) =
+      bind-ok (restriction text list) (λ r. entryOf (r .keys) entry >>= λ e. ok (isTrue (valueOf (r .keys) e (r .root)))) b e
+      in
+      let (on, conforms, _) = bind-ok (entryOf (r .keys) entry) (λ e. ok (isTrue (valueOf (r .keys) e (r .root)))) b rest in
+      let (c, same) = restriction-checkable text list r passed in
+      record { passes = c; on = on; conforms = ap (λ (q : Restriction). entryOf (q .keys) entry) same ∙ conforms }
+
+  -- a text that passes has a truth value
+  pub judgeable-truth : (j : Judgeable text list entry) → (b : Bool) × (worth j ≡ some (truth b))
+  unfolding typed
+  judgeable-truth j =
+      judged (j .passes .ks) (j .on) (conforming (j .passes .ks) entry (j .on) (j .conforms)) (j .passes .root)
+      (ap (λ a. a >>= rootType (j .passes .root)) (j .passes .typed))
+
+-- blocks that load, with an entry, are run
+
+module _ (list blocks entry : List ℕ) where
+  abbrev left : Runnable list blocks entry → Walk Value
+  left j = valuesAlong (j .ks) (j .on) (program blocks)
+
+  runnable-answer : (j : Runnable list blocks entry) → runAnswer list blocks entry ≡ ok (leftTrue (left j))
+  unfolding runAnswer
+  runnable-answer j = rw (j .listed, j .loads, j .conforms)
+
+  answer-runnable : (b : Bool) → runAnswer list blocks entry ≡ ok b → Runnable list blocks entry
+  unfolding runAnswer
+  answer-runnable b e =
+      let (ks, listed, rest) =
+      bind-ok (keys list) (λ ks. loaded ks blocks >>= λ _. entryOf ks entry >>= λ e. ok (leftTrue (valuesAlong ks e (program blocks)))) b e
+      in
+      let (n, loads, last) =
+      bind-ok (loaded ks blocks) (λ _. entryOf ks entry >>= λ e. ok (leftTrue (valuesAlong ks e (program blocks)))) b rest
+      in
+      let (on, conforms, _) = bind-ok (entryOf ks entry) (λ e. ok (leftTrue (valuesAlong ks e (program blocks)))) b last in
+      record { ks = ks; listed = listed; count = n; loads = loads; on = on; conforms = conforms }
+
+  -- one bool is left
+  runnable-truth : (j : Runnable list blocks entry) → (b : Bool) × (left j ≡ ends (truth b ∷ []))
+  runnable-truth j =
+      let run = loaded-runs (j .ks) blocks (j .count) (j .loads) (j .on) (conforming (j .ks) entry (j .on) (j .conforms)) in
+      (run .bit, run .to)
+
+-- What a judgement says, from the text or from blocks. It is refused exactly when the inputs do not `Fit`, and else the verdict of a bool
+-- that `read` finds in what they come to.
+module _ (Fit X : Type 0) (tell : Bool → X) (read : X → Bool) (reads : (b : Bool) → read (tell b) ≡ b) (answer : Answer Bool)
+    (come : Fit → X) (answers : (j : Fit) → answer ≡ ok (read (come j))) (fits : (b : Bool) → answer ≡ ok b → Fit)
+    (a-bool : (j : Fit) → (b : Bool) × (come j ≡ tell b)) (got : Judgement) (promised : judgementSays got ≡ answer) where
+  said : (r : Judgement) → got ≡ r → answer ≡ judgementSays r
+  said r e = sym promised ∙ ap judgementSays e
+
+  refused-when : (r : Judgement) → got ≡ r → ¬ Fit → Refuses r
+  refused-when J.Accepted e unfit = absurd (unfit (fits true (said J.Accepted e)))
+  refused-when J.Violated e unfit = absurd (unfit (fits false (said J.Violated e)))
+  refused-when (J.Refused n at) e unfit = (n, at, refl)
+
+  not-fit : Refuses got → ¬ Fit
+  not-fit (n, at, e) j = never-ok (sym (ap judgementSays e) ∙ promised ∙ answers j)
+
+  pub refused-exactly : Refuses got ↔ ¬ Fit
+  refused-exactly = (not-fit, refused-when got refl)
+
+  pub told-exactly : (j : Fit) (b : Bool) → (got ≡ verdict b) ↔ (come j ≡ tell b)
+  told-exactly j b =
+      let (c, there) = a-bool j in
+      let answered : answer ≡ ok c = answers j ∙ ap (λ x. ok (read x)) there ∙ ap (λ x. ok x) (reads c) in (
+        λ e. there ∙ ap tell (ok-same c b (sym answered ∙ said (verdict b) e ∙ verdict-says b)),
+        λ e.
+            let same : c ≡ b = sym (reads c) ∙ ap read (sym there ∙ e) ∙ reads b in
+            judgement-same got (verdict b) (promised ∙ answered ∙ ap (λ x. ok x) same ∙ sym (verdict-says b)),
+      )
+
+-- by what is promised of one call's result
+
+pub read-right : (text : List ℕ) (r : Reading) → ReadPromised text r → ReadRight text r
+read-right text r promised n = (
+  λ e. answer-formed text n (sym promised ∙ ap readingSays e),
+  λ (root, formed, same). reading-same r (R.Read n) (promised ∙ formed-answer text root formed ∙ ap (λ x. ok x) same),
+)
+
+pub checked-right : (text list : List ℕ) (r : Checking) → CheckPromised text list r → CheckedRight text list r
+checked-right text list r promised = (
+  λ e. answer-checkable text list (sym promised ∙ ap checkingSays e),
+  λ c. checking-same r C.Passed (promised ∙ checkable-answer text list c),
+)
+
+pub judged-right : (text list entry : List ℕ) (r : Judgement) → JudgePromised text list entry r → JudgedRight text list entry r
+judged-right text list entry r promised =
+    let exactly =
+    told-exactly (Judgeable text list entry) (Option Value) (λ b. some (truth b)) isTrue (λ b. refl) (judgeAnswer text list entry)
+    (worth text list entry) (judgeable-answer text list entry) (answer-judgeable text list entry) (judgeable-truth text list entry) r promised
+    in
+    record {
+      refuses =
+          refused-exactly (Judgeable text list entry) (Option Value) (λ b. some (truth b)) isTrue (λ b. refl) (judgeAnswer text list entry)
+          (worth text list entry) (judgeable-answer text list entry) (answer-judgeable text list entry) (judgeable-truth text list entry) r promised;
+      accepts = λ j. exactly j true;
+      violates = λ j. exactly j false;
+    }
+
+pub ran-right : (list blocks entry : List ℕ) (r : Judgement) → RunPromised list blocks entry r → RanRight list blocks entry r
+ran-right list blocks entry r promised =
+    let exactly =
+    told-exactly (Runnable list blocks entry) (Walk Value) (λ b. ends (truth b ∷ [])) leftTrue (λ b. refl) (runAnswer list blocks entry)
+    (left list blocks entry) (runnable-answer list blocks entry) (answer-runnable list blocks entry) (runnable-truth list blocks entry) r promised
+    in
+    record {
+      refuses =
+          refused-exactly (Runnable list blocks entry) (Walk Value) (λ b. ends (truth b ∷ [])) leftTrue (λ b. refl)
+          (runAnswer list blocks entry) (left list blocks entry) (runnable-answer list blocks entry) (answer-runnable list blocks entry)
+          (runnable-truth list blocks entry) r promised;
+      accepts = λ j. exactly j true;
+      violates = λ j. exactly j false;
+    }
+
+-- a translation: the restriction of a text that passes, and the test of the buffer
+pub translated-right : (text list buffer : List ℕ) (r : TranslateResult) → TranslatePromised text list buffer r
+    → TranslatedRight text list buffer r
+translated-right text list buffer r promised n = (
+  λ e.
+      let answer = sym (translates text list buffer) ∙ sym (promised .says) ∙ ap translationSays e in
+      let (q, passed, rest) = bind-ok (restriction text list) (translating buffer) n answer in
+      let (count, room) = translated buffer q n rest in
+      let (c, same) = restriction-checkable text list q passed in
+      record {
+        passes = c;
+        count = sym count ∙ counted text list q passed ∙ ap (λ (x : Restriction). nodes (x .root) + conversions (x .keys) (x .root)) (sym same);
+        room = subst (λ (m : ℕ). blockSize * blocksNeeded m ≤ length buffer) count room;
+      },
+  λ t.
+      let q = restricts text list (t .passes) in
+      let passed = checkable-restriction text list (t .passes) in
+      let count : length (codeOf (q .keys) (q .root)) ≡ n = counted text list q passed ∙ sym (t .count) in
+      translation-same (r .answer) (T.Written n)
+      (promised .says ∙ translates text list buffer ∙ ap (λ x. x >>= translating buffer) passed
+      ∙ rw (count, le-leb (blockSize * blocksNeeded n) (length buffer) (t .room))),
+)
+
+pub demand-two-met : DemandTwoMet
+demand-two-met p kept =
+    record {
+      reads = λ text t. read-right text (p .read text) (kept .read text t);
+      checks = λ text list t l. checked-right text list (p .check text list) (kept .check text list t l);
+      judges = λ text list entry t l e. judged-right text list entry (p .judge text list entry) (kept .judge text list entry t l e);
+      translates = λ text list buffer t l b.
+          translated-right text list buffer (p .translate text list buffer) (kept .translate text list buffer t l b);
+      runs = λ list blocks entry l s e. ran-right list blocks entry (p .run list blocks entry) (kept .run list blocks entry l s e);
+    }

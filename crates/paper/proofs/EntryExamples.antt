@@ -1,0 +1,19 @@
+-- Each example of an entry is computed from the definitions.
+use mathlib.Core.Path.{refl}
+use Rattle.paper.specs.Keys.{keys}
+use Rattle.paper.specs.Entry.{entryOf}
+use Rattle.paper.specs.EntryExamples.{EntryExamples}
+
+pub entryExamples : EntryExamples
+unfolding keys entryOf
+entryExamples =
+    record {
+      in-bytes = refl;
+      marked = refl;
+      at-places = refl;
+      exact-of-8 = refl;
+      ternary-of-8 = refl;
+      lpm-of-8 = refl;
+      range-of-8 = refl;
+      optional-of-8 = refl;
+    }

@@ -1,0 +1,24 @@
+-- Each example of a translation is computed from the definitions.
+use mathlib.Core.Path.{refl}
+use Rattle.paper.specs.Translating.{codeOf, conversions}
+use Rattle.paper.specs.Calls.{restriction, judgeAnswer, translateAnswer, translateBuffer, runAnswer}
+use Rattle.paper.specs.TranslationExamples.{EveryInstruction, Refused, TranslationExamples}
+
+every : EveryInstruction
+unfolding translateAnswer translateBuffer runAnswer judgeAnswer
+every = record { written = refl; block = refl; runs = refl; judged = refl }
+
+refusals : Refused
+unfolding translateAnswer translateBuffer
+refusals = record { short = refl; short-unchanged = refl; untyped = refl; untyped-unchanged = refl }
+
+pub translationExamples : TranslationExamples
+unfolding restriction codeOf conversions
+translationExamples =
+    record {
+      of-nodes = refl;
+      of-conversions = refl;
+      counted = refl;
+      every-instruction = every;
+      refusals = refusals;
+    }

@@ -1,0 +1,160 @@
+-- The wrong programs are real: each is made from programs that keep all promises, with another in the place of one call.
+use Prim.Native.Nat.{ℕ, suc, _+_, _*_}
+use native.Mathlib.Omega.{arith}
+use mathlib.Core.Path.{_≡_, refl, sym, ap, subst, _∙_}
+use mathlib.Core.Bool.{Bool, true, false, cond}
+use mathlib.Core.List.{List, [], _∷_, _++_}
+use lib.ListN.{length}
+use lib.Dec.{ltb}
+use borrow.Author.Tests.{lt-ltb}
+use Rattle.paper.specs.declared.Place.the-variants as P
+use Rattle.paper.specs.declared.Judgement.{Judgement}
+use Rattle.paper.specs.declared.Judgement.the-variants as J
+use Rattle.paper.specs.declared.Loading.{Loading}
+use Rattle.paper.specs.declared.Loading.the-variants as L
+use Rattle.paper.specs.declared.Translation.{Translation}
+use Rattle.paper.specs.declared.Translation.the-variants as T
+use Rattle.paper.specs.Answers.{ok}
+use Rattle.paper.specs.Tokens.{bytes, is}
+use Rattle.paper.specs.Keys.{keys}
+use Rattle.paper.specs.Blocks.{blockSize, mostBlocks, totalOf}
+use Rattle.paper.specs.Grammar as G
+use Rattle.paper.specs.Grammar.{nodes}
+use Rattle.paper.specs.Translating.{conversions}
+use Rattle.paper.specs.Calls.{Restriction, restriction}
+use Rattle.paper.specs.Promised.{TranslateResult, Bytes, Programs, Kept}
+use Rattle.paper.specs.Demands.{blocksWritten}
+use Rattle.paper.specs.WrongPrograms.{FirstPartOnly, WantsAllBlocks, CountsRight, partOf, judging, translating, loading, OthersKept, WrongProgramsExist}
+use Rattle.paper.proofs.Promised.{translation-same, can-be-kept}
+use Rattle.paper.proofs.ByteLists.{zero-bytes, all-bytes}
+use Rattle.paper.proofs.DemandThree.{demand-three-met}
+use Rattle.paper.proofs.WrongPrograms.{little, plain-written}
+
+-- a program that cuts: it translates what stands before the first ";"
+
+part-first : (first rest : List ℕ) → partOf first ≡ first → partOf (first ++ bytes ";" ++ rest) ≡ first
+part-first [] rest e = refl
+part-first (b ∷ s) rest e = go (is ";" b) refl (part-first s rest) e
+  where
+    go : (t : Bool) → is ";" b ≡ t → (partOf s ≡ s → partOf (s ++ bytes ";" ++ rest) ≡ s) → cond t [] (b ∷ partOf s) ≡ b ∷ s
+        → cond t [] (b ∷ partOf (s ++ bytes ";" ++ rest)) ≡ b ∷ s
+    go true h k e = e
+    go false h k e = ap (λ x. b ∷ x) (k (shorter e))
+      where
+        shorter : b ∷ partOf s ≡ b ∷ s → partOf s ≡ s
+        shorter f = cc
+
+-- its restriction, and the count of its instructions
+abbrev plain : Restriction
+plain = record { keys = []; root = G.truth 0 true }
+
+plain-restricts : restriction (bytes "true") [] ≡ ok plain
+unfolding restriction
+plain-restricts = refl
+
+plain-counts : nodes (plain .root) + conversions (plain .keys) (plain .root) ≡ 1
+unfolding conversions
+plain-counts = refl
+
+-- each wrong program is one that keeps all promises but that of one call
+
+module _ (q : Programs) (kept : Kept q) where
+  -- with another judge
+  judges : (List ℕ → List ℕ → List ℕ → Judgement) → Programs
+  judges judge =
+      record { read = q .read; check = q .check; judge = judge; translate = q .translate; load = q .load; run = q .run }
+
+  others-than-judge : (judge : List ℕ → List ℕ → List ℕ → Judgement) → OthersKept judging (judges judge)
+  unfolding judges
+  others-than-judge judge = (kept .read, kept .check, kept .translate, kept .load, kept .run)
+
+  -- with another translator
+  translators : (List ℕ → List ℕ → List ℕ → TranslateResult) → Programs
+  translators translate =
+      record { read = q .read; check = q .check; judge = q .judge; translate = translate; load = q .load; run = q .run }
+
+  others-than-translate : (translate : List ℕ → List ℕ → List ℕ → TranslateResult) → OthersKept translating (translators translate)
+  unfolding translators
+  others-than-translate translate = (kept .read, kept .check, kept .judge, kept .load, kept .run)
+
+  -- with another loader
+  loaders : (List ℕ → List ℕ → Loading) → Programs
+  loaders load =
+      record { read = q .read; check = q .check; judge = q .judge; translate = q .translate; load = load; run = q .run }
+
+  others-than-load : (load : List ℕ → List ℕ → Loading) → OthersKept loading (loaders load)
+  unfolding loaders
+  others-than-load load = (kept .read, kept .check, kept .judge, kept .translate, kept .run)
+
+  -- the one that translates what stands before the first ";"
+
+  cutter : List ℕ → List ℕ → List ℕ → TranslateResult
+  cutter text list buffer = q .translate (partOf text) list buffer
+
+  cutter-cuts : FirstPartOnly (translators cutter)
+  unfolding translators cutter
+  cutter-cuts first rest list buffer f s l b whole _ _ n e entry en =
+      subst
+      (λ (x : List ℕ).
+      q .translate x list buffer .answer ≡ T.Written n
+      → q .run list (blocksWritten n (q .translate x list buffer .buffer)) entry ≡ q .judge first list entry)
+      (sym (part-first first rest whole))
+      (λ w. demand-three-met q kept .runs-alike first list buffer f l b n w entry en) e
+
+  -- the one that wants 82 blocks
+
+  greedy : List ℕ → List ℕ → List ℕ → TranslateResult
+  greedy text list buffer =
+      cond (ltb (length buffer) (mostBlocks * blockSize))
+      (record { answer = T.Refused 15 (P.Buffer (length buffer)); buffer = buffer })
+      (q .translate text list buffer)
+
+  greedy-wants : WantsAllBlocks (translators greedy)
+  unfolding translators greedy
+  greedy-wants text list buffer t l b few = (15, P.Buffer (length buffer), rw (lt-ltb (length buffer) (mostBlocks * blockSize) few))
+
+  -- the one that counts an instruction more
+
+  abbrev oneMore : Translation → Translation
+  oneMore (T.Written n) = T.Written (suc n)
+  oneMore (T.Refused n at) = T.Refused n at
+
+  inventor : List ℕ → List ℕ → List ℕ → TranslateResult
+  inventor text list buffer =
+      let r = q .translate text list buffer in
+      record { answer = oneMore (r .answer); buffer = r .buffer }
+
+  inventor-invents : ¬ CountsRight (translators inventor)
+  unfolding translators inventor
+  inventor-invents right =
+      let t : Bytes (bytes "true") = all-bytes (bytes "true") refl in
+      let b : Bytes little = zero-bytes 512 in
+      let one = translation-same (q .translate (bytes "true") [] little .answer) (T.Written 1) (kept .translate (bytes "true") [] little t tt b .says ∙ plain-written) in
+      let two = right (bytes "true") [] little t tt b 2 (ap oneMore one) plain plain-restricts in
+      omega (arith, two, plain-counts)
+
+pub wrong-programs-exist : WrongProgramsExist
+unfolding judges translators loaders
+wrong-programs-exist =
+    let (q, kept) = can-be-kept in
+    let refuses : List ℕ → List ℕ → List ℕ → Judgement = λ text list entry. J.Refused 20 (P.Entry 0) in
+    let accepts : List ℕ → List ℕ → List ℕ → Judgement = λ text list entry. J.Accepted in
+    let idles : List ℕ → List ℕ → List ℕ → TranslateResult = λ text list buffer.
+    record { answer = q .translate text list buffer .answer; buffer = buffer }
+    in
+    let bars : List ℕ → List ℕ → Loading = λ list blocks. L.Refused 18 (P.Blocks 0) in
+    let admits : List ℕ → List ℕ → Loading = λ list blocks. L.Loaded (totalOf blocks) in
+    record {
+      refusing = (
+        judges q kept refuses,
+        λ text list entry _ _ _. (20, P.Entry 0, refl),
+        others-than-judge q kept refuses,
+      );
+      accepting = (judges q kept accepts, λ text list entry _ _ _. refl, others-than-judge q kept accepts);
+      idle = (translators q kept idles, λ text list buffer _ _ _. refl, others-than-translate q kept idles);
+      cutting = (translators q kept (cutter q kept), cutter-cuts q kept, others-than-translate q kept (cutter q kept));
+      barring = (loaders q kept bars, λ list blocks _ _. (18, P.Blocks 0, refl), others-than-load q kept bars);
+      admitting = (loaders q kept admits, λ list blocks _ _ _ _ _. (totalOf blocks, refl), others-than-load q kept admits);
+      wanting = (translators q kept (greedy q kept), greedy-wants q kept, others-than-translate q kept (greedy q kept));
+      counting = (translators q kept (inventor q kept), inventor-invents q kept, others-than-translate q kept (inventor q kept));
+    }

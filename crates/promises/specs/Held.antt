@@ -1,0 +1,30 @@
+-- Demand 3 for one text, list, entry and buffer, of what the real calls answered.
+use Prim.Native.Nat.{ℕ}
+use mathlib.Core.Path.{_≡_}
+use mathlib.Core.List.{List}
+use Rattle.paper.specs.declared.Place.{Place}
+use Rattle.paper.specs.declared.Judgement.{Judgement}
+use Rattle.paper.specs.declared.Translation.{Translation}
+use Rattle.paper.specs.declared.Translation.the-variants as T
+use Rattle.paper.specs.declared.Loading.{Loading}
+use Rattle.paper.specs.Promised.{JudgePromised, TranslateResult, TranslatePromised, LoadPromised, RunPromised}
+use Rattle.paper.specs.Demands.{TranslateAnswered, blocksWritten, Carried}
+use Rattle.promises.specs.declared.calls.Carrying.{Carrying}
+use Rattle.promises.specs.declared.calls.Carrying.the-variants as W
+
+-- an answer of `translate`, and what the buffer holds at its exit
+abbrev pub gave : Translation → List ℕ → TranslateResult
+gave r exit = record { answer = r; buffer = exit }
+
+-- each answer keeps its call's promise; the blocks load with the number returned, and say of the entry what the text says
+pub record Held (text list entry buffer exit : List ℕ) (n : ℕ) (loaded : Loading) (ran judged : Judgement) : Type 0 where
+  pub translate : TranslatePromised text list buffer (gave (T.Written n) exit)
+  pub load : LoadPromised list (blocksWritten n exit) loaded
+  pub run : RunPromised list (blocksWritten n exit) entry ran
+  pub judge : JudgePromised text list entry judged
+  pub carried : Carried buffer exit n loaded
+  pub alike : ran ≡ judged
+
+abbrev pub Carries : List ℕ → List ℕ → List ℕ → List ℕ → List ℕ → Carrying → Type 0
+Carries text list entry buffer exit (W.Refused n at) = TranslateAnswered text list buffer (gave (T.Refused n at) exit)
+Carries text list entry buffer exit (W.Written n loaded ran judged) = Held text list entry buffer exit n loaded ran judged

@@ -1,0 +1,83 @@
+// The real calls, held to the demands. Each function calls `valve`, and its contract states for its own inputs what is demanded of what was
+// answered, in the words of `paper` (specs/Demands). It holds by the contracts of `valve` alone, so one that is weakened fails here.
+ghost use Rattle.paper.specs.Demands.{ReadAnswered, ReadRight, CheckAnswered, CheckedRight, JudgeAnswered, JudgedRight, TranslateAnswered, TranslatedRight, LoadAnswered, RunAnswered, RanRight};
+ghost use Rattle.promises.specs.Held.{gave, Carries};
+use blocks::Block;
+use paper::Checking;
+use paper::Judgement;
+use paper::Loading;
+use paper::Place;
+use paper::Reading;
+use paper::Translation;
+
+// Demands 1 and 2 of `read`.
+pub fn read(text: &[u8]) -> Reading
+    ensures { λ r. ⌜ ReadAnswered (now (text .entry)) r ⌝ }
+    ensures { λ r. ⌜ ReadRight (now (text .entry)) r ⌝ }
+{
+    valve::read(text)
+}
+
+// Demands 1 and 2 of `check`.
+pub fn check(text: &[u8], list: &[u8]) -> Checking
+    ensures { λ r. ⌜ CheckAnswered (now (text .entry)) (now (list .entry)) r ⌝ }
+    ensures { λ r. ⌜ CheckedRight (now (text .entry)) (now (list .entry)) r ⌝ }
+{
+    valve::check(text, list)
+}
+
+// Demands 1 and 2 of `judge`.
+pub fn judge(text: &[u8], list: &[u8], entry: &[u8]) -> Judgement
+    ensures { λ r. ⌜ JudgeAnswered (now (text .entry)) (now (list .entry)) (now (entry .entry)) r ⌝ }
+    ensures { λ r. ⌜ JudgedRight (now (text .entry)) (now (list .entry)) (now (entry .entry)) r ⌝ }
+{
+    valve::judge(text, list, entry)
+}
+
+// Demands 1 and 2 of `translate`.
+pub fn translate(text: &[u8], list: &[u8], buffer: &mut [u8]) -> Translation
+    ensures { λ r. ⌜ TranslateAnswered (now (text .entry)) (now (list .entry)) (now (buffer .entry)) (gave r (now (buffer .exit))) ⌝ }
+    ensures { λ r. ⌜ TranslatedRight (now (text .entry)) (now (list .entry)) (now (buffer .entry)) (gave r (now (buffer .exit))) ⌝ }
+{
+    valve::translate(text, list, buffer)
+}
+
+// Demand 1 of `load`.
+pub fn load(list: &[u8], blocks: &[u8]) -> Loading
+    ensures { λ r. ⌜ LoadAnswered (now (list .entry)) (now (blocks .entry)) r ⌝ }
+{
+    valve::load(list, blocks)
+}
+
+// Demands 1 and 2 of `run`.
+pub fn run(list: &[u8], blocks: &[u8], entry: &[u8]) -> Judgement
+    ensures { λ r. ⌜ RunAnswered (now (list .entry)) (now (blocks .entry)) (now (entry .entry)) r ⌝ }
+    ensures { λ r. ⌜ RanRight (now (list .entry)) (now (blocks .entry)) (now (entry .entry)) r ⌝ }
+{
+    valve::run(list, blocks, entry)
+}
+
+// What a text, a list and an entry come to by way of blocks, and by the text alone.
+pub enum Carrying {
+    // No blocks were written: the refusal.
+    Refused(u8, Place),
+    // So many instructions; what loading the blocks answers, what running them answers, and what judging the text answers.
+    Written(usize, Loading, Judgement, Judgement),
+}
+
+// Demand 3: a text is translated into the buffer, its blocks are loaded from there and run on an entry, and the text is judged on it.
+pub fn carry(text: &[u8], list: &[u8], entry: &[u8], buffer: &mut [u8]) -> Carrying
+    ensures { λ r. ⌜ Carries (now (text .entry)) (now (list .entry)) (now (entry .entry)) (now (buffer .entry)) (now (buffer .exit)) r ⌝ }
+{
+    let translated = valve::translate(text, list, buffer);
+    match translated {
+        Translation::Refused(number, place) => Carrying::Refused(number, place),
+        Translation::Written(n) => {
+            let size = Block::SIZE * Block::needed(n);
+            let loaded = valve::load(list, &buffer[..size]);
+            let ran = valve::run(list, &buffer[..size], entry);
+            let judged = valve::judge(text, list, entry);
+            Carrying::Written(n, loaded, ran, judged)
+        }
+    }
+}

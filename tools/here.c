@@ -1,0 +1,58 @@
+/*
+ * The six calls of pollux.h over the archive's code when that is compiled for Arm. The code takes the place of its answer as a first
+ * argument, as x86-64's convention has it; C on Arm passes it in a register of its own, x8. `tools/here` gives the code's functions the
+ * names raw_..., so that these can have theirs.
+ */
+#include "pollux.h"
+
+typedef struct pollux_answer answer;
+typedef const uint8_t *bytes;
+
+void raw_pollux_read(answer *, bytes, size_t);
+void raw_pollux_check(answer *, bytes, size_t, bytes, size_t);
+void raw_pollux_judge(answer *, bytes, size_t, bytes, size_t, bytes, size_t);
+void raw_pollux_translate(answer *, bytes, size_t, bytes, size_t, uint8_t *, size_t);
+void raw_pollux_load(answer *, bytes, size_t, bytes, size_t);
+void raw_pollux_run(answer *, bytes, size_t, bytes, size_t, bytes, size_t);
+
+answer pollux_read(bytes text, size_t text_length)
+{
+    answer given;
+    raw_pollux_read(&given, text, text_length);
+    return given;
+}
+
+answer pollux_check(bytes text, size_t text_length, bytes list, size_t list_length)
+{
+    answer given;
+    raw_pollux_check(&given, text, text_length, list, list_length);
+    return given;
+}
+
+answer pollux_judge(bytes text, size_t text_length, bytes list, size_t list_length, bytes entry, size_t entry_length)
+{
+    answer given;
+    raw_pollux_judge(&given, text, text_length, list, list_length, entry, entry_length);
+    return given;
+}
+
+answer pollux_translate(bytes text, size_t text_length, bytes list, size_t list_length, uint8_t *buffer, size_t buffer_length)
+{
+    answer given;
+    raw_pollux_translate(&given, text, text_length, list, list_length, buffer, buffer_length);
+    return given;
+}
+
+answer pollux_load(bytes list, size_t list_length, bytes blocks, size_t blocks_length)
+{
+    answer given;
+    raw_pollux_load(&given, list, list_length, blocks, blocks_length);
+    return given;
+}
+
+answer pollux_run(bytes list, size_t list_length, bytes blocks, size_t blocks_length, bytes entry, size_t entry_length)
+{
+    answer given;
+    raw_pollux_run(&given, list, list_length, blocks, blocks_length, entry, entry_length);
+    return given;
+}

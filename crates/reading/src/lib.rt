@@ -59,6 +59,7 @@ fn typed_root(text: &[u8], list: &[u8], nodes: &mut [u32]) -> Counted
     }
 }
 
+// The number of the root of a text that is good for the keys of a list, or the first refusal of the two.
 pub fn restrict(text: &[u8], list: &[u8], nodes: &mut [u32]) -> Counted
     requires { ⌜ length (now nodes) ≡ 8192 ⌝ }
     ensures { λ r. ⌜ Restricts (now (text .entry)) (now (list .entry)) (now (nodes .exit)) r ⌝ }

@@ -8,7 +8,7 @@ use paper::Checking;
 use paper::Counted;
 use paper::Judgement;
 
-pub fn verdict(accepted: bool) -> Judgement
+pub(crate) fn verdict(accepted: bool) -> Judgement
     ensures { λ r. ⌜ judgementSays r ≡ ok accepted ⌝ }
 {
     if accepted {

@@ -51,7 +51,7 @@ fn refusal(number: u8, place: Place) -> PolluxAnswer
     }
 }
 
-pub fn of_reading(r: Reading) -> PolluxAnswer
+pub(crate) fn of_reading(r: Reading) -> PolluxAnswer
     ensures { λ a. ⌜ a ≡ counted (readingSays r) ⌝ }
 {
     match r {
@@ -60,7 +60,7 @@ pub fn of_reading(r: Reading) -> PolluxAnswer
     }
 }
 
-pub fn of_checking(r: Checking) -> PolluxAnswer
+pub(crate) fn of_checking(r: Checking) -> PolluxAnswer
     ensures { λ a. ⌜ a ≡ passed (checkingSays r) ⌝ }
 {
     match r {
@@ -69,7 +69,7 @@ pub fn of_checking(r: Checking) -> PolluxAnswer
     }
 }
 
-pub fn of_judgement(r: Judgement) -> PolluxAnswer
+pub(crate) fn of_judgement(r: Judgement) -> PolluxAnswer
     ensures { λ a. ⌜ a ≡ judged (judgementSays r) ⌝ }
 {
     match r {
@@ -79,7 +79,7 @@ pub fn of_judgement(r: Judgement) -> PolluxAnswer
     }
 }
 
-pub fn of_translation(r: Translation) -> PolluxAnswer
+pub(crate) fn of_translation(r: Translation) -> PolluxAnswer
     ensures { λ a. ⌜ a ≡ counted (translationSays r) ⌝ }
 {
     match r {
@@ -88,7 +88,7 @@ pub fn of_translation(r: Translation) -> PolluxAnswer
     }
 }
 
-pub fn of_loading(r: Loading) -> PolluxAnswer
+pub(crate) fn of_loading(r: Loading) -> PolluxAnswer
     ensures { λ a. ⌜ a ≡ counted (loadingSays r) ⌝ }
 {
     match r {

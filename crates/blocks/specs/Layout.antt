@@ -4,18 +4,12 @@ use mathlib.Core.Bool.{Bool, _&&_}
 use mathlib.Core.List.{List}
 use lib.ListN.{take}
 use lib.Dec.{eqb}
-use Rattle.paper.specs.Answers.{Answer, ok, refused, _>>=_, inputOf, offsetOf}
+use Rattle.paper.specs.Answers.{Answer, ok, _>>=_}
 use Rattle.paper.specs.Numbers.{numberAt, bytesAt}
 use Rattle.paper.specs.Tokens.{sameBytes}
 use Rattle.paper.specs.Keys.{allZero}
 use Rattle.paper.specs.Code.{instructionSize}
 use Rattle.paper.specs.Blocks.{countOk, checkOf, totalOf, layout}
-use Rattle.blocks.specs.declared.laying.Laid.{Laid}
-use Rattle.blocks.specs.declared.laying.Laid.the-variants as L
-
-abbrev pub laidSays : Laid → Answer ℕ
-laidSays (L.Total n) = ok n
-laidSays (L.Refused n p) = refused n (inputOf p) (offsetOf p)
 
 -- the layout's answer, with the total count where it passes
 abbrev pub laidOut : ℕ → List ℕ → Answer ℕ

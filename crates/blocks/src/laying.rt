@@ -2,21 +2,17 @@
 ghost use mathlib.Core.Path.{_≡_};
 ghost use Prim.Native.Nat.{_+_, _*_, _/_, _≤_};
 ghost use lib.ListN.{length, take};
+ghost use Rattle.paper.specs.Answers.{countedSays};
 ghost use Rattle.paper.specs.Numbers.{bytesAt};
 ghost use Rattle.paper.specs.Tokens.{sameBytes};
 ghost use Rattle.paper.specs.Blocks.{countOk, countsFrom, checkOf};
-ghost use Rattle.blocks.specs.Layout.{laidSays, laidOut, blockRight};
+ghost use Rattle.blocks.specs.Layout.{laidOut, blockRight};
 use crate::fields::Block;
 use crate::fields::two_bytes;
 use crate::sums::sums_of;
 use keys::bytes;
+use paper::Counted;
 use paper::Place;
-
-// How many instructions the blocks hold, by their own counts.
-pub enum Laid {
-    Total(usize),
-    Refused(u8, Place),
-}
 
 // 25 except in the last block, where it is 1 to 25.
 fn count_right(later: usize, count: usize) -> bool
@@ -92,18 +88,18 @@ fn total_of(blocks: &[u8], n: usize) -> usize
 }
 
 // How many instructions the blocks hold for a number of keys, or their refusal, 16 or 17.
-pub fn layout(blocks: &[u8], keys: usize) -> Laid
-    ensures { λ r. ⌜ laidSays r ≡ laidOut keys (now (blocks .entry)) ⌝ }
+pub fn layout(blocks: &[u8], keys: usize) -> Counted
+    ensures { λ r. ⌜ countedSays r ≡ laidOut keys (now (blocks .entry)) ⌝ }
 {
     let size = blocks.len();
     if size == 0 {
-        return Laid::Refused(16, Place::Blocks(size));
+        return Counted::Refused(16, Place::Blocks(size));
     }
     if size % Block::SIZE != 0 {
-        return Laid::Refused(16, Place::Blocks(size));
+        return Counted::Refused(16, Place::Blocks(size));
     }
     if Block::MOST * Block::SIZE < size {
-        return Laid::Refused(16, Place::Blocks(size));
+        return Counted::Refused(16, Place::Blocks(size));
     }
     let n = size / Block::SIZE;
     let total = total_of(blocks, n);
@@ -117,9 +113,9 @@ pub fn layout(blocks: &[u8], keys: usize) -> Laid
             total,
             keys,
         ) {
-            return Laid::Refused(17, Place::Blocks(from));
+            return Counted::Refused(17, Place::Blocks(from));
         }
         k += 1;
     }
-    Laid::Total(total)
+    Counted::Count(total)
 }

@@ -10,6 +10,5 @@ mod writing;
 
 pub use fields::Block;
 pub use fields::two_bytes;
-pub use laying::Laid;
 pub use laying::layout;
 pub use writing::write_blocks;

@@ -9,6 +9,8 @@ use lib.Seq.{sets, slice}
 use lib.Dec.{eqb, ltb}
 use Rattle.paper.specs.declared.Place.{Place}
 use Rattle.paper.specs.declared.Place.the-variants.{Text}
+use Rattle.paper.specs.declared.Counted.{Counted}
+use Rattle.paper.specs.declared.Counted.the-variants as S
 use Rattle.paper.specs.Answers.{ok, refused, inputOf, offsetOf}
 use Rattle.paper.specs.Tokens.{Token, undotted}
 use Rattle.paper.specs.Grammar as G
@@ -16,8 +18,6 @@ use Rattle.paper.specs.Grammar.{Out, got, Parser, outcome, parsed}
 use Rattle.tokens.specs.Tape.{Tape, tokensOn}
 use Rattle.tokens.specs.Scanned.{Spans}
 use Rattle.tokens.specs.Tokenized.{tape}
-use Rattle.grammar.specs.declared.Parsed.{Parsed}
-use Rattle.grammar.specs.declared.Parsed.the-variants as P
 use Rattle.grammar.specs.declared.steps.Start.{Start}
 use Rattle.grammar.specs.declared.steps.Taken.{Taken}
 use Rattle.grammar.specs.declared.steps.Taken.the-variants.{Tree, Refused}
@@ -131,6 +131,6 @@ pub record Grown (T : Tape) (n : ℕ) (before after : List ℕ) (m : ℕ) : Type
   pub stored : after ≡ sets before 0 (words 0 tree)
   pub few : m ≤ n
 
-abbrev pub Parses : Tape → ℕ → List ℕ → List ℕ → Parsed → Type 0
-Parses T n before after (P.Tree m) = Grown T n before after m
-Parses T n before after (P.Refused k p) = parsed (length (T .text)) (tokensOn T 0 n) ≡ refused k (inputOf p) (offsetOf p)
+abbrev pub Parses : Tape → ℕ → List ℕ → List ℕ → Counted → Type 0
+Parses T n before after (S.Count m) = Grown T n before after m
+Parses T n before after (S.Refused k p) = parsed (length (T .text)) (tokensOn T 0 n) ≡ refused k (inputOf p) (offsetOf p)

@@ -40,7 +40,7 @@ fn ends_behind(top: bool, at: usize, count: usize) -> bool
 }
 
 // Operands of ";", joined from the left.
-pub fn sequence(
+pub(crate) fn sequence(
     text: &[u8],
     kinds: &[u8],
     starts: &[u16],

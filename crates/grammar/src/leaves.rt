@@ -43,7 +43,7 @@ use tokens::kinds::STRING;
 use tokens::kinds::WORD;
 
 // A leaf. What would open a level is refused.
-pub fn leaf(
+pub(crate) fn leaf(
     text: &[u8],
     kinds: &[u8],
     starts: &[u16],
@@ -74,7 +74,7 @@ pub fn leaf(
 }
 
 // A ")" must follow the tree that ends before the node `free`.
-pub fn close(
+pub(crate) fn close(
     text: &[u8],
     kinds: &[u8],
     starts: &[u16],

@@ -17,17 +17,12 @@ ghost use Rattle.tokens.specs.Tokenized.{tape};
 ghost use Rattle.grammar.specs.Reading.{Sound, Parses};
 use crate::steps::Start;
 use crate::steps::Taken;
-use paper::Place;
+use paper::Counted;
 
 // How many levels may be open.
 const LEVELS: usize = 64;
 
 // The number of nodes, of which the last is the root; or a refusal.
-pub enum Parsed {
-    Tree(usize),
-    Refused(u8, Place),
-}
-
 pub fn parse(
     text: &[u8],
     kinds: &[u8],
@@ -36,7 +31,7 @@ pub fn parse(
     limbs: &[u32],
     count: usize,
     nodes: &mut [u32],
-) -> Parsed
+) -> Counted
     requires { ⌜ Sound (now text) (now kinds) (now starts) (now ends) count ⌝ }
     requires { ⌜ count * 4 ≤ length (now limbs) ⌝ }
     requires { ⌜ length (now nodes) ≡ 8192 ⌝ }
@@ -51,12 +46,12 @@ pub fn parse(
     };
     let all = ladder::sequence(text, kinds, starts, ends, limbs, count, true, from, nodes);
     match all {
-        Taken::Refused(number, place) => Parsed::Refused(number, place),
+        Taken::Refused(number, place) => Counted::Refused(number, place),
         Taken::Tree(free, at) => {
             if at < count {
-                return Parsed::Refused(steps::STUCK, tape::place_at(text, starts, count, at));
+                return Counted::Refused(steps::STUCK, tape::place_at(text, starts, count, at));
             }
-            Parsed::Tree(free)
+            Counted::Count(free)
         }
     }
 }

@@ -31,14 +31,14 @@ fn offset(of: &[u16], token: usize) -> u32
     of[token] as u32
 }
 
-pub fn put_truth(starts: &[u16], nodes: &mut [u32], node: usize, token: usize, truth: bool)
+pub(crate) fn put_truth(starts: &[u16], nodes: &mut [u32], node: usize, token: usize, truth: bool)
     requires { ⌜ (node * 8 + 8 ≤ length (now nodes)) × (token < length (now starts)) ⌝ }
     ensures { λ _. ⌜ now (nodes .exit) ≡ sets (now (nodes .entry)) (node * 8) (words node (G.truth (getD (now (starts .entry)) token 0) truth)) ⌝ }
 {
     trees::put_truth(nodes, node, offset(starts, token), truth);
 }
 
-pub fn put_key(starts: &[u16], ends: &[u16], nodes: &mut [u32], node: usize, token: usize)
+pub(crate) fn put_key(starts: &[u16], ends: &[u16], nodes: &mut [u32], node: usize, token: usize)
     requires { ⌜ (node * 8 + 8 ≤ length (now nodes)) × (token < length (now starts)) × (token < length (now ends)) ⌝ }
     ensures { λ _. ⌜ now (nodes .exit) ≡ sets (now (nodes .entry)) (node * 8)
         (leafWords 2 (getD (now (starts .entry)) token 0) (getD (now (starts .entry)) token 0) (getD (now (ends .entry)) token 0) 0 0) ⌝ }
@@ -46,7 +46,7 @@ pub fn put_key(starts: &[u16], ends: &[u16], nodes: &mut [u32], node: usize, tok
     trees::put_key(nodes, node, offset(starts, token), offset(ends, token));
 }
 
-pub fn put_field(
+pub(crate) fn put_field(
     starts: &[u16],
     ends: &[u16],
     nodes: &mut [u32],
@@ -69,7 +69,7 @@ pub fn put_field(
     );
 }
 
-pub fn put_attribute(
+pub(crate) fn put_attribute(
     starts: &[u16],
     ends: &[u16],
     nodes: &mut [u32],
@@ -90,7 +90,13 @@ pub fn put_attribute(
     );
 }
 
-pub fn put_number(starts: &[u16], nodes: &mut [u32], node: usize, token: usize, number: Magnitude)
+pub(crate) fn put_number(
+    starts: &[u16],
+    nodes: &mut [u32],
+    node: usize,
+    token: usize,
+    number: Magnitude,
+)
     requires { ⌜ (node * 8 + 8 ≤ length (now nodes)) × (token < length (now starts)) ⌝ }
     ensures { λ _. ⌜ now (nodes .exit) ≡ sets (now (nodes .entry)) (node * 8) (words node (G.number (getD (now (starts .entry)) token 0) (plain (value number)))) ⌝ }
 {
@@ -146,7 +152,7 @@ fn prefix_of(sign: u8) -> Prefix
 }
 
 // The node of an operator between two operands.
-pub fn put_joined(
+pub(crate) fn put_joined(
     starts: &[u16],
     nodes: &mut [u32],
     node: usize,
@@ -161,7 +167,7 @@ pub fn put_joined(
 }
 
 // The node of an operator before its operand.
-pub fn put_prefixed(starts: &[u16], nodes: &mut [u32], node: usize, sign: u8, token: usize)
+pub(crate) fn put_prefixed(starts: &[u16], nodes: &mut [u32], node: usize, sign: u8, token: usize)
     requires { ⌜ (node * 8 + 8 ≤ length (now nodes)) × (token < length (now starts)) × (13 ≤ sign) × (sign ≤ 14) ⌝ }
     ensures { λ _. ⌜ now (nodes .exit) ≡ sets (now (nodes .entry)) (node * 8) (operatorWords (sign - 8) (getD (now (starts .entry)) token 0) 0) ⌝ }
 {

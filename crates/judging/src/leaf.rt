@@ -50,7 +50,7 @@ fn attribute_value(list: &[u8], entry: &[u8], name: &[u8]) -> Cell
 }
 
 // A node with no operand; its place does not matter.
-pub fn leaf_value(text: &[u8], list: &[u8], entry: &[u8], nodes: &[u32], i: usize) -> Cell
+pub(crate) fn leaf_value(text: &[u8], list: &[u8], entry: &[u8], nodes: &[u32], i: usize) -> Cell
     requires { ⌜ (i * 8 + 8 ≤ length (now nodes)) × Conforming (now list) (now entry) ⌝ }
     ensures { λ r. ⌜ ((at : ℕ) → Is (valueOf (keysIn (now (list .entry))) (entryIn (now (list .entry)) (now (entry .entry))) (leafOn (now (text .entry)) at (leafAt (now (nodes .entry)) i))) (held r)) ⌝ }
 {

@@ -1,36 +1,33 @@
 // The check of a whole entry.
 ghost use mathlib.Core.Path.{_≡_};
-ghost use Rattle.keys.specs.Says.{keysIn, enteredSays, conforms};
+ghost use Rattle.paper.specs.Answers.{checkingSays};
+ghost use Rattle.keys.specs.Says.{keysIn, conforms};
 use crate::entry;
 use crate::entry::Entry;
 use crate::entry::Matched;
 use crate::record::KeyRecord;
 use crate::rules;
+use paper::Checking;
 use paper::Place;
 
-pub enum Entered {
-    Conforms,
-    Refused(u8, Place),
-}
-
 // Whether an entry conforms to a good key list, or its refusal, 19 or 20.
-pub fn check_entry(list: &[u8], entry: &[u8]) -> Entered
-    ensures { λ r. ⌜ enteredSays r ≡ conforms (keysIn (now (list .entry))) (now (entry .entry)) ⌝ }
+pub fn check_entry(list: &[u8], entry: &[u8]) -> Checking
+    ensures { λ r. ⌜ checkingSays r ≡ conforms (keysIn (now (list .entry))) (now (entry .entry)) ⌝ }
 {
     let n = list.len() / KeyRecord::SIZE;
     let size = entry.len();
     if size != Entry::HEAD + Matched::SIZE * n {
-        return Entered::Refused(19, Place::Entry(size));
+        return Checking::Refused(19, Place::Entry(size));
     }
     if Entry::HIGHEST < Entry::read(entry).priority {
-        return Entered::Refused(20, Place::Entry(0));
+        return Checking::Refused(20, Place::Entry(0));
     }
     let mut k = 0;
     while k < n {
         if !rules::match_ok(KeyRecord::read(list, k), entry::match_at(entry, k)) {
-            return Entered::Refused(20, Place::Entry(Entry::HEAD + k * Matched::SIZE));
+            return Checking::Refused(20, Place::Entry(Entry::HEAD + k * Matched::SIZE));
         }
         k += 1;
     }
-    Entered::Conforms
+    Checking::Passed
 }

@@ -11,12 +11,10 @@ mod record;
 mod rules;
 pub mod word;
 
-pub use conform::Entered;
 pub use conform::check_entry;
 pub use entry::Entry;
 pub use entry::Matched;
 pub use find::Found;
 pub use find::find_key;
-pub use list::Listed;
 pub use list::check_list;
 pub use record::KeyRecord;

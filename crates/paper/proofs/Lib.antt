@@ -37,7 +37,7 @@ pub mod Sound
 pub mod MeetingTypes
 pub mod Meant
 pub mod Translated
-pub mod Counted
+pub mod CodeLength
 pub mod Digits
 pub mod ByNumber
 pub mod Encoded

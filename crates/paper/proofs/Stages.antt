@@ -3,7 +3,10 @@ use Prim.Native.Nat.{ℕ}
 use native.Mathlib.Omega.{arith}
 use mathlib.Core.Path.{_≡_, refl}
 use mathlib.Core.Bool.{Bool, true, false}
-use Rattle.paper.specs.Answers.{Answer, ok, refused, _>>=_, require, Input}
+use Rattle.paper.specs.declared.Place.{Place}
+use Rattle.paper.specs.declared.Counted.{Counted}
+use Rattle.paper.specs.declared.Counted.the-variants.{Count, Refused}
+use Rattle.paper.specs.Answers.{Answer, ok, refused, _>>=_, require, Input, inputOf, offsetOf, countedSays}
 
 -- a property of what is answered, if anything is
 abbrev pub Of : {A : Type 0} → (A → Type 0) → Answer A → Type 0
@@ -45,3 +48,11 @@ pub of-bind : {A B : Type 0} (P : A → Type 0) (Q : B → Type 0) (x : Answer A
     → Of Q (x >>= f)
 of-bind P Q (ok a) f h k = k a h
 of-bind P Q (refused n i at) f h k = tt
+
+-- a stage that refused, and one that counted: what the stages after it come to
+module _ {B : Type 0} {o : Answer ℕ} (f : ℕ → Answer B) (r : Counted) (says : countedSays r ≡ o) where
+  pub refused-up : {k : ℕ} {p : Place} → r ≡ Refused k p → refused k (inputOf p) (offsetOf p) ≡ (o >>= f)
+  refused-up e = rw (← says, e)
+
+  pub counted-on : {n : ℕ} → r ≡ Count n → f n ≡ (o >>= f)
+  counted-on e = rw (← says, e)

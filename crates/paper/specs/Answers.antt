@@ -1,5 +1,5 @@
 -- 01, "Refusal numbers": "A refusal's place says which input it lies in (text, key list, entry, blocks, buffer) and a byte
--- offset." And for every public enum, this paper's number and values for each of its cases.
+-- offset." And for the enum of every call and stage, this paper's number and values for each of its cases.
 use Prim.Native.Nat.{ℕ, zero, suc}
 use mathlib.Core.Bool.{Bool, true, false}
 use Rattle.paper.specs.declared.Place.{Place}
@@ -14,6 +14,8 @@ use Rattle.paper.specs.declared.Translation.{Translation}
 use Rattle.paper.specs.declared.Translation.the-variants as T
 use Rattle.paper.specs.declared.Loading.{Loading}
 use Rattle.paper.specs.declared.Loading.the-variants as L
+use Rattle.paper.specs.declared.Counted.{Counted}
+use Rattle.paper.specs.declared.Counted.the-variants as S
 
 pub data Input : Type 0 where
   inText inList inEntry inBlocks inBuffer : Input
@@ -74,3 +76,8 @@ translationSays (T.Refused n p) = refused n (inputOf p) (offsetOf p)
 abbrev pub loadingSays : Loading → Answer ℕ
 loadingSays (L.Loaded n) = ok n
 loadingSays (L.Refused n p) = refused n (inputOf p) (offsetOf p)
+
+-- a stage of a call
+abbrev pub countedSays : Counted → Answer ℕ
+countedSays (S.Count n) = ok n
+countedSays (S.Refused n p) = refused n (inputOf p) (offsetOf p)

@@ -1,4 +1,4 @@
-// What the public calls answer. The crate's specs/ holds document 01 as definitions, and its proofs/ what follows
+// What the public calls answer, and their stages. The crate's specs/ holds document 01 as definitions, and its proofs/ what follows
 // from them; nothing here computes. specs/Answers.antt gives the paper's number, input and offset for each case below.
 
 // Which lent input a refusal lies in, and at which byte of it.
@@ -16,7 +16,7 @@ pub enum Reading {
     Refused(u8, Place),
 }
 
-// A text against a key list.
+// A text against a key list; and any stage of a call that only checks.
 pub enum Checking {
     Passed,
     Refused(u8, Place),
@@ -38,5 +38,11 @@ pub enum Translation {
 // Blocks against a key list: how many instructions they hold.
 pub enum Loading {
     Loaded(usize),
+    Refused(u8, Place),
+}
+
+// A stage of a call that counts: keys, tokens, nodes or instructions. Each stage passes the refusal of the one before it up as it is.
+pub enum Counted {
+    Count(usize),
     Refused(u8, Place),
 }

@@ -55,7 +55,7 @@ pub(crate) fn say_count(one: &[u8], more: &[u8], n: usize) {
 }
 
 // Says an argument as it was given.
-pub fn say_argument(i: usize) {
+pub(crate) fn say_argument(i: usize) {
     let mut argument = io::buffer();
     let n = os::arg(i, &mut argument);
     say(&argument[..n])

@@ -99,7 +99,7 @@ fn too_long() -> bool {
 }
 
 // Writes the file that an argument names, or says why it cannot.
-pub fn write_argument(i: usize, bytes: &[u8]) -> bool {
+pub(crate) fn write_argument(i: usize, bytes: &[u8]) -> bool {
     let mut path = io::buffer();
     let n = os::arg(i, &mut path);
     if os::errno() != 0 {

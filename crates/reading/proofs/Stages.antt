@@ -6,25 +6,20 @@ use mathlib.Core.List.{List}
 use lib.ListN.{length}
 use borrow.Author.Tests.{le-leb, lt-leb}
 use Rattle.paper.specs.declared.Place.{Place}
-use Rattle.paper.specs.Answers.{Answer, ok, refused, _>>=_, Input, inText, inputOf, offsetOf}
+use Rattle.paper.specs.declared.Counted.{Counted}
+use Rattle.paper.specs.declared.Counted.the-variants.{Count, Refused}
+use Rattle.paper.specs.declared.Checking.{Checking}
+use Rattle.paper.specs.declared.Checking.the-variants as C
+use Rattle.paper.specs.Answers.{Answer, ok, refused, _>>=_, Input, inText, inputOf, offsetOf, countedSays, checkingSays}
 use Rattle.paper.specs.Tokens.{mostText}
 use Rattle.paper.specs.Keys.{keys}
 use Rattle.paper.specs.Grammar as G
 use Rattle.paper.specs.Types.{typed}
 use Rattle.paper.specs.Calls.{tree, restriction}
-use Rattle.keys.specs.Says.{keysIn, listedSays, keyCount}
-use Rattle.keys.specs.declared.list.Listed.{Listed}
-use Rattle.keys.specs.declared.list.Listed.the-variants as L
+use Rattle.keys.specs.Says.{keysIn, keyCount}
 use Rattle.keys.proofs.Checked as K
 use Rattle.trees.specs.Standing.{treeAt}
 use Rattle.reading.specs.Grown.{Planted, Grows}
-use Rattle.reading.specs.declared.Grown.{Grown}
-use Rattle.reading.specs.declared.Grown.the-variants as Trees
-use Rattle.typing.specs.Says.{checkedSays}
-use Rattle.typing.specs.declared.root.Checked.{Checked}
-use Rattle.typing.specs.declared.root.Checked.the-variants as C
-use Rattle.reading.specs.declared.Restricted.{Restricted}
-use Rattle.reading.specs.declared.Restricted.the-variants.{Root, Refused}
 use Rattle.reading.specs.Restricted.{Typed, Rooted, Types, Restricts}
 
 -- a refusal of two stages is that of the stages after them too
@@ -35,26 +30,28 @@ refused-early (refused m j to) f g e = cc
 
 -- 5 to 10; 11 to 14
 
-module _ (text nodes : List ℕ) (r : Grown) (grows : Grows text nodes r) where
-  pub planted : {m : ℕ} → r ≡ Trees.Tree m → Planted text nodes m
+module _ (text nodes : List ℕ) (r : Counted) (grows : Grows text nodes r) where
+  pub planted : {m : ℕ} → r ≡ Count m → Planted text nodes m
   planted e = subst (Grows text nodes) e grows
 
   module _ (list : List ℕ) where
-    pub not-grown : {n : ℕ} {p : Place} → r ≡ Trees.Refused n p → (tree text >>= typed (keysIn list)) ≡ refused n (inputOf p) (offsetOf p)
-    not-grown e = ap (λ (x : Answer G.Tree). x >>= typed (keysIn list)) (subst (Grows text nodes) e grows)
+    -- a refusal of the tree is one of its types
+    pub not-grown : {n : ℕ} {p : Place} → r ≡ Refused n p → Types text list nodes r
+    not-grown e =
+        subst (Types text list nodes) (sym e) (ap (λ (x : Answer G.Tree). x >>= typed (keysIn list)) (subst (Grows text nodes) e grows))
 
-    module _ {m : ℕ} (e : r ≡ Trees.Tree m) (c : Checked)
-        (says : checkedSays c ≡ typed (keysIn list) (treeAt text nodes (m - 1)))
+    module _ {m : ℕ} (e : r ≡ Count m) (c : Checking)
+        (says : checkingSays c ≡ typed (keysIn list) (treeAt text nodes (m - 1)))
       where
         pub not-typed : {n : ℕ} {p : Place} → c ≡ C.Refused n p → (tree text >>= typed (keysIn list)) ≡ refused n (inputOf p) (offsetOf p)
-        not-typed f = ap (λ (x : Answer G.Tree). x >>= typed (keysIn list)) (planted e .read) ∙ sym says ∙ ap checkedSays f
+        not-typed f = ap (λ (x : Answer G.Tree). x >>= typed (keysIn list)) (planted e .read) ∙ sym says ∙ ap checkingSays f
 
         pub right-types : c ≡ C.Passed → Typed text list nodes (m - 1)
         right-types f =
             let p = planted e in
             record {
               read = p .read;
-              checked = sym says ∙ ap checkedSays f;
+              checked = sym says ∙ ap checkingSays f;
               count = omega (arith, p .count, p .some);
               few = omega (arith, p .few, p .some);
             }
@@ -71,17 +68,18 @@ module _ (text list : List ℕ) where
     unfolding restriction
     short = rw (le-leb (length text) mostText h)
 
-    module _ (l : Listed) (says : listedSays l ≡ keyCount list) where
-      pub not-listed : {n : ℕ} {p : Place} → l ≡ L.Refused n p → restriction text list ≡ refused n (inputOf p) (offsetOf p)
-      not-listed e = short ∙ rw (K.not-listed list (sym says ∙ ap listedSays e))
+    module _ (l : Counted) (says : countedSays l ≡ keyCount list) where
+      -- a refusal of the list is one of the whole
+      pub not-listed : (nodes : List ℕ) {n : ℕ} {p : Place} → l ≡ Refused n p → Restricts text list nodes l
+      not-listed nodes e = subst (Restricts text list nodes) (sym e) (short ∙ rw (K.not-listed list (sym says ∙ ap countedSays e)))
 
-      module _ {n : ℕ} (e : l ≡ L.Keys n) where
+      module _ {n : ℕ} (e : l ≡ Count n) where
         good : keys list ≡ ok (keysIn list)
-        good = K.listed list (sym says ∙ ap listedSays e) .0
+        good = K.listed list (sym says ∙ ap countedSays e) .0
 
-        pub restricts : (nodes : List ℕ) (r : Restricted) → Types text list nodes r
+        pub restricts : (nodes : List ℕ) (r : Counted) → Types text list nodes r
             → Restricts text list nodes r
-        restricts nodes (Root k) t =
+        restricts nodes (Count k) t =
             record {
               passed = short ∙ rw (good, t .read, t .checked);
               listed = good;
@@ -90,9 +88,9 @@ module _ (text list : List ℕ) where
         restricts nodes (Refused m p) t = short ∙ rw good (refused-early (tree text) (typed (keysIn list)) _ t)
 
 -- what the answer tells
-module _ (text list nodes : List ℕ) (r : Restricted) (told : Restricts text list nodes r) where
+module _ (text list nodes : List ℕ) (r : Counted) (told : Restricts text list nodes r) where
   pub not-restricted : {n : ℕ} {p : Place} → r ≡ Refused n p → restriction text list ≡ refused n (inputOf p) (offsetOf p)
   not-restricted e = subst (Restricts text list nodes) e told
 
-  pub rooted : {k : ℕ} → r ≡ Root k → Rooted text list nodes k
+  pub rooted : {k : ℕ} → r ≡ Count k → Rooted text list nodes k
   rooted e = subst (Restricts text list nodes) e told

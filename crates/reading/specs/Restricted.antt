@@ -2,6 +2,8 @@
 use Prim.Native.Nat.{ℕ, _+_, _<_}
 use mathlib.Core.Path.{_≡_}
 use mathlib.Core.List.{List}
+use Rattle.paper.specs.declared.Counted.{Counted}
+use Rattle.paper.specs.declared.Counted.the-variants.{Count, Refused}
 use Rattle.paper.specs.Answers.{ok, refused, _>>=_, inputOf, offsetOf}
 use Rattle.paper.specs.Tokens.{mostTokens}
 use Rattle.paper.specs.Keys.{keys}
@@ -10,8 +12,6 @@ use Rattle.paper.specs.Types.{typed}
 use Rattle.paper.specs.Calls.{tree, restriction}
 use Rattle.keys.specs.Says.{keysIn}
 use Rattle.trees.specs.Standing.{treeAt}
-use Rattle.reading.specs.declared.Restricted.{Restricted}
-use Rattle.reading.specs.declared.Restricted.the-variants.{Root, Refused}
 
 -- the tree at node k is the text's, and has the right types by the list's keys
 pub record Typed (text list nodes : List ℕ) (k : ℕ) : Type 0 where
@@ -26,10 +26,10 @@ pub record Rooted (text list nodes : List ℕ) (k : ℕ) : Type 0 where
   pub listed : keys list ≡ ok (keysIn list)
   pub typed : Typed text list nodes k
 
-abbrev pub Types : List ℕ → List ℕ → List ℕ → Restricted → Type 0
-Types text list nodes (Root k) = Typed text list nodes k
+abbrev pub Types : List ℕ → List ℕ → List ℕ → Counted → Type 0
+Types text list nodes (Count k) = Typed text list nodes k
 Types text list nodes (Refused n p) = (tree text >>= typed (keysIn list)) ≡ refused n (inputOf p) (offsetOf p)
 
-abbrev pub Restricts : List ℕ → List ℕ → List ℕ → Restricted → Type 0
-Restricts text list nodes (Root k) = Rooted text list nodes k
+abbrev pub Restricts : List ℕ → List ℕ → List ℕ → Counted → Type 0
+Restricts text list nodes (Count k) = Rooted text list nodes k
 Restricts text list nodes (Refused n p) = restriction text list ≡ refused n (inputOf p) (offsetOf p)

@@ -5,20 +5,18 @@
 // the one that the definition `tree` reads.
 //
 // `restrict` takes a key list too. It gives the first refusal that document 01 gives the two (1; 2; 3 and 4; 5 to 10; 11 to 14), or
-// the node at which the text's tree then stands. What it promises is the definition `restriction`.
+// how many nodes stand before the root, which is its number. What it promises is the definition `restriction`.
 ghost use mathlib.Core.Path.{_≡_};
 ghost use Prim.Native.Nat.{_≤_};
 ghost use lib.ListN.{length};
 ghost use Rattle.paper.specs.Tokens.{mostText};
 ghost use Rattle.reading.specs.Grown.{Grows};
 ghost use Rattle.reading.specs.Restricted.{Types, Restricts};
-use grammar::Parsed;
-use keys::Listed;
+use paper::Checking;
+use paper::Counted;
 use paper::Place;
 use tokens::MOST_TOKENS;
-use tokens::Tokenized;
 use trees::Node;
-use typing::Checked;
 
 // No text is longer: document 01's refusal 1, which is given before a text comes here.
 pub const MOST_TEXT: usize = 4096;
@@ -27,12 +25,7 @@ pub const MOST_TEXT: usize = 4096;
 pub const NODE_WORDS: usize = Node::WORDS * MOST_TOKENS;
 
 // The number of nodes, of which the last is the root; or a refusal.
-pub enum Grown {
-    Tree(usize),
-    Refused(u8, Place),
-}
-
-pub fn read_tree(text: &[u8], nodes: &mut [u32]) -> Grown
+pub fn read_tree(text: &[u8], nodes: &mut [u32]) -> Counted
     requires { ⌜ length (now text) ≤ mostText ⌝ }
     requires { ⌜ length (now nodes) ≡ 8192 ⌝ }
     ensures { λ r. ⌜ Grows (now (text .entry)) (now (nodes .exit)) r ⌝ }
@@ -42,54 +35,41 @@ pub fn read_tree(text: &[u8], nodes: &mut [u32]) -> Grown
     let mut ends = [0u16; MOST_TOKENS];
     let mut limbs = [0u32; 4 * MOST_TOKENS];
     let tokenized = tokens::tokenize(text, &mut kinds, &mut starts, &mut ends, &mut limbs);
-    match tokenized {
-        Tokenized::Refused(number, place) => Grown::Refused(number, place),
-        Tokenized::Count(count) => {
-            let parsed = grammar::parse(text, &kinds, &starts, &ends, &limbs, count, nodes);
-            match parsed {
-                Parsed::Refused(number, place) => Grown::Refused(number, place),
-                Parsed::Tree(size) => Grown::Tree(size),
-            }
-        }
-    }
-}
-
-// The root's node, or a refusal.
-pub enum Restricted {
-    Root(usize),
-    Refused(u8, Place),
+    let Counted::Count(count) = tokenized else {
+        return tokenized;
+    };
+    grammar::parse(text, &kinds, &starts, &ends, &limbs, count, nodes)
 }
 
 // Of a text that is not too long and a list that is good: 5 to 10; 11 to 14.
-fn typed_root(text: &[u8], list: &[u8], nodes: &mut [u32]) -> Restricted
+fn typed_root(text: &[u8], list: &[u8], nodes: &mut [u32]) -> Counted
     requires { ⌜ length (now text) ≤ mostText ⌝ }
     requires { ⌜ length (now nodes) ≡ 8192 ⌝ }
     ensures { λ r. ⌜ Types (now (text .entry)) (now (list .entry)) (now (nodes .exit)) r ⌝ }
 {
     let grown = read_tree(text, nodes);
-    match grown {
-        Grown::Refused(number, place) => Restricted::Refused(number, place),
-        Grown::Tree(size) => {
-            let root = size - 1;
-            let checked = typing::check_types(text, list, nodes, root);
-            match checked {
-                Checked::Refused(number, place) => Restricted::Refused(number, place),
-                Checked::Passed => Restricted::Root(root),
-            }
-        }
+    let Counted::Count(size) = grown else {
+        return grown;
+    };
+    let root = size - 1;
+    let checked = typing::check_types(text, list, nodes, root);
+    match checked {
+        Checking::Refused(number, place) => Counted::Refused(number, place),
+        Checking::Passed => Counted::Count(root),
     }
 }
 
-pub fn restrict(text: &[u8], list: &[u8], nodes: &mut [u32]) -> Restricted
+// The number of the root of a text that is good for the keys of a list, or the first refusal of the two.
+pub fn restrict(text: &[u8], list: &[u8], nodes: &mut [u32]) -> Counted
     requires { ⌜ length (now nodes) ≡ 8192 ⌝ }
     ensures { λ r. ⌜ Restricts (now (text .entry)) (now (list .entry)) (now (nodes .exit)) r ⌝ }
 {
     if MOST_TEXT < text.len() {
-        return Restricted::Refused(1, Place::Text(MOST_TEXT));
+        return Counted::Refused(1, Place::Text(MOST_TEXT));
     }
     let listed = keys::check_list(list);
-    match listed {
-        Listed::Refused(number, place) => Restricted::Refused(number, place),
-        Listed::Keys(_) => typed_root(text, list, nodes),
-    }
+    let Counted::Count(_) = listed else {
+        return listed;
+    };
+    typed_root(text, list, nodes)
 }

@@ -9,6 +9,7 @@ ghost use lib.ListN.{length};
 ghost use Rattle.paper.specs.Tokens.{tokens, mostText, mostTokens};
 ghost use Rattle.tokens.specs.Tokenized.{tape, tokenizedSays, Placed};
 use crate::found::Found;
+use paper::Counted;
 use paper::Place;
 
 mod found;
@@ -20,12 +21,6 @@ mod slots;
 
 pub const MOST_TOKENS: usize = 1024;
 
-// How many tokens a text has, or its refusal.
-pub enum Tokenized {
-    Count(usize),
-    Refused(u8, Place),
-}
-
 // Cuts a text into tokens and stores each in its slots; answers how many there are, or the refusal.
 pub fn tokenize(
     text: &[u8],
@@ -33,7 +28,7 @@ pub fn tokenize(
     starts: &mut [u16],
     ends: &mut [u16],
     limbs: &mut [u32],
-) -> Tokenized
+) -> Counted
     requires { ⌜ (length (now text) ≤ mostText) × (length (now kinds) ≡ mostTokens) × (length (now starts) ≡ mostTokens)
         × (length (now ends) ≡ mostTokens) × (length (now limbs) ≡ 4 * mostTokens) ⌝ }
     ensures says { λ r. ⌜ tokenizedSays (tape (now (text .entry)) (now (kinds .exit)) (now (starts .exit)) (now (ends .exit)) (now (limbs .exit))) r ≡ tokens (now (text .entry)) ⌝ }
@@ -48,16 +43,16 @@ pub fn tokenize(
             Found::Blank(end) => at = end,
             Found::Token(kind, end) => {
                 if n == MOST_TOKENS {
-                    return Tokenized::Refused(7, Place::Text(at));
+                    return Counted::Refused(7, Place::Text(at));
                 }
                 slots::store_token(kinds, starts, ends, n, kind, at, end);
                 slots::store_number(limbs, n * 4, scanned.number);
                 n += 1;
                 at = end;
             }
-            Found::NoToken => return Tokenized::Refused(5, Place::Text(at)),
-            Found::TooLarge => return Tokenized::Refused(6, Place::Text(at)),
+            Found::NoToken => return Counted::Refused(5, Place::Text(at)),
+            Found::TooLarge => return Counted::Refused(6, Place::Text(at)),
         }
     }
-    Tokenized::Count(n)
+    Counted::Count(n)
 }

@@ -40,7 +40,7 @@ fn write_field(list: &[u8], word: &[u8], name: &[u8], i: usize, code: &mut [u8])
     put::write(put::plain(4, f, k), i, code)
 }
 
-pub fn write_leaf(
+pub(crate) fn write_leaf(
     text: &[u8],
     list: &[u8],
     nodes: &[u32],

@@ -47,14 +47,14 @@ fn operator_parts(o: Operator) -> Parts
 
 // Each writes instruction number `i`, and gives the number after it.
 
-pub fn write_prefix(o: Prefix, i: usize, code: &mut [u8]) -> usize
+pub(crate) fn write_prefix(o: Prefix, i: usize, code: &mut [u8]) -> usize
     requires { ⌜ instructionSize * (i + 1) ≤ length (now code) ⌝ }
     ensures { λ r. ⌜ Wrote (now (code .entry)) i (operation (prefixMeant o) ∷ []) (now (code .exit)) r ⌝ }
 {
     put::write(prefix_parts(o), i, code)
 }
 
-pub fn write_operator(o: Operator, i: usize, code: &mut [u8]) -> usize
+pub(crate) fn write_operator(o: Operator, i: usize, code: &mut [u8]) -> usize
     requires { ⌜ instructionSize * (i + 1) ≤ length (now code) ⌝ }
     ensures { λ r. ⌜ Wrote (now (code .entry)) i (spec.operator o ∷ []) (now (code .exit)) r ⌝ }
 {

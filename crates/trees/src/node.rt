@@ -157,6 +157,7 @@ fn leaf_of(kind: u32, a: u32, b: u32, c: u32, d: u32) -> Leaf
 }
 
 impl Leaf {
+    // What a leaf holds. A node that is no leaf of a text reads as `false`.
     pub fn read(nodes: &[u32], i: usize) -> Leaf
         requires { ⌜ i * 8 + 8 ≤ length (now nodes) ⌝ }
         ensures { λ r. ⌜ r ≡ leafAt (now (nodes .entry)) i ⌝ }
@@ -184,6 +185,7 @@ fn node_of(kind: u32, i: usize, left: usize) -> Node
 impl Node {
     pub const WORDS: usize = 8;
 
+    // What a walk must know of a node to go on: its operator, and where its left operand stands.
     pub fn read(nodes: &[u32], i: usize) -> Node
         requires { ⌜ i * 8 + 8 ≤ length (now nodes) ⌝ }
         ensures { λ r. ⌜ r ≡ nodeAt (now (nodes .entry)) i ⌝ }

@@ -53,6 +53,7 @@ fn bit(truth: bool) -> u32
     0
 }
 
+// Stores the node of `true` or `false`.
 pub fn put_truth(nodes: &mut [u32], node: usize, place: u32, truth: bool)
     requires { ⌜ node * 8 + 8 ≤ length (now nodes) ⌝ }
     ensures { λ _. ⌜ now (nodes .exit) ≡ sets (now (nodes .entry)) (node * 8) (words node (G.truth place truth)) ⌝ }
@@ -69,6 +70,7 @@ pub fn put_truth(nodes: &mut [u32], node: usize, place: u32, truth: bool)
     put(nodes, node, row);
 }
 
+// Stores the node of a number, by its limbs.
 pub fn put_number(nodes: &mut [u32], node: usize, place: u32, number: Magnitude)
     requires { ⌜ node * 8 + 8 ≤ length (now nodes) ⌝ }
     ensures { λ _. ⌜ now (nodes .exit) ≡ sets (now (nodes .entry)) (node * 8) (words node (G.number place (plain (value number)))) ⌝ }

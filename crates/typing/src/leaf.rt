@@ -33,7 +33,7 @@ fn named(to: usize, t: Typing) -> Typed
 }
 
 // Refusal 13, at an operator, where there is none.
-pub fn operated(at: usize, t: Typing) -> Typed
+pub(crate) fn operated(at: usize, t: Typing) -> Typed
     ensures { λ r. ⌜ typedSays r ≡ operatorType at (typingMeant t) ⌝ }
 {
     match t {
@@ -75,7 +75,7 @@ fn attribute_type(list: &[u8], at: usize, to: usize, name: &[u8]) -> Typed
     Typed::Refused(12, Place::Text(to))
 }
 
-pub fn leaf_type(text: &[u8], list: &[u8], nodes: &[u32], i: usize) -> Typed
+pub(crate) fn leaf_type(text: &[u8], list: &[u8], nodes: &[u32], i: usize) -> Typed
     requires { ⌜ i * 8 + 8 ≤ length (now nodes) ⌝ }
     ensures { λ r. ⌜ typedSays r ≡ typeOf (keysIn (now (list .entry))) (leafOn (now (text .entry)) (placeAt (now (nodes .entry)) i) (leafAt (now (nodes .entry)) i)) ⌝ }
 {

@@ -3,11 +3,15 @@ use Prim.Native.Nat.{ℕ}
 use mathlib.Core.Path.{_≡_, refl, sym, ap, _∙_}
 use mathlib.Core.List.{List}
 use lib.ListN.{length}
-use Rattle.paper.specs.Answers.{Answer, ok, refused, _>>=_, Input}
+use Rattle.paper.specs.declared.Place.{Place}
+use Rattle.paper.specs.declared.Counted.{Counted}
+use Rattle.paper.specs.declared.Counted.the-variants as S
+use Rattle.paper.specs.Answers.{Answer, ok, refused, _>>=_, Input, inputOf, offsetOf, countedSays}
 use Rattle.paper.specs.Keys.{Key}
 use Rattle.paper.specs.Blocks.{totalOf, layout}
 use Rattle.paper.specs.Loading.{instructionsFrom, typesAlong, loadCheck, loaded}
 use Rattle.paper.specs.Calls.{loadAnswer}
+use Rattle.paper.proofs.Stages.{refused-up, counted-on}
 use Rattle.keys.specs.Says.{keysIn, keyCount}
 use Rattle.keys.proofs.Records.{keys-length}
 use Rattle.keys.proofs.Checked.{listed, not-listed}
@@ -27,13 +31,14 @@ module _ (ks : List Key) (blocks : List ℕ) where
   unfolding loaded
   staged = total-kept (layout (length ks) blocks) (totalOf blocks)
 
-  pub layout-refused : {k : ℕ} {i : Input} {at : ℕ} → laidOut (length ks) blocks ≡ refused k i at → refused k i at ≡ loaded ks blocks
-  layout-refused e = sym (staged ∙ ap (λ (x : Answer ℕ). x >>= λ m. typesOk m >>= λ _. ok m) e)
+  -- the layout's answer: a refusal is passed up, a count goes on to the types
+  module _ (r : Counted) (says : countedSays r ≡ laidOut (length ks) blocks) where
+    pub layout-refused : {k : ℕ} {p : Place} → r ≡ S.Refused k p → refused k (inputOf p) (offsetOf p) ≡ loaded ks blocks
+    layout-refused e = refused-up (λ m. typesOk m >>= λ _. ok m) r says e ∙ sym staged
 
-  -- the blocks are laid out, and count n instructions
-  module _ {n : ℕ} (e : laidOut (length ks) blocks ≡ ok n) where
-    pub types-told : {a : Answer (Unit {0})} → typesOk n ≡ a → (a >>= λ _. ok n) ≡ loaded ks blocks
-    types-told f = sym (staged ∙ ap (λ (x : Answer ℕ). x >>= λ m. typesOk m >>= λ _. ok m) e ∙ ap (λ (x : Answer (Unit {0})). x >>= λ _. ok n) f)
+    pub types-told : {n : ℕ} {a : Answer (Unit {0})} → r ≡ S.Count n → typesOk n ≡ a → (a >>= λ _. ok n) ≡ loaded ks blocks
+    types-told {n} e f =
+        sym (ap (λ (x : Answer (Unit {0})). x >>= λ _. ok n) f) ∙ counted-on (λ m. typesOk m >>= λ _. ok m) r says e ∙ sym staged
 
 module _ (list blocks : List ℕ) where
   pub list-refused : {k : ℕ} {i : Input} {at : ℕ} → keyCount list ≡ refused k i at → refused k i at ≡ loadAnswer list blocks

@@ -5,28 +5,28 @@ use mathlib.Core.Bool.{Bool}
 use mathlib.Core.Option.{Option, some}
 use mathlib.Core.List.{List}
 use Rattle.paper.specs.declared.Place.{Place}
-use Rattle.paper.specs.Answers.{ok, refused, _>>=_, inputOf, offsetOf}
+use Rattle.paper.specs.declared.Counted.{Counted}
+use Rattle.paper.specs.declared.Counted.the-variants as S
+use Rattle.paper.specs.declared.Checking.{Checking}
+use Rattle.paper.specs.declared.Checking.the-variants as C
+use Rattle.paper.specs.Answers.{ok, refused, _>>=_, inputOf, offsetOf, checkingSays}
 use Rattle.paper.specs.Grammar as G
 use Rattle.paper.specs.Entry.{entryOf}
 use Rattle.paper.specs.Meaning.{Value, truth, valueOf, isTrue}
 use Rattle.paper.specs.Calls.{judgeAnswer}
 use Rattle.paper.proofs.Meant.{judged}
-use Rattle.keys.specs.Says.{keysIn, enteredSays, conforms}
-use Rattle.keys.specs.declared.conform.Entered.{Entered}
-use Rattle.keys.specs.declared.conform.Entered.the-variants as E
+use Rattle.keys.specs.Says.{keysIn, conforms}
 use Rattle.keys.proofs.Conforming.{matches-length}
 use Rattle.keys.proofs.Conforming as K
 use Rattle.values.specs.Held.{Is}
 use Rattle.operands.specs.Conforming.{entryIn, Conforming}
 use Rattle.trees.specs.Standing.{treeAt}
 use Rattle.reading.specs.Restricted.{Rooted, Restricts}
-use Rattle.reading.specs.declared.Restricted.{Restricted}
-use Rattle.reading.specs.declared.Restricted.the-variants as R
 use Rattle.reading.proofs.Stages.{not-restricted}
 
 module _ (text list entry : List ℕ) where
-  pub not-passed : (nodes : List ℕ) (r : Restricted) → Restricts text list nodes r
-      → {n : ℕ} {p : Place} → r ≡ R.Refused n p → refused n (inputOf p) (offsetOf p) ≡ judgeAnswer text list entry
+  pub not-passed : (nodes : List ℕ) (r : Counted) → Restricts text list nodes r
+      → {n : ℕ} {p : Place} → r ≡ S.Refused n p → refused n (inputOf p) (offsetOf p) ≡ judgeAnswer text list entry
   unfolding judgeAnswer
   not-passed nodes r told e = rw (not-restricted text list nodes r told e)
 
@@ -38,13 +38,13 @@ module _ (text list entry : List ℕ) where
     unfolding judgeAnswer
     by-entry = rw (r .passed)
 
-    module _ (x : Entered) (says : enteredSays x ≡ conforms (keysIn list) entry) where
-      pub not-entered : {n : ℕ} {p : Place} → x ≡ E.Refused n p → refused n (inputOf p) (offsetOf p) ≡ judgeAnswer text list entry
-      not-entered e = sym (by-entry ∙ rw (K.not-entered (keysIn list) entry (sym says ∙ ap enteredSays e)))
+    module _ (x : Checking) (says : checkingSays x ≡ conforms (keysIn list) entry) where
+      pub not-entered : {n : ℕ} {p : Place} → x ≡ C.Refused n p → refused n (inputOf p) (offsetOf p) ≡ judgeAnswer text list entry
+      not-entered e = sym (by-entry ∙ rw (K.not-entered (keysIn list) entry (sym says ∙ ap checkingSays e)))
 
-      module _ (e : x ≡ E.Conforms) where
+      module _ (e : x ≡ C.Passed) where
         pub conforming : Conforming list entry
-        conforming = record { listed = r .listed; entered = K.entered (keysIn list) entry (sym says ∙ ap enteredSays e) }
+        conforming = record { listed = r .listed; entered = K.entered (keysIn list) entry (sym says ∙ ap checkingSays e) }
 
         -- the tree has a value, and that is a truth
         pub judged-by : (v : Value) (b : Bool) → Is (valueOf (keysIn list) (entryIn list entry) root) v → b ≡ isTrue (some v)

@@ -2,7 +2,7 @@
 ghost use Rattle.paper.specs.Promised.{RunPromised};
 use crate::loading;
 use crate::verdict::verdict;
-use keys::Entered;
+use paper::Checking;
 use paper::Judgement;
 use paper::Loading;
 
@@ -13,8 +13,8 @@ pub fn run(list: &[u8], blocks: &[u8], entry: &[u8]) -> Judgement
     match loading::load(list, blocks) {
         Loading::Refused(number, place) => Judgement::Refused(number, place),
         Loading::Loaded(count) => match keys::check_entry(list, entry) {
-            Entered::Refused(number, place) => Judgement::Refused(number, place),
-            Entered::Conforms => verdict(machine::run_loaded(list, blocks, entry, count)),
+            Checking::Refused(number, place) => Judgement::Refused(number, place),
+            Checking::Passed => verdict(machine::run_loaded(list, blocks, entry, count)),
         },
     }
 }

@@ -1,10 +1,9 @@
 // A text alone, and a text against a key list.
 ghost use Rattle.paper.specs.Promised.{ReadPromised, CheckPromised};
 use paper::Checking;
+use paper::Counted;
 use paper::Place;
 use paper::Reading;
-use reading::Grown;
-use reading::Restricted;
 
 // How many nodes the text's tree has.
 pub fn read(text: &[u8]) -> Reading
@@ -16,8 +15,8 @@ pub fn read(text: &[u8]) -> Reading
     let mut nodes = [0u32; reading::NODE_WORDS];
     let grown = reading::read_tree(text, &mut nodes);
     match grown {
-        Grown::Refused(number, place) => Reading::Refused(number, place),
-        Grown::Tree(size) => Reading::Read(size),
+        Counted::Refused(number, place) => Reading::Refused(number, place),
+        Counted::Count(size) => Reading::Read(size),
     }
 }
 
@@ -28,7 +27,7 @@ pub fn check(text: &[u8], list: &[u8]) -> Checking
     let mut nodes = [0u32; reading::NODE_WORDS];
     let restricted = reading::restrict(text, list, &mut nodes);
     match restricted {
-        Restricted::Refused(number, place) => Checking::Refused(number, place),
-        Restricted::Root(_) => Checking::Passed,
+        Counted::Refused(number, place) => Checking::Refused(number, place),
+        Counted::Count(_) => Checking::Passed,
     }
 }

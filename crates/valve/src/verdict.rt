@@ -4,11 +4,11 @@ ghost use lib.ListN.{length};
 ghost use Rattle.paper.specs.Answers.{ok, judgementSays};
 ghost use Rattle.paper.specs.Promised.{JudgePromised};
 ghost use Rattle.reading.specs.Restricted.{Rooted};
-use keys::Entered;
+use paper::Checking;
+use paper::Counted;
 use paper::Judgement;
-use reading::Restricted;
 
-pub fn verdict(accepted: bool) -> Judgement
+pub(crate) fn verdict(accepted: bool) -> Judgement
     ensures { λ r. ⌜ judgementSays r ≡ ok accepted ⌝ }
 {
     if accepted {
@@ -25,8 +25,8 @@ fn judge_by(text: &[u8], list: &[u8], entry: &[u8], nodes: &[u32], root: usize) 
 {
     let entered = keys::check_entry(list, entry);
     match entered {
-        Entered::Refused(number, place) => Judgement::Refused(number, place),
-        Entered::Conforms => {
+        Checking::Refused(number, place) => Judgement::Refused(number, place),
+        Checking::Passed => {
             let worth = judging::value_at(text, list, entry, nodes, root);
             verdict(worth.is_true())
         }
@@ -40,7 +40,7 @@ pub fn judge(text: &[u8], list: &[u8], entry: &[u8]) -> Judgement
     let mut nodes = [0u32; reading::NODE_WORDS];
     let restricted = reading::restrict(text, list, &mut nodes);
     match restricted {
-        Restricted::Refused(number, place) => Judgement::Refused(number, place),
-        Restricted::Root(root) => judge_by(text, list, entry, &nodes, root),
+        Counted::Refused(number, place) => Judgement::Refused(number, place),
+        Counted::Count(root) => judge_by(text, list, entry, &nodes, root),
     }
 }

@@ -1,5 +1,5 @@
--- `reading::restrict` meets its contract: refusal 1 of a text that is too long (`too-long`), those of its list (`not-listed`), then the
--- answer of `typed_root`, which is that of the whole (`restricts`).
+-- `reading::restrict` meets its contract: refusal 1 of a text that is too long (`too-long`), those of its list passed up (`not-listed`), then
+-- the answer of `typed_root`, which is that of the whole (`restricts`).
 use borrow.Author.Needs.{needs}
 use Rattle.reading.proofs.Stages.{too-long, not-listed, restricts}
 use Rattle.reading.proofs.restrict.Statement.{statement}
@@ -7,8 +7,8 @@ use Rattle.reading.proofs.restrict.Tie as tie
 
 no-list : tie.Need-returns-2
 no-list c =
-    let at-list : tie.After-check-list = c .before .before .before in
-    not-listed _ _ (at-list .before .if1 .left) (at-list .check-list .result) (at-list .check-list .ensures) (c .before .listed .given .1)
+    let at-list : tie.After-check-list = c .before .before in
+    not-listed _ _ (at-list .before .if1 .left) (at-list .check-list .result) (at-list .check-list .ensures) _ (c .enum-told2 .given .1)
 
 typed : tie.Need-returns-3
 typed c =
@@ -26,7 +26,7 @@ restrict-spec =
     (λ c κs. search needs)
     (λ c. search needs)
     (λ c. search needs)
-    (λ c κs. search needs)
     no-list
+    (λ c κs. search needs)
     (λ c. c .before .before .typed-root .kept .1 .1 .0)
     typed)

@@ -1,8 +1,8 @@
 use mathlib.Core.Path.{_≡_, sym, _∙_, ap}
 use borrow.Author.Needs.{needs}
-use Rattle.paper.specs.Answers.{ok, loadingSays}
+use Rattle.paper.specs.Answers.{ok, loadingSays, checkingSays}
 use Rattle.paper.specs.Calls.{loadAnswer}
-use Rattle.keys.specs.Says.{enteredSays, keysIn, conforms}
+use Rattle.keys.specs.Says.{keysIn, conforms}
 use Rattle.valve.proofs.Runs.{load-refused, loads, entry-refused, conforming, ran}
 use Rattle.valve.proofs.running.run.Statement.{statement}
 use Rattle.valve.proofs.running.run.Tie as tie
@@ -17,7 +17,7 @@ loaded-there c = sym (c .before .before .load .ensures) ∙ ap loadingSays (c .c
 entered-there : (c : tie.After-enum-told) →
     let a = c .before .before .before .before .before .before .before .before .before .before .args in
     conforms (keysIn (a .list .now)) (a .entry .now) ≡ ok tt
-entered-there c = sym (c .before .before .check-entry .ensures) ∙ ap enteredSays (c .enum-told .given .1)
+entered-there c = sym (c .before .before .check-entry .ensures) ∙ ap checkingSays (c .enum-told .given .1)
 
 run-loaded-requires : tie.Need-run-loaded-requires
 run-loaded-requires c κs =
@@ -35,7 +35,7 @@ returns-2 : tie.Need-returns-2
 returns-2 c =
     let a = c .before .before .before .before .before .before .before .before .before .before .before .args in
     entry-refused (a .list .now) (a .blocks .now) (a .entry .now) (loaded-there (c .before .before .before .before .before))
-    (sym (c .before .before .before .check-entry .ensures) ∙ ap enteredSays (c .before .number2 .given .1))
+    (sym (c .before .before .before .check-entry .ensures) ∙ ap checkingSays (c .before .number2 .given .1))
 
 returns-3 : tie.Need-returns-3
 returns-3 c =

@@ -8,4 +8,4 @@ in-bytes = record { two = refl; four = refl; sixteen = refl; two-back = refl; si
 
 pub blockExamples : BlockExamples
 unfolding sumsOf layout
-blockExamples = record { numbers = in-bytes; sums = refl; as-many-as-needed = refl; one-block = refl; two-blocks = refl }
+blockExamples = record { numbers = in-bytes; sums = refl; as-many-as-needed = refl; one-block = refl; fewer-keys-than-listed = refl; two-blocks = refl }

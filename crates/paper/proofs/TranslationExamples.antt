@@ -10,7 +10,7 @@ every = record { written = refl; block = refl; runs = refl; judged = refl }
 
 refusals : Refused
 unfolding translateAnswer translateBuffer
-refusals = record { short = refl; short-unchanged = refl; untyped = refl; untyped-unchanged = refl }
+refusals = record { short = refl; short-unchanged = refl; one-of-two-blocks = refl; untyped = refl; untyped-unchanged = refl }
 
 pub translationExamples : TranslationExamples
 unfolding restriction codeOf conversions

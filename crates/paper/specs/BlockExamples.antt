@@ -78,6 +78,7 @@ oneBlock =
     on single (ok tt)
     -- "its number from 0"
     ∷ on (block 1 1 (alone pushTrue) 1 0) (refused 17 inBlocks 0)
+    ∷ on (block 256 1 (alone pushTrue) 1 0) (refused 17 inBlocks 0)
     -- "its instruction count, .. 1 to 25"
     ∷ on (block 0 0 (replicate 500 0) 0 0) (refused 17 inBlocks 0)
     ∷ on (blockWith (0x4A ∷ 0xC3 ∷ 0x85 ∷ 0x3F ∷ []) 0 25 full 25 0) (ok tt)
@@ -127,4 +128,5 @@ pub record BlockExamples : Type 0 where
   pub sums : Agree checkOf checks
   pub as-many-as-needed : Agree blocksNeeded needs
   pub one-block : Agree (layout 0) oneBlock
+  pub fewer-keys-than-listed : layout 1 single ≡ refused 17 inBlocks 0
   pub two-blocks : Agree (layout 0) twoBlocks

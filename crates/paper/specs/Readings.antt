@@ -87,6 +87,8 @@ readings =
     ∷ violated "(true; false)"
     -- places of refusals 11 to 14
     ∷ refusedAt "1 && zz" 11 5
+    ∷ refusedAt "zz && yy" 11 0
+    ∷ refusedAt "zz == yy" 11 0
     ∷ refusedAt "v::mask" 12 3
     ∷ refusedAt "::prio" 12 2
     ∷ refusedAt "zz::foo" 11 0

@@ -149,6 +149,7 @@ pub record EveryInstruction : Type 0 where
 pub record Refused : Type 0 where
   pub short : translateAnswer (bytes "v == 1") theKeys (replicate 511 0xAA) ≡ refused 15 inBuffer 511
   pub short-unchanged : translateBuffer (bytes "v == 1") theKeys (replicate 511 0xAA) ≡ replicate 511 0xAA
+  pub one-of-two-blocks : translateAnswer everyText theKeys (replicate 1023 0xAA) ≡ refused 15 inBuffer 1023
   pub untyped : translateAnswer (bytes "d > 3") theKeys (replicate 512 0xAA) ≡ refused 13 inText 2
   pub untyped-unchanged : translateBuffer (bytes "d > 3") theKeys (replicate 512 0xAA) ≡ replicate 512 0xAA
 

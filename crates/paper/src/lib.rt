@@ -1,5 +1,7 @@
 // What the public calls answer, and their stages. The crate's specs/ holds document 01 as definitions, and its proofs/ what follows
 // from them; nothing here computes. specs/Answers.antt gives the paper's number, input and offset for each case below.
+pub mod operations;
+pub mod refused;
 
 // Which lent input a refusal lies in, and at which byte of it.
 pub enum Place {

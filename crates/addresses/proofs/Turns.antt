@@ -17,7 +17,7 @@ use Rattle.addresses.specs.Reads.{separates, isPart, baseOf, scaleOf, nu
 use Rattle.addresses.proofs.Digits.{after-mod}
 use Rattle.addresses.proofs.Strings.{part-last, part-more}
 
--- so many parts of a string are read behind a number, up to an offset
+-- so many parts of a string are read after a number, up to an offset
 pub record Going (k : Scheme) (s : List ℕ) (before n count at : ℕ) : Type 0 where
   pub few : count ≤ at
   pub inside : at ≤ length s

@@ -78,7 +78,7 @@ gapAt (b ∷ s) = is ":" b && starts (is ":") s
 abbrev pub zeroFirst : List ℕ → Bool
 zeroFirst s = not (eqb (length s) 1) && starts (is "0") s
 
--- parts behind a number
+-- parts after a number
 pub record Grouped (s : A.Scheme) (ps : List (List ℕ)) (n : ℕ) (r : Counted) : Type 0 where
   pub told : r .ok ≡ every (isPart s) ps
   pub counted : r .ok ≡ true → r .count ≡ length ps

@@ -1,4 +1,4 @@
-// All parts of a string, one behind the other.
+// All parts of a string, one after the other.
 ghost use mathlib.Core.Path.{_≡_};
 ghost use Prim.Native.Nat.{_+_, _≤_, _^_};
 ghost use lib.ListN.{length, drop};
@@ -12,7 +12,7 @@ use crate::parts::is_part;
 use crate::parts::value_of;
 use number::Magnitude;
 
-// Whether all parts are good; if so, how many there are, and the number that they are behind another.
+// Whether all parts are good; if so, how many there are, and the number that they are after another.
 pub struct Counted {
     pub ok: bool,
     pub count: usize,

@@ -42,7 +42,7 @@ fn before_gap(string: &[u8]) -> usize
     i
 }
 
-// The groups on one side of a "::", of which there may be none, behind a number.
+// The groups on one side of a "::", of which there may be none, after a number.
 fn side(string: &[u8], before: Magnitude) -> Counted
     ensures { λ r. ⌜ Grouped paper.ipv6 (paper.groups (now (string .entry))) (value before) r ⌝ }
     ensures { λ r. ⌜ r .count ≤ length (now (string .entry)) ⌝ }
@@ -57,7 +57,7 @@ fn side(string: &[u8], before: Magnitude) -> Counted
     groups(Scheme::Ipv6, string, before)
 }
 
-// A number with so many groups of zeros behind it.
+// A number with so many groups of zeros after it.
 fn with_zeros(before: Magnitude, count: usize) -> Magnitude
     ensures { λ r. ⌜ value r ≡ digitsAfter 65536 (value before) (replicate count 0) % 2 ^ 128 ⌝ }
 {
@@ -71,7 +71,7 @@ fn with_zeros(before: Magnitude, count: usize) -> Magnitude
     number
 }
 
-// What stands before a "::" and behind it.
+// What stands before a "::" and after it.
 fn gapped(left: &[u8], right: &[u8]) -> Address
     ensures { λ r. ⌜ ReadAs (paper.gapped (paper.groups (now (left .entry))) (paper.groups (now (right .entry)))) r ⌝ }
 {

@@ -10,8 +10,8 @@ ghost use mathlib.Core.Path.{_≡_};
 ghost use mathlib.Core.Option.{none};
 ghost use Rattle.paper.specs.Addresses as paper;
 ghost use Rattle.addresses.specs.Reads.{named, scheme, ReadAs};
-use keys::bytes::same_bytes;
 use number::Magnitude;
+use spelling::bytes::same_bytes;
 
 pub enum Scheme {
     Ipv4,

@@ -41,20 +41,27 @@ module _ (blocks : List ℕ) (k n : ℕ) where
   pub counts-on : k < n → countsFrom blocks k (n - k) ≡ countAt blocks k + countsFrom blocks (k + 1) (n - (k + 1))
   counts-on h = let e : n - k ≡ suc (n - (k + 1)) = omega arith in rw e
 
--- the comparison of the two, byte by byte
+-- the comparison of the two, sum by sum
 abbrev pub sameCheck : List ℕ → Sums → Bool
 sameCheck b s =
-    cond (eqb (getD b 508 0) (s .second / 256 % 256))
-    (cond (eqb (getD b 509 0) (s .second % 256))
-    (cond (eqb (getD b 510 0) (s .first / 256 % 256)) (cond (eqb (getD b 511 0) (s .first % 256)) true false) false) false) false
+    (eqb (getD b 508 0) (s .second / 256 % 256) && eqb (getD b 509 0) (s .second % 256))
+    && (eqb (getD b 510 0) (s .first / 256 % 256) && eqb (getD b 511 0) (s .first % 256))
+
+by-sums : (p q r t : Bool) → cond p (cond q (cond r (cond t true false) false) false) false ≡ ((p && q) && (r && t))
+by-sums true true true true = refl
+by-sums true true true false = refl
+by-sums true true false t = refl
+by-sums true false r t = refl
+by-sums false q r t = refl
 
 pub check-compared : (b : List ℕ) (s : Sums) → length b ≡ 512 → s ≡ sumsOf (take 508 b) →
     sameBytes (bytesAt b 508 4) (checkOf (take 508 b)) ≡ sameCheck b s
-check-compared b s h e = ap₂ sameBytes (check-there b h) (check-due (take 508 b)) ∙ ap (sameCheck b) (sym e)
-
-pub if-then-true : (t : Bool) → cond t true false ≡ t
-if-then-true true = refl
-if-then-true false = refl
+check-compared b s h e =
+    let due = sumsOf (take 508 b) in
+    ap₂ sameBytes (check-there b h) (check-due (take 508 b))
+    ∙ by-sums (eqb (getD b 508 0) (due .second / 256 % 256)) (eqb (getD b 509 0) (due .second % 256))
+    (eqb (getD b 510 0) (due .first / 256 % 256)) (eqb (getD b 511 0) (due .first % 256))
+    ∙ ap (sameCheck b) (sym e)
 
 -- a block by the numbers that were read from it
 module _ (keys total k later : ℕ) (b : List ℕ) (r : Block) (says : BlockOf b r) where

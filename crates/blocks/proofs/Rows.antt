@@ -11,7 +11,7 @@ use Rattle.paper.specs.Numbers.{bytesAt, bigEndian}
 use Rattle.paper.specs.Code.{Instruction, encode}
 use Rattle.paper.specs.Blocks.{encodeAll, sealed, blockOf, blocksFrom, blocksNeeded, blocksOf}
 use Rattle.paper.specs.Calls.{over}
-use Rattle.paper.proofs.Encoded.{row-length}
+use Rattle.paper.proofs.InstructionsRoundTrip.{row-length}
 use Rattle.blocks.specs.Written.{held, codedBlock, blockAt, inRow, codedBlocks}
 use Rattle.blocks.proofs.Stores.{stored}
 

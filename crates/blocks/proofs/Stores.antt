@@ -1,4 +1,4 @@
--- A run of bytes stored in a slice: what stands before its end, and runs stored one behind the other.
+-- A run of bytes stored in a slice: what stands before its end, and runs stored one after the other.
 use Prim.Native.Nat.{ℕ, zero, suc, _+_, _-_, _/_, _%_, _≤_, _<_}
 use native.Mathlib.Nat.{div-one}
 use native.Mathlib.Numerals.{add-one}
@@ -17,7 +17,7 @@ module _ (l : List ℕ) (i n : ℕ) (vs : List ℕ) (size : length vs ≡ n) (ro
   pub stored : sets l i vs ≡ take i l ++ vs ++ drop (i + n) l
   stored = sets-eq vs l i (omega arith) ∙ ap (λ (m : ℕ). take i l ++ vs ++ drop (i + m) l) size
 
-  -- behind what stood before it
+  -- after what stood before it
   pub stored-behind : (front : List ℕ) → take i l ≡ front → take (i + n) (sets l i vs) ≡ front ++ vs
   stored-behind front e =
       let long : length (take i l ++ vs) ≡ i + n = length-append (take i l) vs ∙ omega (arith, length-take-le i l (omega arith)) in

@@ -1,4 +1,4 @@
--- The check as the code holds it, and a block behind which it is stored.
+-- The check as the code holds it, and a block after which it is stored.
 use Prim.Native.Nat.{ℕ, _/_, _%_}
 use mathlib.Core.List.{List}
 use lib.ListN.{take, set}

@@ -41,7 +41,12 @@ impl Block {
 
     pub const TAIL: usize = 504;
 
+    pub const KEYS: usize = 506;
+
+    // Where the check sums stand: first the second sum, then the first one.
     pub const CHECK: usize = 508;
+
+    pub const CHECK_FIRST: usize = 510;
 
     pub const MOST: usize = 82;
 
@@ -54,7 +59,7 @@ impl Block {
             number: two_bytes(block, 0),
             count: two_bytes(block, 2),
             total: two_bytes(block, Block::TAIL),
-            keys: two_bytes(block, 506),
+            keys: two_bytes(block, Block::KEYS),
         }
     }
 

@@ -1,7 +1,9 @@
 // Refusals 16 and 17: whether blocks are laid out as they must be.
 ghost use mathlib.Core.Path.{_≡_};
-ghost use Prim.Native.Nat.{_+_, _*_, _/_, _≤_};
-ghost use lib.ListN.{length, take};
+ghost use mathlib.Core.Bool.{_&&_};
+ghost use Prim.Native.Nat.{_+_, _*_, _/_, _%_, _≤_, _<_};
+ghost use lib.Dec.{eqb};
+ghost use lib.ListN.{length, getD, take};
 ghost use Rattle.paper.specs.Answers.{countedSays};
 ghost use Rattle.paper.specs.Numbers.{bytesAt};
 ghost use Rattle.paper.specs.Tokens.{sameBytes};
@@ -10,9 +12,10 @@ ghost use Rattle.blocks.specs.Layout.{laidOut, blockRight};
 use crate::fields::Block;
 use crate::fields::two_bytes;
 use crate::sums::sums_of;
-use keys::bytes;
 use paper::Counted;
 use paper::Place;
+use paper::refused;
+use spelling::bytes;
 
 // 25 except in the last block, where it is 1 to 25.
 fn count_right(later: usize, count: usize) -> bool
@@ -30,24 +33,23 @@ fn wide(x: u8) -> u32
     x as u32
 }
 
+// Whether two bytes from an offset on spell a sum, the high one first.
+fn spells(block: &[u8], at: usize, sum: u32) -> bool
+    requires { ⌜ (at + 2 ≤ length (now block)) × (at < 65536) ⌝ }
+    ensures { λ r. ⌜ r ≡ (eqb (getD (now (block .entry)) at 0) (sum / 256 % 256) && eqb (getD (now (block .entry)) (at + 1) 0) (sum % 256)) ⌝ }
+{
+    (wide(block[at]) == sum / 256 % 256) & (wide(block[at + 1]) == sum % 256)
+}
+
 fn check_right(block: &[u8]) -> bool
     requires { ⌜ length (now block) ≡ 512 ⌝ }
     ensures { λ r. ⌜ r ≡ sameBytes (bytesAt (now (block .entry)) 508 4) (checkOf (take 508 (now (block .entry)))) ⌝ }
 {
     let sums = sums_of(&block[..Block::CHECK]);
-    if wide(block[508]) != sums.second / 256 % 256 {
-        return false;
-    }
-    if wide(block[509]) != sums.second % 256 {
-        return false;
-    }
-    if wide(block[510]) != sums.first / 256 % 256 {
-        return false;
-    }
-    wide(block[511]) == sums.first % 256
+    spells(block, Block::CHECK, sums.second) & spells(block, Block::CHECK_FIRST, sums.first)
 }
 
-// Block k, behind which so many stand, in blocks of a total count for a number of keys.
+// Block k, after which so many stand, in blocks of a total count for a number of keys.
 fn block_right(block: &[u8], k: usize, later: usize, total: usize, keys: usize) -> bool
     requires { ⌜ length (now block) ≡ 512 ⌝ }
     ensures { λ r. ⌜ r ≡ blockRight keys total k later (now (block .entry)) ⌝ }
@@ -93,13 +95,13 @@ pub fn layout(blocks: &[u8], keys: usize) -> Counted
 {
     let size = blocks.len();
     if size == 0 {
-        return Counted::Refused(16, Place::Blocks(size));
+        return Counted::Refused(refused::BLOCKS_LENGTH, Place::Blocks(size));
     }
     if size % Block::SIZE != 0 {
-        return Counted::Refused(16, Place::Blocks(size));
+        return Counted::Refused(refused::BLOCKS_LENGTH, Place::Blocks(size));
     }
     if Block::MOST * Block::SIZE < size {
-        return Counted::Refused(16, Place::Blocks(size));
+        return Counted::Refused(refused::BLOCKS_LENGTH, Place::Blocks(size));
     }
     let n = size / Block::SIZE;
     let total = total_of(blocks, n);
@@ -113,7 +115,7 @@ pub fn layout(blocks: &[u8], keys: usize) -> Counted
             total,
             keys,
         ) {
-            return Counted::Refused(17, Place::Blocks(from));
+            return Counted::Refused(refused::BLOCK_LAYOUT, Place::Blocks(from));
         }
         k += 1;
     }

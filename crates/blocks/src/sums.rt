@@ -40,7 +40,7 @@ pub(crate) fn sums_of(s: &[u8]) -> Sums
     }
 }
 
-// Stores the check of a block's first 508 bytes behind them.
+// Stores the check of a block's first 508 bytes after them.
 pub(crate) fn seal(block: &mut [u8])
     requires { ⌜ length (now block) ≡ 512 ⌝ }
     ensures { λ _. ⌜ now (block .exit) ≡ sealedAt (now (block .entry)) ⌝ }

@@ -5,7 +5,7 @@ ghost use lib.ListN.{length};
 ghost use Rattle.cases.specs.Names.{wordsOf, placeIn, commandAt};
 use crate::scan::part;
 use crate::scan::scan;
-use keys::bytes::same_bytes;
+use spelling::bytes::same_bytes;
 
 pub const TEXT: usize = 0;
 

@@ -1,6 +1,4 @@
 mod Answering
-mod Steps
-mod Words
 pub mod Records
 mod Lookup
 mod Listing

@@ -7,7 +7,7 @@ use mathlib.Core.List.{List}
 use native.Mathlib.Numerals.{add-one}
 use Rattle.paper.specs.Tokens.{sameBytes}
 use Rattle.paper.specs.Keys.{recordAt, nameOf, keysFrom, findFrom}
-use Rattle.keys.proofs.Steps.{one-less, none-left}
+use Rattle.spelling.proofs.Steps.{one-less, none-left}
 
 -- what the search from k on finds
 abbrev pub findOn : List ℕ → List ℕ → ℕ → ℕ → Option ℕ

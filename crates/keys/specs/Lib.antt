@@ -1,2 +1,2 @@
 pub mod Says
-pub mod Words
+pub mod Names

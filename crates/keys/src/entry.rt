@@ -8,6 +8,7 @@ ghost use Rattle.paper.specs.Entry.{headSize, priorityOf, matchSize, matchAt, s
 ghost use Rattle.keys.specs.Says.{meant};
 use crate::record::KeyRecord;
 use number::Magnitude;
+use paper::kinds;
 
 // What the head holds.
 pub struct Entry {
@@ -71,7 +72,7 @@ impl Matched {
         requires { ⌜ key .width ≤ 128 ⌝ }
         ensures { λ r. ⌜ meant r ≡ absent (kindOf (key .kind)) (key .width) ⌝ }
     {
-        if key.kind == KeyRecord::RANGE {
+        if key.kind == kinds::RANGE {
             return Matched {
                 first: Magnitude::zero(),
                 second: Magnitude::ones(key.width as u32),

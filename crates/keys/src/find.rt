@@ -4,9 +4,9 @@ ghost use Prim.Native.Nat.{_≤_, _/_};
 ghost use lib.ListN.{length};
 ghost use Rattle.paper.specs.Keys.{recordSize, keysFrom, find};
 ghost use Rattle.keys.specs.Says.{found, keysIn};
-use crate::bytes;
 use crate::record;
 use crate::record::KeyRecord;
+use spelling::bytes;
 
 pub enum Found {
     At(usize),

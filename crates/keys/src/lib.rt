@@ -2,14 +2,12 @@
 //
 // A list and an entry are lent as bytes, of any length, and are never copied: a key is known by its record's index. What
 // each function answers is document 01's definition of the bytes that were lent, and no byte past their end is read.
-pub mod bytes;
 mod conform;
 mod entry;
 mod find;
 mod list;
 mod record;
 mod rules;
-pub mod word;
 
 pub use conform::check_entry;
 pub use entry::Entry;

@@ -8,6 +8,7 @@ use crate::record;
 use crate::record::KeyRecord;
 use paper::Counted;
 use paper::Place;
+use paper::refused;
 
 // How many keys a list holds, or its refusal, 2, 3 or 4.
 pub fn check_list(list: &[u8]) -> Counted
@@ -15,20 +16,20 @@ pub fn check_list(list: &[u8]) -> Counted
 {
     let size = list.len();
     if size % KeyRecord::SIZE != 0 {
-        return Counted::Refused(2, Place::List(size));
+        return Counted::Refused(refused::LIST_LENGTH, Place::List(size));
     }
     if KeyRecord::MOST * KeyRecord::SIZE < size {
-        return Counted::Refused(2, Place::List(size));
+        return Counted::Refused(refused::LIST_LENGTH, Place::List(size));
     }
     let n = size / KeyRecord::SIZE;
     let mut k = 0;
     while k < n {
         let key = record::record_at(list, k);
         if !record::record_ok(key) {
-            return Counted::Refused(3, Place::List(k * KeyRecord::SIZE));
+            return Counted::Refused(refused::KEY_LAYOUT, Place::List(k * KeyRecord::SIZE));
         }
         let Found::Nothing = find::find_among(list, k, record::name_of(key)) else {
-            return Counted::Refused(4, Place::List(k * KeyRecord::SIZE));
+            return Counted::Refused(refused::KEY_REPEATED, Place::List(k * KeyRecord::SIZE));
         };
         k += 1;
     }

@@ -4,9 +4,10 @@ ghost use Prim.Native.Nat.{_<_, _/_};
 ghost use lib.ListN.{length};
 ghost use Rattle.paper.specs.Numbers.{byteAt};
 ghost use Rattle.paper.specs.Keys.{recordAt, recordSize, recordOk, nameOf};
-ghost use Rattle.keys.specs.Words.{nameOk};
-use crate::bytes;
-use crate::word;
+ghost use Rattle.keys.specs.Names.{nameOk};
+use paper::kinds;
+use spelling::bytes;
+use spelling::word;
 
 pub struct KeyRecord {
     pub kind: u8,
@@ -24,16 +25,6 @@ impl KeyRecord {
     pub const LONGEST: u8 = 64;
 
     pub const WIDEST: u8 = 128;
-
-    pub const EXACT: u8 = 0;
-
-    pub const TERNARY: u8 = 1;
-
-    pub const LPM: u8 = 2;
-
-    pub const RANGE: u8 = 3;
-
-    pub const OPTIONAL: u8 = 4;
 
     // Reads the kind and the width of key k.
     pub fn read(list: &[u8], k: usize) -> KeyRecord
@@ -97,7 +88,7 @@ pub(crate) fn record_ok(key: &[u8]) -> bool
     if KeyRecord::LONGEST < size {
         return false;
     }
-    if KeyRecord::OPTIONAL < key[1] {
+    if kinds::OPTIONAL < key[1] {
         return false;
     }
     if !bytes::within(1, KeyRecord::WIDEST, key[2]) {

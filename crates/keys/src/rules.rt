@@ -7,10 +7,11 @@ ghost use Rattle.number.specs.Values.{value};
 ghost use Rattle.paper.specs.Keys.{exact, ternary, lpm, range, optional, kindOf};
 ghost use Rattle.paper.specs.Entry.{matchSize, kindRule, absentRule, presentRule, matchOk};
 ghost use Rattle.keys.specs.Says.{meant, unnamed};
-use crate::bytes;
 use crate::entry::Matched;
 use crate::record::KeyRecord;
 use number::Magnitude;
+use paper::kinds;
+use spelling::bytes;
 
 fn exact_ok(m: Matched) -> bool
     ensures { λ r. ⌜ r ≡ kindRule exact 0 (meant m) ⌝ }
@@ -92,10 +93,10 @@ fn kind_ok(key: KeyRecord, m: Matched) -> bool
     let kind = key.kind;
     let width = key.width;
     match kind {
-        KeyRecord::EXACT => exact_ok(m),
-        KeyRecord::TERNARY => ternary_ok(m),
-        KeyRecord::LPM => lpm_ok(width, m),
-        KeyRecord::RANGE => range_ok(m),
+        kinds::EXACT => exact_ok(m),
+        kinds::TERNARY => ternary_ok(m),
+        kinds::LPM => lpm_ok(width, m),
+        kinds::RANGE => range_ok(m),
         _ => optional_ok(width, m),
     }
 }
@@ -104,7 +105,7 @@ fn absent_ok(key: KeyRecord, bytes: &[u8]) -> bool
     requires { ⌜ length (now bytes) ≡ matchSize ⌝ }
     ensures { λ r. ⌜ r ≡ absentRule (unnamed key) (now (bytes .entry)) ⌝ }
 {
-    if key.kind == KeyRecord::EXACT {
+    if key.kind == kinds::EXACT {
         return false;
     }
     bytes::all_zero(&bytes[1..])

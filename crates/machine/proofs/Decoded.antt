@@ -11,7 +11,7 @@ use Rattle.paper.specs.Types.{when}
 use Rattle.paper.specs.Meaning.{both, either, ifThen}
 use Rattle.paper.specs.Code.{Instruction, pushBool, pushInt, pushKey, pushField, pushPriority, invert, negate, convert, compare, connects, fieldOf, comparisonOf, Parts, partsOf, sameParts, decode}
 use Rattle.paper.proofs.ByNumber.{bit-spelled, kind-spelled, field-spelled, comparison-spelled}
-use Rattle.paper.proofs.Encoded.{parts-again}
+use Rattle.paper.proofs.InstructionsRoundTrip.{parts-again}
 
 -- the tests in the code's order
 

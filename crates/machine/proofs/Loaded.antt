@@ -12,10 +12,10 @@ use Rattle.paper.specs.Meaning.{truth}
 use Rattle.paper.specs.Code.{ends}
 use Rattle.paper.specs.Blocks.{inBlock, blocksIn, totalOf, layout}
 use Rattle.paper.specs.Loading.{program, typesAlong, loadCheck, loaded, valuesAlong}
-use Rattle.paper.specs.Sound.{Covers}
+use Rattle.paper.specs.LoadedBlocksRun.{Covers}
 use Rattle.paper.proofs.Stages.{bind-ok}
-use Rattle.paper.proofs.Laid.{laid, counts-within}
-use Rattle.paper.proofs.Sound.{loaded-runs}
+use Rattle.paper.proofs.LayoutPassed.{laid, counts-within}
+use Rattle.paper.proofs.LoadedBlocksRun.{loaded-runs}
 use Rattle.blocks.specs.Layout.{laidOut}
 use Rattle.machine.proofs.Along.{along}
 use Rattle.machine.proofs.Values.{valuesAt, all-values}

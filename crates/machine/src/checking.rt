@@ -22,6 +22,7 @@ use operands::bare_type;
 use operands::field_type_at;
 use paper::Checking;
 use paper::Place;
+use paper::refused;
 use values::operators;
 use values::types::Type;
 use values::types::Typing;
@@ -51,7 +52,7 @@ fn refused_at(i: usize) -> Checking
     requires { ⌜ instructionAt i < 2 ^ 64 ⌝ }
     ensures { λ r. ⌜ checkingSays r ≡ refused 18 inBlocks (instructionAt i) ⌝ }
 {
-    Checking::Refused(18, Place::Blocks(place_of(i)))
+    Checking::Refused(refused::INSTRUCTION, Place::Blocks(place_of(i)))
 }
 
 // Whether the first n instructions of blocks pass the load check against a key list, or refusal 18.
@@ -82,5 +83,5 @@ pub fn check_types(list: &[u8], blocks: &[u8], n: usize) -> Checking
     if (height == 1) & is_bool(stack[0]) {
         return Checking::Passed;
     }
-    Checking::Refused(18, Place::Blocks(blocks.len()))
+    Checking::Refused(refused::INSTRUCTION, Place::Blocks(blocks.len()))
 }

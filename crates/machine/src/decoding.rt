@@ -13,7 +13,15 @@ use crate::instruction::Instruction;
 use crate::instruction::Op;
 use blocks::Block;
 use blocks::two_bytes;
+use keys::KeyRecord;
 use number::Magnitude;
+use paper::comparisons;
+use paper::fields;
+use paper::kinds;
+use paper::operations;
+use values::connectives;
+
+const MOST_WIDTH: usize = KeyRecord::WIDEST as usize;
 
 struct Parts {
     operation: u8,
@@ -53,27 +61,30 @@ fn op_of(p: Parts) -> Op
     let no_constant = p.constant.is_zero();
     let bare = no_detail & no_operand & no_constant;
     match operation {
-        1 => only(
+        operations::PUSH_BOOL => only(
             no_detail & no_constant & (operand <= 1),
             Op::PushBool(operand == 1),
         ),
-        2 => only(no_detail & no_operand, Op::PushInt),
-        3 => only(no_detail & no_constant, Op::PushKey(operand)),
-        4 => only(no_constant & (detail <= 4), Op::PushField(detail, operand)),
-        5 => only(bare, Op::PushPriority),
-        6 => only(bare, Op::Not),
-        7 => only(bare, Op::Negate),
-        8 => only(
-            no_constant & (detail <= 4) & (1 <= operand) & (operand <= 128),
+        operations::PUSH_INT => only(no_detail & no_operand, Op::PushInt),
+        operations::PUSH_KEY => only(no_detail & no_constant, Op::PushKey(operand)),
+        operations::PUSH_FIELD => only(
+            no_constant & (detail <= fields::HIGH),
+            Op::PushField(detail, operand),
+        ),
+        operations::PUSH_PRIORITY => only(bare, Op::PushPriority),
+        operations::NOT => only(bare, Op::Not),
+        operations::NEGATE => only(bare, Op::Negate),
+        operations::CONVERT => only(
+            no_constant & (detail <= kinds::OPTIONAL) & (1 <= operand) & (operand <= MOST_WIDTH),
             Op::Convert(detail, (operand % 256) as u8),
         ),
-        9 => only(
-            no_operand & no_constant & (detail <= 5),
+        operations::COMPARE => only(
+            no_operand & no_constant & (detail <= comparisons::AT_MOST),
             Op::Compare(detail),
         ),
-        10 => only(bare, Op::Connect(0)),
-        11 => only(bare, Op::Connect(1)),
-        12 => only(bare, Op::Connect(2)),
+        operations::AND => only(bare, Op::Connect(connectives::BOTH)),
+        operations::OR => only(bare, Op::Connect(connectives::EITHER)),
+        operations::IMPLIES => only(bare, Op::Connect(connectives::IF_THEN)),
         _ => Op::Wrong,
     }
 }

@@ -6,6 +6,7 @@ ghost use Rattle.paper.specs.Keys.{Key};
 ghost use Rattle.paper.specs.Code.{actionOf, typeAction};
 ghost use Rattle.machine.specs.Acting.{takesOf};
 ghost use Rattle.machine.specs.Decoded.{instructionMeant};
+use keys::KeyRecord;
 use number::Magnitude;
 
 // What an instruction does. Kinds, fields, comparisons and connectives are held by their numbers in document 01.
@@ -21,7 +22,7 @@ pub enum Op {
     // To a kind and a width, where one over 128 is read as 128.
     Convert(u8, u8),
     Compare(u8),
-    // 0 and, 1 or, 2 implies.
+    // By its number in crate values.
     Connect(u8),
     // Bytes that are no instruction.
     Wrong,
@@ -56,5 +57,9 @@ pub(crate) fn takes(instruction: Instruction) -> usize
 pub(crate) fn narrow(width: u8) -> u8
     ensures { λ r. ⌜ (r ≡ min width 128) × (r ≤ 128) ⌝ }
 {
-    if width < 128 { width } else { 128 }
+    if width < KeyRecord::WIDEST {
+        width
+    } else {
+        KeyRecord::WIDEST
+    }
 }

@@ -84,7 +84,7 @@ pub sets-before : (l : List ℕ) (i j : ℕ) (vs : List ℕ) → i < j → byteA
 sets-before l i j [] h = refl
 sets-before l i j (v ∷ vs) h = sets-before (set l j v) i (suc j) vs (omega arith) ∙ getD-set-other l j i v 0 (λ e. omega arith)
 
--- and what stands behind
+-- and what stands after
 pub sets-after : (l : List ℕ) (i j : ℕ) (vs : List ℕ) → j + length vs ≤ i → byteAt (sets l j vs) i ≡ byteAt l i
 sets-after l i j [] h = refl
 sets-after l i j (v ∷ vs) h = sets-after (set l j v) i (suc j) vs (omega arith) ∙ getD-set-other l j i v 0 (λ e. omega arith)

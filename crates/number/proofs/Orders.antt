@@ -30,12 +30,12 @@ same-digits e f = omega arith
 abbrev Told : Bool → ℕ → ℕ → Type 0
 Told r m n = (r ≡ ltb m n) × (m ≡ n → ⊥)
 
--- a digit behind them does not change it
+-- a digit after them does not change it
 behind : {a b m n : ℕ} {r : Bool} → Fits w32 a → Fits w32 b → Told r m n → Told r (a + 2 ^ 32 * m) (b + 2 ^ 32 * n)
 behind {a} {b} {m} {n} ha hb t =
     (t .0 ∙ ltb-iff m n (a + 2 ^ 32 * m) (b + 2 ^ 32 * n) (λ h. omega arith) (λ h. omega arith), (λ e. t .1 (digit-same (ha .fits) (hb .fits) e .1)))
 
--- digits behind the same digits
+-- digits after the same digits
 after : {m n : ℕ} (a b : ℕ) → m ≡ n → ltb a b ≡ ltb (a + 2 ^ 32 * m) (b + 2 ^ 32 * n)
 after {m} {n} a b e = ltb-iff a b (a + 2 ^ 32 * m) (b + 2 ^ 32 * n) (λ h. omega arith) (λ h. omega arith)
 

@@ -1,4 +1,4 @@
-// A number behind which one more digit is written.
+// A number after which one more digit is written.
 ghost use mathlib.Core.Path.{_≡_};
 ghost use Prim.Native.Nat.{_+_, _*_, _^_};
 ghost use Rattle.number.specs.Values.{value, Grows};

@@ -12,7 +12,7 @@ use borrow.Author.Tests.{eqb-true, ltb-true, leb-true}
 use Rattle.paper.specs.Numbers.{digitsAfter, inBase}
 use Rattle.paper.specs.Tokens.{is, span, starts, digitOf}
 use Rattle.paper.specs.Addresses.{Scheme, ipv4, ipv6, mac, parts, every, allDigits, valueOf, isDecimal, isPair, isGroup, only, beforeGap, groups, eightGroups, gapped, ipv6Of, address}
-use Rattle.paper.specs.Written.{All}
+use Rattle.paper.specs.BlocksRoundTrip.{All}
 use Rattle.paper.proofs.Basics.{all-append, If, and-right}
 
 abbrev AllBelow : ℕ → List ℕ → Type 0

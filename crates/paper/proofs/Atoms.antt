@@ -8,7 +8,7 @@ use Rattle.paper.specs.Tokens.{plain, bytes, sameBytes, undotted, join, 
 use Rattle.paper.specs.Addresses.{Scheme, schemeOf}
 use Rattle.paper.specs.Grammar.{Tree, truth, number, key, field, got, stuck, ends, Reader, closed, named, addressWith, addressed, opensAddress, keyed, worded}
 use Rattle.paper.specs.Sentences.{tokenAt, signAt, Name, Operand, a-true, a-false, an-address, a-key, a-field, a-string}
-use Rattle.paper.proofs.Taken.{of-end, of-next, Kind, exact, laxer, Family, Begun, Says, stays, extend}
+use Rattle.paper.proofs.ParserTakes.{of-end, of-next, Kind, exact, laxer, Family, Begun, Says, stays, extend}
 use Rattle.paper.proofs.Words.{same-bytes, not-bytes}
 
 -- what an address string is read as, for each kind of phrase
@@ -38,7 +38,7 @@ module _ (R : Family) (t : Tree) (close : (k : Kind) (at : ℕ) → R k t (signA
   closes-says [] = stays (of-end _ refl) closes-begun
   closes-says (u ∷ us) = closes-at (u .at) (u .tok) us
 
--- an undotted word behind "::"
+-- an undotted word after "::"
 module _ (R : Family) (make : ℕ → List ℕ → Tree)
     (name : (k : Kind) (at : ℕ) (f : List ℕ) → undotted f ≡ true → R k (make at f) (tokenAt at (word f) ∷ [])) where
   named-begun : Begun R []
@@ -99,7 +99,7 @@ module _ (reads : Kind → Reader) (readers : Readers reads) where
 
   module _ (Inner Outer S : Family)
       (into : (k : Kind) (t : Tree) (ts : List Token) → Operand (reads k) (Inner k) (Outer k) t ts → S k t ts) where
-    -- a word, behind it
+    -- a word, after it
     module _ (at : ℕ) (w : List ℕ) where
       abbrev pub Behind : Family
       Behind k t ws = S k t (tokenAt at (word w) ∷ ws)

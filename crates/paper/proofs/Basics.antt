@@ -9,7 +9,7 @@ use mathlib.Core.Option.{Option, none, some, Option·map, Option·none-ne-some}
 use mathlib.Core.List.{List, [], _∷_, _++_}
 use lib.ListN.{length, getD, getElem?}
 use Rattle.paper.specs.Types.{when, andThen}
-use Rattle.paper.specs.Written.{All}
+use Rattle.paper.specs.BlocksRoundTrip.{All}
 
 -- tests
 

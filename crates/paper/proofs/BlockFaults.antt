@@ -13,7 +13,7 @@ use Rattle.paper.specs.Blocks.{blockSize, mostBlocks, blocksIn, blockOk,
 use Rattle.paper.specs.Faults.{BlocksSize, no-blocks, blocks-uneven, blocks-over, BlocksLayout, block-broken}
 use Rattle.paper.specs.Table.{Free}
 use Rattle.paper.proofs.Basics.{either-false}
-use Rattle.paper.proofs.Staged.{Tells, test-tells}
+use Rattle.paper.proofs.StagesInOrder.{Tells, test-tells}
 use Rattle.paper.proofs.Earliest.{Indexed, test-tells-at, tests-tell}
 
 -- the length

@@ -18,7 +18,7 @@ use Rattle.paper.specs.Faults.{Faults, BlocksSize, BlocksLayout, BlocksC
 use Rattle.paper.specs.Table.{stage, Given, blockStages, loadStages}
 use Rattle.paper.proofs.Stages.{bind-again}
 use Rattle.paper.proofs.Walks.{onWalk, walk-append}
-use Rattle.paper.proofs.Staged.{Tells, exact-tells, given-tells, Follows, follows-one, follows-as, follows-then}
+use Rattle.paper.proofs.StagesInOrder.{Tells, exact-tells, given-tells, Follows, follows-one, follows-as, follows-then}
 use Rattle.paper.proofs.ListFaults.{list-follows}
 use Rattle.paper.proofs.BlockFaults.{blocksSized, blocks-size-tells, blocks-layout-tells}
 

@@ -12,7 +12,7 @@ use Rattle.paper.specs.Grammar.{truth, number, key, field, attribute, pr
 use Rattle.paper.specs.Types.{Ty, bool, int, of, sameTy, when, andThen, Field, fieldNamed, takes, meet, fieldType, prefixType, joinType, comparisonType, operatorType, known, namedType, typeOf}
 use Rattle.paper.specs.Code.{pushKey, pushField}
 use Rattle.paper.specs.Translating.{hasType, changed, convertTo, pushing, codeOf, conversions}
-use Rattle.paper.specs.Translated.{CodeCounted, FewConversions, CodeFits}
+use Rattle.paper.specs.CodeCorrect.{CodeCounted, FewConversions, CodeFits}
 use Rattle.paper.proofs.Stages.{never-ok, bind-ok}
 use Rattle.paper.proofs.MeetingTypes.{same-self, meets-by-converting}
 

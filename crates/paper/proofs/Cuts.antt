@@ -1,4 +1,4 @@
--- Two cuts of one list of tokens: they are the same, or one is behind the other.
+-- Two cuts of one list of tokens: they are the same, or one is after the other.
 use mathlib.Core.Path.{_≡_, refl, sym, ap₂}
 use mathlib.Core.List.{List, [], _∷_, _++_, append-assoc, head-eq-of-cons-eq, tail-eq-of-cons-eq}
 use Rattle.paper.specs.Tokens.{Token}

@@ -11,8 +11,8 @@ use Rattle.paper.specs.Calls.{readAnswer, checkAnswer, judgeAnswer, tran
 use Rattle.paper.specs.Table.{ByTable, Stage, sizeStages, listStages, treeStages, entryStages, blockStages, bufferStages, checkStages, readStages, judgeStages, translateStages, loadStages, runStages}
 use Rattle.paper.specs.Promised.{ReadPromised, CheckPromised, JudgePromised, TranslateResult, TranslatePromised, LoadPromised, RunPromised}
 use Rattle.paper.specs.Demands.{Lent, lent, Refusal, Answered, ReadAnswered, CheckAnswered, JudgeAnswered, TranslateAnswered, LoadAnswered, RunAnswered, DemandOneMet}
-use Rattle.paper.proofs.Carried.{refused-unchanged}
-use Rattle.paper.proofs.Located.{AllLocated, LiesIn, located-then, decided-lies, size-located, list-located, tree-located, check-located, buffer-located, block-located, entry-located}
+use Rattle.paper.proofs.TranslationCorrect.{refused-unchanged}
+use Rattle.paper.proofs.RefusalsLocated.{AllLocated, LiesIn, located-then, decided-lies, size-located, list-located, tree-located, check-located, buffer-located, block-located, entry-located}
 use Rattle.paper.proofs.Table.{table-holds}
 
 lies-refusal : (inputs : List Lent) (n : ℕ) (i : Input) (at : ℕ) → LiesIn inputs n i at → Refusal inputs n i at

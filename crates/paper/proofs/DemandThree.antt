@@ -13,10 +13,10 @@ use Rattle.paper.specs.Keys.{Key, keys}
 use Rattle.paper.specs.Entry.{Entry, entryOf}
 use Rattle.paper.specs.Blocks.{blockSize, blocksNeeded}
 use Rattle.paper.specs.Calls.{translateBuffer}
-use Rattle.paper.specs.Carried.{Filled}
+use Rattle.paper.specs.TranslationCorrect.{Filled}
 use Rattle.paper.specs.Promised.{verdict, Bytes, Programs, Kept}
 use Rattle.paper.specs.Demands.{Translates, blocksWritten, Carried, Judged, DemandThree, DemandThreeMet}
-use Rattle.paper.proofs.Carried.{translation-carries, checked-count, loaded-answers}
+use Rattle.paper.proofs.TranslationCorrect.{translation-carries, checked-count, loaded-answers}
 use Rattle.paper.proofs.Promised.{verdict-says, judgement-same, translation-same, loading-same}
 use Rattle.paper.proofs.ByteLists.{take-bytes, buffer-bytes}
 

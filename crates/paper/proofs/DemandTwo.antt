@@ -32,9 +32,9 @@ use Rattle.paper.specs.Promised.{verdict, ReadPromised, CheckPromised, J
 use Rattle.paper.specs.Demands.{WellFormed, Checkable, Judgeable, Runnable, Refuses, ReadRight, CheckedRight, JudgedRight, TranslatedRight, RanRight, DemandTwoMet}
 use Rattle.paper.proofs.Stages.{never-ok, ok-same, bind-ok, require-ok}
 use Rattle.paper.proofs.Refusals.{read-is-valid}
-use Rattle.paper.proofs.Sound.{conforming, loaded-runs}
-use Rattle.paper.proofs.Meant.{judged, bool-root}
-use Rattle.paper.proofs.Carried.{passing, counted, translating, translates, translated}
+use Rattle.paper.proofs.LoadedBlocksRun.{conforming, loaded-runs}
+use Rattle.paper.proofs.TypeSoundness.{judged, bool-root}
+use Rattle.paper.proofs.TranslationCorrect.{passing, counted, translating, translates, translated}
 use Rattle.paper.proofs.Promised.{verdict-says, reading-same, checking-same, judgement-same, translation-same}
 use Rattle.paper.proofs.TokenFaults.{tokens-are-cut}
 

@@ -8,14 +8,14 @@ use lib.ListN.{length, drop, length-take, length-drop}
 use lib.Seq.{getD-take, getD-drop, drop-drop, drop-append-seam}
 use lib.Arith.{mod-mul}
 use Rattle.paper.specs.Numbers.{byteAt, bytesAt, numberAt, bigEndian}
-use Rattle.paper.specs.Written.{All}
+use Rattle.paper.specs.BlocksRoundTrip.{All}
 use Rattle.paper.proofs.Basics.{all-at}
 
 pub big-length : (n x : ℕ) → length (bigEndian n x) ≡ n
 big-length zero x = refl
 big-length (suc n) x = ap suc (big-length n x)
 
--- what stands at an offset, and what behind it
+-- what stands at an offset, and what after it
 pub drop-on : (s p q : List ℕ) (at to : ℕ) → drop at s ≡ p ++ q → at + length p ≡ to → drop to s ≡ q
 drop-on s p q at to h e = ap (λ n. drop n s) (sym e) ∙ sym (drop-drop (length p) at s) ∙ ap (drop (length p)) h ∙ drop-append-seam p q
 

@@ -8,7 +8,7 @@ use mathlib.Core.Bool.{Bool, true, false}
 use Rattle.paper.specs.Answers.{Input, Answer, ok, refused, _>>=_, require, inTurn}
 use Rattle.paper.specs.Faults.{Faults}
 use Rattle.paper.specs.Table.{Sooner}
-use Rattle.paper.proofs.Staged.{Tells}
+use Rattle.paper.proofs.StagesInOrder.{Tells}
 
 -- faults stand at the places of indices, which rise
 pub record Indexed (F : Faults) (total : ℕ) (place : ℕ → ℕ) : Type 0 where

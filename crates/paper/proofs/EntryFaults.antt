@@ -15,7 +15,7 @@ use Rattle.paper.specs.Faults.{EntrySize, entry-wrong, EntryRules, prior
 use Rattle.paper.specs.Table.{Free, stage, Given, entryStages}
 use Rattle.paper.proofs.Basics.{some-below}
 use Rattle.paper.proofs.Stages.{bind-again}
-use Rattle.paper.proofs.Staged.{Tells, test-tells, given-tells, Follows, follows-one, follows-as, follows-then}
+use Rattle.paper.proofs.StagesInOrder.{Tells, test-tells, given-tells, Follows, follows-one, follows-as, follows-then}
 use Rattle.paper.proofs.Earliest.{Indexed, test-tells-at, tests-tell}
 
 module _ (ks : List Key) (entry : List ℕ) where

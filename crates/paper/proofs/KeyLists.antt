@@ -10,7 +10,7 @@ use borrow.Author.Tests.{leb-true}
 use Rattle.paper.specs.Answers.{ok, _>>=_, require, inTurn, inList}
 use Rattle.paper.specs.Numbers.{byteAt}
 use Rattle.paper.specs.Keys.{mostKeys, recordSize, recordsIn, recordAt, recordOk, isNew, keysFrom, recordTest, layoutRule, keys}
-use Rattle.paper.specs.Written.{All, Width, Listed, KeysListed}
+use Rattle.paper.specs.BlocksRoundTrip.{All, Width, Listed, KeysListed}
 use Rattle.paper.proofs.Basics.{and-false, and-right}
 use Rattle.paper.proofs.Stages.{bind-ok, require-ok}
 use Rattle.paper.proofs.InTurn.{each-passes}

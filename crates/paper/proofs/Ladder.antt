@@ -10,10 +10,10 @@ use native.Mathlib.Omega.{arith}
 use Rattle.paper.specs.Tokens.{Token}
 use Rattle.paper.specs.Grammar.{Tree, got, stuck, Out, ends, deep, bad, _>>>_, Parser, Make, onceWith, onceMore, once, behind, moreWith, chain}
 use Rattle.paper.specs.Sentences.{Phrases, Operator, Once, none-of, one-of, Chain, first, further, Trailing, without, trailing}
-use Rattle.paper.proofs.Taken.{of-end, of-next, Kind, Family, Says, Tells, stays, extend, bind}
+use Rattle.paper.proofs.ParserTakes.{of-end, of-next, Kind, Family, Says, Tells, stays, extend, bind}
 use Rattle.paper.proofs.Turns.{Leaves, Shrinks, turns, turns-end, turns-next}
 
--- a chain behind which an operator may stand
+-- a chain after which an operator may stand
 abbrev pub Ended : Bool → Operator → Phrases → Phrases
 Ended false op S = Chain op S
 Ended true op S = Trailing op S
@@ -31,7 +31,7 @@ leaves p S ts (bad at) h = tt
 pub tells-shrinks : {p : Parser} {S : Family} → Tells p S → Shrinks p
 tells-shrinks {p} {S} tells ts = leaves p S ts (p ts) (tells .says ts)
 
--- where the text may end behind an operator
+-- where the text may end after an operator
 last-says : (last : Bool) (q : Parser) (R : Family) (t : Tree) (us : List Token) → (last ≡ true → (k : Kind) → R k t [])
     → Says q R us (q us) → Says (λ ws. behind last t ws (q ws)) R us (behind last t us (q us))
 last-says false q R t us front h = h
@@ -70,7 +70,7 @@ module _ (fn : Token → Option Make) (op : Operator) (said : (u : Token) (make 
     shrinks : Shrinks p
     shrinks = tells-shrinks tells
 
-    -- behind an operator
+    -- after an operator
     behind-says : (t : Tree) (vs : List Token) (u : Token) (make : Make) → op u make → ((k : Kind) → Chain op (S k) t vs)
         → (us : List Token)
         → ((r : Tree) (ws xs : List Token) → length xs ≤ length us → ((k : Kind) → Chain op (S k) r ws)

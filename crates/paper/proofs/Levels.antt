@@ -8,7 +8,7 @@ use mathlib.Core.List.{List, [], _∷_, _++_, append-nil}
 use Rattle.paper.specs.Tokens.{plain, Join, sequel, implies, orElse, andAlso, Comparison, join, comparison, closing, Token}
 use Rattle.paper.specs.Grammar.{Tree, got, stuck, Out, ends, deep, bad, _>>>_, Parser, Make, Reader, once, chain, joins, compares, implication, sequence, prefixes, finished, whole}
 use Rattle.paper.specs.Sentences.{signAt, Operator, Joining, joining, Comparing, comparing, Once, Chain, none-of, first, Operand, a-numeral, Implication, Sequence, Prefixed, Whole, lenient}
-use Rattle.paper.proofs.Taken.{of-end, of-next, Kind, exact, deeper, laxer, Family, Says, Tells, stays, bind}
+use Rattle.paper.proofs.ParserTakes.{of-end, of-next, Kind, exact, deeper, laxer, Family, Says, Tells, stays, bind}
 use Rattle.paper.proofs.Ladder.{tells-shrinks, once-tells, chain-tells}
 use Rattle.paper.proofs.Atoms.{Readers}
 use Rattle.paper.proofs.Operators.{Finds, joins-finds, compares-finds}

@@ -17,7 +17,7 @@ use Rattle.paper.specs.Faults.{ListSize, list-uneven, list-over, ListRec
 use Rattle.paper.specs.Table.{listStagesBy, listStages}
 use Rattle.paper.proofs.Basics.{either-false}
 use Rattle.paper.proofs.Words.{same-bytes, not-bytes}
-use Rattle.paper.proofs.Staged.{Tells, test-tells, Follows, follows-one, follows-as, follows-then}
+use Rattle.paper.proofs.StagesInOrder.{Tells, test-tells, Follows, follows-one, follows-as, follows-then}
 use Rattle.paper.proofs.Earliest.{Indexed, TellsAt, tests-tell}
 
 -- the length

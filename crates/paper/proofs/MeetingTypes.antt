@@ -10,7 +10,7 @@ use Rattle.paper.specs.Tokens.{equal, unequal, greater, atLeast, less, a
 use Rattle.paper.specs.Keys.{Kind, exact, ternary, lpm, range, optional, kindNo, kindOf, isNone}
 use Rattle.paper.specs.Entry.{isExact}
 use Rattle.paper.specs.Types.{Ty, bool, int, of, sameTy, when, andThen, meetKind, meet, ordered, takes}
-use Rattle.paper.specs.Translated.{MeetsByConverting, ComparesWhereMet}
+use Rattle.paper.specs.CodeCorrect.{MeetsByConverting, ComparesWhereMet}
 
 -- types that pass for the same are the same
 

@@ -14,7 +14,7 @@ use Rattle.paper.specs.Code.{Instruction, instructionSize}
 use Rattle.paper.specs.Blocks.{blockSize, inBlock, checkOf, encodeAll, sealed, blockOf, blocksFrom, blocksIn, totalOf, countOk, blockOk}
 use Rattle.paper.proofs.Words.{bytes-same}
 use Rattle.paper.proofs.Digits.{drop-on, number-back}
-use Rattle.paper.proofs.Encoded.{row-length}
+use Rattle.paper.proofs.InstructionsRoundTrip.{row-length}
 
 zeros-zero : (n : ℕ) → allZero (replicate n 0) ≡ true
 zeros-zero zero = refl

@@ -6,7 +6,7 @@ use mathlib.Core.List.{List, [], _∷_, _++_, append-nil}
 use Rattle.paper.specs.Tokens.{plain, Prefix, join, comparison, prefix, opening, closing, colons, Tok, word, numeral, string, sign, Token}
 use Rattle.paper.specs.Grammar.{Tree, number, attribute, prefixed, got, ends, deep, _>>>_, Parser, Reader, closed, named, worded, operand}
 use Rattle.paper.specs.Sentences.{tokenAt, signAt, Operand, a-numeral, an-attribute, a-prefixed, a-parenthesis, by-prefix, by-parenthesis}
-use Rattle.paper.proofs.Taken.{of-end, of-next, Kind, exact, deeper, Family, Begun, Says, Tells, stays, extend, bind}
+use Rattle.paper.proofs.ParserTakes.{of-end, of-next, Kind, exact, deeper, Family, Begun, Says, Tells, stays, extend, bind}
 use Rattle.paper.proofs.Atoms.{Readers, closes-says, named-says, word-says}
 
 abbrev zeroAt : Token

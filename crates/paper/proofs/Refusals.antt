@@ -9,7 +9,7 @@ use Rattle.paper.specs.Tokens.{Token}
 use Rattle.paper.specs.Addresses.{address}
 use Rattle.paper.specs.Grammar.{Tree, got, stuck, Out, ends, deep, bad, whole, mostLevels, outcome, parsed}
 use Rattle.paper.specs.Sentences.{Phrases, Prefixed, Whole, Sentence, Bounded, OneDeeper, WellSpelled, Valid, Continues, FirstBad, Number, text-ends, no-sentence, too-deep, bad-string, Stops, placeFrom, Right, ParsedIsRight, ReadIsValid, EightIsFirstBad, FirstBadIsEight}
-use Rattle.paper.proofs.Taken.{same-next, exact, Says}
+use Rattle.paper.proofs.ParserTakes.{same-next, exact, Says}
 use Rattle.paper.proofs.Cuts.{Further, sole-cut, continues-sooner}
 use Rattle.paper.proofs.Levels.{Limited, whole-says, read-phrase}
 use Rattle.paper.proofs.Sentences.{address-readers, not-both, no-further, deep-further, bad-further, strict-lenient, valid-is-sentence, one-tree}

@@ -9,7 +9,7 @@ use Rattle.paper.specs.Tokens.{bytes, Token}
 use Rattle.paper.specs.Addresses.{Scheme, ipv4, ipv6, mac, address}
 use Rattle.paper.specs.Grammar.{Tree, End, got, stuck, Out, ends, deep, bad, Reader, whole, mostLevels}
 use Rattle.paper.specs.Sentences.{Prefixed, Whole, orZero, lenient, Sentence, WellSpelled, Continues, StuckIsFirstBad, ValidIsSentence, OneTree}
-use Rattle.paper.proofs.Taken.{same-next, Kind, exact, deeper, laxer}
+use Rattle.paper.proofs.ParserTakes.{same-next, Kind, exact, deeper, laxer}
 use Rattle.paper.proofs.Atoms.{Readers}
 use Rattle.paper.proofs.Complete.{got-not-stuck}
 use Rattle.paper.proofs.Levels.{readings, whole-says, phrase-read, read-phrase}

@@ -20,9 +20,9 @@ use Rattle.paper.specs.Translating.{codeOf}
 use Rattle.paper.specs.Calls.{sized, tree, Restriction, restriction, readAnswer, checkAnswer, judgeAnswer, roomFor, translatable, translateAnswer, loadAnswer, runAnswer}
 use Rattle.paper.specs.Faults.{Faults, TextSize, text-over, TextTokens, TextGrammar, BufferSize, buffer-short}
 use Rattle.paper.specs.Table.{Free, stage, Given, sizeStages, listStages, treeStages, typeStages, bufferStages, blockStages, entryStages, readStages, checkStages, judgeStages, translateStages, loadStages, runStages, TableHolds}
-use Rattle.paper.proofs.Carried.{passing}
+use Rattle.paper.proofs.TranslationCorrect.{passing}
 use Rattle.paper.proofs.Refusals.{parsed-is-right}
-use Rattle.paper.proofs.Staged.{Tells, test-tells, exact-tells, given-tells, Follows, follows-one, follows-as, follows-then, by-table}
+use Rattle.paper.proofs.StagesInOrder.{Tells, test-tells, exact-tells, given-tells, Follows, follows-one, follows-as, follows-then, by-table}
 use Rattle.paper.proofs.ListFaults.{list-follows}
 use Rattle.paper.proofs.TokenFaults.{tokens-tell}
 use Rattle.paper.proofs.TypeFaults.{types-follow}

@@ -12,10 +12,10 @@ use Rattle.paper.specs.Answers.{Answer, ok, refused, _>>=_, inText}
 use Rattle.paper.specs.Tokens.{Tok, Token, Scan, blank, token, noToken, tooLarge, scan, onward, tokensFrom, tokens, mostTokens}
 use Rattle.paper.specs.Faults.{scanAt, Cut, Cuts, at-start, a-blank, a-token, TextTokens, no-token, numeral-large, one-more-token}
 use Rattle.paper.specs.Table.{TokensAreCut}
-use Rattle.paper.proofs.Staged.{Tells, RefusedFor, soonest-tells}
+use Rattle.paper.proofs.StagesInOrder.{Tells, RefusedFor, soonest-tells}
 
 module _ (text : List ℕ) where
-  -- behind the tokens cut so far: a refusal is a fault, and what passes cuts the text
+  -- after the tokens cut so far: a refusal is a fault, and what passes cuts the text
 
   abbrev Told : List Token → Answer (List Token) → Type 0
   Told ts (ok us) = Cuts text (ts ++ us)

@@ -9,7 +9,7 @@ use lib.Dec.{eqb, ltb}
 use borrow.Author.Tests.{ltb-true}
 use Rattle.paper.specs.Answers.{Answer, ok}
 use Rattle.paper.specs.Tokens.{literalOf, is, span, starts, isIdByte, Numeral, spelling, isNumeral, numeralValue, Sign, oneByte, twoBytes, Tok, word, numeral, string, sign, Token, Scan, blank, token, noToken, tooLarge, scanComment, scanOne, scanTwo, scanSign, Class, isSpace, isSlash, isQuote, isLetter, isFigure, isOther, classOf, scanClass, scan, onward, tokensFrom, tokens, mostTokens}
-use Rattle.paper.specs.Written.{All}
+use Rattle.paper.specs.BlocksRoundTrip.{All}
 use Rattle.paper.proofs.Stages.{Of, of-bind}
 
 abbrev pub Good : Tok → Type 0

@@ -19,7 +19,7 @@ use Rattle.paper.specs.Faults.{Faults, TreeTypes, key-unknown, key-of-fi
 use Rattle.paper.specs.Table.{Sooner, Wins, Free, stage, Given, typeStages}
 use Rattle.paper.proofs.Stages.{never-ok, ok-same}
 use Rattle.paper.proofs.Words.{same-bytes, not-bytes}
-use Rattle.paper.proofs.Staged.{only-wins, Tells, given-tells, Follows, follows-one, follows-then}
+use Rattle.paper.proofs.StagesInOrder.{only-wins, Tells, given-tells, Follows, follows-one, follows-then}
 use Rattle.paper.proofs.InOrder.{InOrder, text-in-order}
 
 -- a key that is found has a type
@@ -41,7 +41,7 @@ bare-found ks w k h =
     let same : k ≡ i = omega (arith, e) in
     (of (x .kind) (x .width), ap (Option·map (λ (x : Key). of (x .kind) (x .width))) (ap (getElem? ks) same ∙ there))
 
--- what stands behind a fault of a tree
+-- what is known of a tree with a fault
 
 -- 13 of an operator over two operands
 abbrev Operator : ℕ → (Ty → Ty → Option Ty) → Answer Ty → Answer Ty → ℕ → ℕ → Type 0

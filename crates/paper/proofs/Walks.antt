@@ -11,7 +11,7 @@ use lib.Dec.{ltb}
 use borrow.Author.Tests.{ltb-true}
 use Rattle.paper.specs.Types.{when}
 use Rattle.paper.specs.Code.{Action, leaves, takesOne, takesTwo, mostHeld, put, act, Walk, fails, ends, goOn, walk}
-use Rattle.paper.specs.Sound.{seenBy}
+use Rattle.paper.specs.LoadedBlocksRun.{seenBy}
 use Rattle.paper.proofs.Basics.{map-when}
 
 -- one walk seen through another, along a map of what they hold
@@ -78,7 +78,7 @@ walk-append (x ∷ xs) ys i s =
     let e : i + 1 + length xs ≡ i + suc (length xs) = omega arith in
     rw (← e) (go-on-walk i (act x s) _ _ _ (walk-append xs ys (i + 1)))
 
--- what a walk that ends has behind a front part
+-- what a walk that ends has after a front part
 pub walk-front : {A : Type 0} (xs ys : List (Action A)) (i : ℕ) (s t : List A)
     → walk i (xs ++ ys) s ≡ ends t → (u : List A) × (walk i xs s ≡ ends u)
 walk-front {A} xs ys i s t e = go (walk i xs s) (sym (walk-append xs ys i s) ∙ e)

@@ -21,14 +21,14 @@ use Rattle.paper.specs.Blocks.{blockSize, mostBlocks, blocksNeeded, bloc
 use Rattle.paper.specs.Grammar.{nodes}
 use Rattle.paper.specs.Translating.{conversions}
 use Rattle.paper.specs.Calls.{Restriction, checkAnswer, translateAnswer, judgeAnswer, loadAnswer, runAnswer}
-use Rattle.paper.specs.Marked.{theKeys, theEntry}
+use Rattle.paper.specs.MarkedJudgements.{theKeys, theEntry}
 use Rattle.paper.specs.Promised.{verdict, Bytes, Programs, KeepsCheck, KeepsLoad}
 use Rattle.paper.specs.Demands.{DemandOne, DemandTwo, DemandThree}
 use Rattle.paper.specs.WrongPrograms.{RefusesAll, AcceptsAll, WritesNothing, FirstPartOnly, PassesNothing, PassesAll, WantsAllBlocks, CountsRight, WrongProgramsFail, NoWrongProgram, paddedText, paddedBlocks, PaddingSeen}
 use Rattle.paper.proofs.Stages.{never-ok, ok-same}
-use Rattle.paper.proofs.Laid.{first-counted}
+use Rattle.paper.proofs.LayoutPassed.{first-counted}
 use Rattle.paper.proofs.Table.{table-holds}
-use Rattle.paper.proofs.Damaged.{called}
+use Rattle.paper.proofs.DamageDetected.{called}
 use Rattle.paper.proofs.Promised.{checking-same}
 use Rattle.paper.proofs.ByteLists.{take-bytes, zero-bytes, all-bytes, blocks-bytes}
 use Rattle.paper.proofs.DemandOne.{demand-one-met}

@@ -11,7 +11,7 @@ use Rattle.paper.specs.Grammar.{Tree, truth, number, key, field, attribu
 use Rattle.paper.proofs.Basics.{If}
 use Rattle.paper.proofs.TokenNumbers.{Good, AllGood}
 
--- a tree that has a property, and good tokens behind it
+-- a tree that has a property, and good tokens after it
 
 abbrev pub Got : (Tree → Type 0) → Out → Type 0
 Got P (ends (got t) us) = P t × AllGood us

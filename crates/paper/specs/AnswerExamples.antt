@@ -14,7 +14,7 @@ use Rattle.paper.specs.Numbers.{bigEndian}
 use Rattle.paper.specs.Tokens.{bytes}
 use Rattle.paper.specs.Calls.{readAnswer, checkAnswer, judgeAnswer, translateAnswer, loadAnswer, runAnswer}
 use Rattle.paper.specs.Promised.{ReadPromised, CheckPromised, JudgePromised, TranslatePromised, LoadPromised, RunPromised}
-use Rattle.paper.specs.Marked.{theKeys, theEntry}
+use Rattle.paper.specs.MarkedJudgements.{theKeys, theEntry}
 use Rattle.paper.specs.CaseFour.{theBlock}
 use Rattle.paper.specs.BlockExamples.{row, blockWith, alone}
 use Rattle.paper.specs.Keys.{keyRecord}

@@ -8,7 +8,7 @@ use lib.ListN.{replicate}
 use Rattle.paper.specs.Answers.{Answer, ok}
 use Rattle.paper.specs.Tokens.{bytes}
 use Rattle.paper.specs.Calls.{translateAnswer, translateBuffer, loadAnswer, runAnswer}
-use Rattle.paper.specs.Marked.{theKeys, theEntry}
+use Rattle.paper.specs.MarkedJudgements.{theKeys, theEntry}
 
 abbrev pub theBlock : List ℕ
 theBlock =

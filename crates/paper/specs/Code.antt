@@ -158,7 +158,7 @@ abbrev pub put : {A : Type 0} → Option A → List A → Option (List A)
 put none held = none
 put (some a) held = when (ltb (length held) mostHeld) (a ∷ held)
 
--- what is held behind an instruction; nothing where an operand is missing or does not fit, or it would be too much
+-- what is held after an instruction; nothing where an operand is missing or does not fit, or it would be too much
 abbrev pub act : {A : Type 0} → Action A → List A → Option (List A)
 act (leaves o) held = put o held
 act (takesOne f) [] = none

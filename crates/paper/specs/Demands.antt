@@ -37,7 +37,7 @@ use Rattle.paper.specs.Blocks.{blockSize, inBlock, mostBlocks, blocksNee
 use Rattle.paper.specs.Code.{ends}
 use Rattle.paper.specs.Loading.{program, loaded, valuesAlong}
 use Rattle.paper.specs.Translating.{conversions}
-use Rattle.paper.specs.Sound.{Runs}
+use Rattle.paper.specs.LoadedBlocksRun.{Runs}
 use Rattle.paper.specs.Faults.{Cuts}
 use Rattle.paper.specs.Table.{lastNumber, Stage, ByTable, readStages, checkStages, judgeStages, translateStages, loadStages, runStages}
 use Rattle.paper.specs.Promised.{verdict, TranslateResult, Bytes, Programs, Kept}

@@ -8,7 +8,7 @@ use Rattle.paper.specs.Numbers.{bigEndian}
 use Rattle.paper.specs.Tokens.{bytes}
 use Rattle.paper.specs.Keys.{keyRecord, keys}
 use Rattle.paper.specs.Entry.{matchRecord, Match, Entry, entryOf}
-use Rattle.paper.specs.Marked.{theKeys, theEntry}
+use Rattle.paper.specs.MarkedJudgements.{theKeys, theEntry}
 use Rattle.paper.specs.Examples.{on, Agree, On, numbersFrom}
 
 -- what an entry reads as, for a key list

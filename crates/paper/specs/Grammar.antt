@@ -18,7 +18,7 @@ use Rattle.paper.specs.Tokens.{bytes, sameBytes, undotted, Literal, plai
 use Rattle.paper.specs.Addresses.{Scheme, schemeOf, address}
 
 -- "Parentheses make no node; a node's place is its operator ("::" counts as none here and in a print), else its first token":
--- each node's first number is its place. A field and an attribute have a second, that of the name behind "::".
+-- each node's first number is its place. A field and an attribute have a second, that of the name after "::".
 pub data Tree : Type 0 where
   truth : ℕ → Bool → Tree
   number : ℕ → Literal → Tree
@@ -122,7 +122,7 @@ onceMore op p t (u ∷ us) = onceWith p t u us (op u)
 unfoldable pub once : (Token → Option Make) → Parser → Parser
 once op p ts = p ts >>> onceMore op p
 
--- p, p operator p, p operator p operator p, .., joined from the left; `last` where the text may also end behind an operator.
+-- p, p operator p, p operator p operator p, .., joined from the left; `last` where the text may also end after an operator.
 -- At each turn p takes a token, so the tokens that are left bound the turns.
 
 abbrev pub behind : Bool → Tree → List Token → Out → Out
@@ -183,7 +183,7 @@ nameAt (numeral n) make u us = ends stuck (u ∷ us)
 nameAt (string q) make u us = ends stuck (u ∷ us)
 nameAt (sign g) make u us = ends stuck (u ∷ us)
 
--- behind "::" an undotted word
+-- after "::" an undotted word
 abbrev pub named : (ℕ → List ℕ → Tree) → List Token → Out
 named make [] = ends stuck []
 named make (u ∷ us) = nameAt (u .tok) make u us
@@ -202,7 +202,7 @@ addressAt read s at (numeral n) u us = ends stuck (u ∷ us)
 addressAt read s at (string q) u us = addressWith (read s q) at u us
 addressAt read s at (sign g) u us = ends stuck (u ∷ us)
 
--- behind the word and "(" of an address: its string and ")"
+-- after the word and "(" of an address: its string and ")"
 abbrev pub addressed : Reader → Scheme → ℕ → List Token → Out
 addressed read s at [] = ends stuck []
 addressed read s at (u ∷ us) = addressAt read s at (u .tok) u us

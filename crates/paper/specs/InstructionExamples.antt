@@ -13,7 +13,7 @@ use Rattle.paper.specs.Types.{value, mask, prefixLength, low, high}
 use Rattle.paper.specs.Meaning.{both, either, ifThen}
 use Rattle.paper.specs.Code.{Instruction, pushBool, pushInt, pushKey, pushField, pushPriority, invert, negate, convert, compare, connects, Parts, encode, partsAt, decode}
 use Rattle.paper.specs.Loading.{typesAlong, loadCheck, valuesAlong, leftTrue}
-use Rattle.paper.specs.Marked.{theKeys, theEntry}
+use Rattle.paper.specs.MarkedJudgements.{theKeys, theEntry}
 use Rattle.paper.specs.Examples.{Example, on, Agree, numbersFrom}
 use Rattle.paper.specs.BlockExamples.{row}
 use Rattle.paper.specs.MeaningExamples.{oneEach}

@@ -6,7 +6,7 @@ use lib.ListN.{replicate}
 use Rattle.paper.specs.Answers.{ok, refused, _>>=_, inList}
 use Rattle.paper.specs.Tokens.{bytes}
 use Rattle.paper.specs.Keys.{keyRecord, Kind, exact, ternary, lpm, range, optional, Key, find, keys}
-use Rattle.paper.specs.Marked.{theKeys}
+use Rattle.paper.specs.MarkedJudgements.{theKeys}
 use Rattle.paper.specs.Examples.{on, Agree, On}
 
 abbrev pub aKey : List ℕ → Kind → ℕ → Key

@@ -9,7 +9,7 @@ use Rattle.paper.specs.Tokens.{bytes}
 use Rattle.paper.specs.Keys.{keyRecord, exact, ternary, lpm, range, optional}
 use Rattle.paper.specs.Meaning.{oneValue}
 use Rattle.paper.specs.Calls.{judgeAnswer}
-use Rattle.paper.specs.Marked.{Case, accepted, violated, theKeys, theEntry, AreJudged}
+use Rattle.paper.specs.MarkedJudgements.{Case, accepted, violated, theKeys, theEntry, AreJudged}
 use Rattle.paper.specs.Examples.{rows, tableOf, judgedMark}
 use Rattle.paper.specs.EntryExamples.{match}
 use Rattle.paper.specs.Entry.{matchRecord}

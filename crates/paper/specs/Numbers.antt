@@ -7,7 +7,7 @@ use lib.ListN.{getD, take, drop}
 use lib.Dec.{eqb, ltb}
 use lib.IntN.{ℤ, pos, negsuc}
 
--- digits, the first one highest, read in a base behind the number so far
+-- digits, the first one highest, read in a base after the number so far
 abbrev pub digitsAfter : ℕ → ℕ → List ℕ → ℕ
 digitsAfter base n [] = n
 digitsAfter base n (d ∷ ds) = digitsAfter base (n * base + d) ds

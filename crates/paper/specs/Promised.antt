@@ -11,7 +11,7 @@ use Rattle.paper.specs.declared.Judgement.the-variants as J
 use Rattle.paper.specs.declared.Translation.{Translation}
 use Rattle.paper.specs.declared.Loading.{Loading}
 use Rattle.paper.specs.Answers.{readingSays, checkingSays, judgementSays, translationSays, loadingSays}
-use Rattle.paper.specs.Written.{All}
+use Rattle.paper.specs.BlocksRoundTrip.{All}
 use Rattle.paper.specs.Calls.{readAnswer, checkAnswer, judgeAnswer, translateAnswer, translateBuffer, loadAnswer, runAnswer}
 
 -- what is promised of the result of each call, for the bytes that are lent to it

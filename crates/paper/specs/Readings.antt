@@ -1,6 +1,6 @@
 -- Where 01 leaves room for two readings, texts that show ours, judged with the marked keys and entry (docs/DECISIONS.md).
 use mathlib.Core.List.{List, [], _∷_}
-use Rattle.paper.specs.Marked.{Case, accepted, violated, refusedAt, theKeys, theEntry, AreJudged}
+use Rattle.paper.specs.MarkedJudgements.{Case, accepted, violated, refusedAt, theKeys, theEntry, AreJudged}
 
 abbrev pub readings : List Case
 readings =
@@ -47,7 +47,7 @@ readings =
     ∷ refusedAt "1-->2" 8 1
     -- the whole text is cut into tokens first
     ∷ refusedAt "true true @" 5 10
-    -- "::" behind a key, and what it names
+    -- "::" after a key, and what it names
     ∷ refusedAt "(v)::a" 8 3
     ∷ refusedAt "true::a" 8 4
     ∷ refusedAt "1::a" 8 1

@@ -58,7 +58,7 @@ Sequence S = Chain (Joining sequel) (Implication S)
 abbrev pub Name : List ℕ → Type 0
 Name w = (w ≢ bytes "true") × (w ≢ bytes "false")
 
--- prefix operators and atoms, where Inner has what may stand behind a prefix operator and Outer what a parenthesis may hold
+-- prefix operators and atoms, where Inner has what may stand after a prefix operator and Outer what a parenthesis may hold
 pub data Operand (read : Reader) (Inner Outer : Phrases) : Tree → List Token → Type 0 where
   a-true : (at : ℕ) → Operand read Inner Outer (truth at true) (tokenAt at (word (bytes "true")) ∷ [])
   a-false : (at : ℕ) → Operand read Inner Outer (truth at false) (tokenAt at (word (bytes "false")) ∷ [])
@@ -142,7 +142,7 @@ pub data OpensLevel : Token → Type 0 where
 pub data IsString : Token → Type 0 where
   a-string : (at : ℕ) (q : List ℕ) → IsString (tokenAt at (string q))
 
--- the number of the refusal behind tokens that some valid text begins with: 8 where the text ends, or no sentence continues
+-- the number of the refusal after tokens that some valid text begins with: 8 where the text ends, or no sentence continues
 -- with the next token; 9 where one of 65 levels does, and none of 64, whatever its address strings; 10 where one of 64 levels
 -- does, and none with good address strings, whatever its levels
 pub data Number (ts taken : List Token) : List Token → ℕ → Type 0 where

@@ -95,7 +95,7 @@ digitOf b =
     (cond (within 97 102 b) (b - 87)
     (cond (within 65 70 b) (b - 55) 16))
 
--- the base that a letter announces behind a first 0
+-- the base that a letter announces after a first 0
 abbrev pub baseOf : ℕ → Option ℕ
 baseOf b =
     cond (is "d" b || is "D" b) (some 10)
@@ -191,7 +191,7 @@ abbrev pub scanComment : List ℕ → Scan
 scanComment [] = noToken
 scanComment (c ∷ s) = cond (is "/" c) (blank (suc (span (λ b. not (eqb b 10)) s))) noToken
 
--- behind the quote: bytes other than quote and LF, a quote
+-- after the quote: bytes other than quote and LF, a quote
 abbrev pub scanString : List ℕ → Scan
 scanString s =
     let n = span (λ b. not (is "'" b || eqb b 10)) s in

@@ -35,7 +35,7 @@ changed none m = []
 changed (some a) none = []
 changed (some a) (some m) = cond (sameTy a m) [] (convertTo m)
 
--- the conversion behind an operand's own code
+-- the conversion after an operand's own code
 abbrev pub conversion : List Key → Tree → Option Ty → List Instruction
 conversion ks t m = changed (hasType (typeOf ks t)) m
 

@@ -13,7 +13,7 @@ use Rattle.paper.specs.Meaning.{both, either, ifThen}
 use Rattle.paper.specs.Code.{Instruction, pushBool, pushInt, pushKey, pushField, pushPriority, invert, negate, convert, compare, connects}
 use Rattle.paper.specs.Translating.{codeOf, conversions}
 use Rattle.paper.specs.Calls.{restriction, judgeAnswer, translateAnswer, translateBuffer, runAnswer}
-use Rattle.paper.specs.Marked.{theKeys, theEntry}
+use Rattle.paper.specs.MarkedJudgements.{theKeys, theEntry}
 use Rattle.paper.specs.Examples.{on, OnText, AgreeOnTexts}
 use Rattle.paper.specs.BlockExamples.{row}
 

@@ -105,7 +105,7 @@ keyNames = "e" ∷ "t" ∷ "l" ∷ "r" ∷ "o" ∷ []
 abbrev pub fieldNames : List S.String
 fieldNames = "::value" ∷ "::mask" ∷ "::prefix_length" ∷ "::low" ∷ "::high" ∷ []
 
--- 12 stands at the field's name, behind "::"
+-- 12 stands at the field's name, after "::"
 abbrev pub fieldsOf : S.String → List ℕ
 fieldsOf k = map (λ f. passMark 12 3 (check (bytes k ++ bytes f ++ bytes "==1"))) fieldNames
 

@@ -18,8 +18,8 @@ use Rattle.paper.specs.Code.{pushBool, connects}
 use Rattle.paper.specs.Blocks.{blockSize, mostBlocks, blocksOf, layout}
 use Rattle.paper.specs.Translating.{conversions}
 use Rattle.paper.specs.Calls.{Restriction, restriction, judgeAnswer, loadAnswer, runAnswer}
-use Rattle.paper.specs.Carried.{Carries}
-use Rattle.paper.specs.Marked.{theKeys, theEntry}
+use Rattle.paper.specs.TranslationCorrect.{Carries}
+use Rattle.paper.specs.MarkedJudgements.{theKeys, theEntry}
 use Rattle.paper.specs.Promised.{Bytes, Programs, KeepsRead, KeepsCheck, KeepsJudge, KeepsTranslate, KeepsLoad, KeepsRun, Kept}
 use Rattle.paper.specs.Demands.{Refuses, blocksWritten, DemandOne, DemandTwo, DemandThree}
 

@@ -1,5 +1,8 @@
 // What the public calls answer, and their stages. The crate's specs/ holds document 01 as definitions, and its proofs/ what follows
 // from them; nothing here computes. specs/Answers.antt gives the paper's number, input and offset for each case below.
+pub mod comparisons;
+pub mod fields;
+pub mod kinds;
 pub mod operations;
 pub mod refused;
 

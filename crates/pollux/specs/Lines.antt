@@ -25,7 +25,7 @@ breaks (b ∷ s) = breaksAt b + breaks s
 abbrev pub seenAt : List ℕ → ℕ → ℕ
 seenAt text at = cond (ltb at (length text)) at (length text - breaksAt (getD text (length text - 1) 0))
 
--- a line starts with the text or behind an LF, goes on to the next LF or to the text's end, and is counted from 1
+-- a line starts with the text or after an LF, goes on to the next LF or to the text's end, and is counted from 1
 pub record LineOf (text : List ℕ) (at : ℕ) (line : Line) : Type 0 where
   pub starts : (line .from ≡ 0) ⊎ (getD text (line .from - 1) 0 ≡ 10)
   pub ends : EndsAt text (line .from) (span (inRun LineRun) (drop (line .from) text)) (line .to)
@@ -33,7 +33,7 @@ pub record LineOf (text : List ℕ) (at : ℕ) (line : Line) : Type 0 where
   pub behind : at ≤ line .to
   pub counted : line .number ≡ suc (breaks (take (line .from) text))
 
--- at most 100 columns of a line, the place among them or directly behind them
+-- at most 100 columns of a line, the place among them or directly after them
 pub record Window (line : Line) (at : ℕ) (shown : Stretch) : Type 0 where
   pub inside : line .from ≤ shown .from
   pub before : shown .from ≤ at

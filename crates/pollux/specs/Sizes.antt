@@ -21,7 +21,7 @@ wholeEntries size = 65536 - 65536 % size
 abbrev pub trueOffset : ℕ → ℕ → ℕ → ℕ
 trueOffset held size at = cond (eqb at held) size at
 
--- an entry at an offset ends behind its size, or with the bytes that there are; it is never empty
+-- an entry at an offset ends after its size, or with the bytes that there are; it is never empty
 pub record EndsIn (at size end r : ℕ) : Type 0 where
   pub least : r ≡ min (at + size) end
   pub onward : at < r

@@ -22,7 +22,7 @@ struct Stretch {
     to: usize,
 }
 
-// Where the caret of a place stands: at the text's end it is behind the last line, and not on an empty line below it.
+// Where the caret of a place stands: at the text's end it is after the last line, and not on an empty line below it.
 fn seen_at(text: &[u8], at: usize) -> usize
     ensures { λ r. ⌜ (r ≡ seenAt (now (text .entry)) at) × (r ≤ length (now (text .entry))) ⌝ }
 {

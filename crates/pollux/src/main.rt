@@ -16,7 +16,7 @@ mod writing;
 
 use calls::Call;
 use calls::answer;
-use keys::bytes::same_bytes;
+use spelling::bytes::same_bytes;
 
 fn usage() {
     lines::say(

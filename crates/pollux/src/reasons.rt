@@ -5,7 +5,7 @@ use lines::say;
 use spelling::runs::Run;
 use spelling::runs::run_end;
 
-// The offset behind the line that starts at an offset, and behind its line feed.
+// The offset after the line that starts at an offset, and after its line feed.
 fn behind_line(s: &[u8], at: usize) -> usize
     requires { ⌜ at ≤ length (now s) ⌝ }
     ensures { λ r. ⌜ (at ≤ r) × (r ≤ length (now (s .entry))) ⌝ }

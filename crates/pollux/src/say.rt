@@ -18,7 +18,7 @@ fn mark(form: &[u8]) -> usize
     i
 }
 
-// Says a form up to its #, and a number in its place; answers what stands behind it.
+// Says a form up to its #, and a number in its place; answers what stands after it.
 fn say_up_to(form: &[u8], n: usize) -> &[u8] {
     let at = mark(form);
     say(start(form, at));

@@ -30,7 +30,7 @@ pub(crate) fn whole_entries(size: usize) -> usize
     65536 - 65536 % size
 }
 
-// Where the entry at an offset ends: behind its size, or where the bytes do.
+// Where the entry at an offset ends: after its size, or where the bytes do.
 pub(crate) fn entry_end(at: usize, size: usize, end: usize) -> usize
     requires { ⌜ at < end ⌝ }
     requires { ⌜ 0 < size ⌝ }

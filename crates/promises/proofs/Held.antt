@@ -10,7 +10,7 @@ use Rattle.paper.specs.declared.Loading.the-variants as L
 use Rattle.paper.specs.Blocks.{blockSize, inBlock, mostBlocks, blocksNeeded}
 use Rattle.paper.specs.Promised.{JudgePromised, TranslatePromised, LoadPromised, RunPromised}
 use Rattle.paper.specs.Demands.{blocksWritten}
-use Rattle.paper.proofs.Carried.{translation-carries}
+use Rattle.paper.proofs.TranslationCorrect.{translation-carries}
 use Rattle.paper.proofs.Promised.{judgement-same, loading-same}
 use Rattle.promises.specs.Held.{gave, Held}
 

@@ -1,5 +1,5 @@
 // Damage to blocks that load.
-ghost use Rattle.paper.specs.Damaged.{CutRefused, ByteSeen, BitSeen};
+ghost use Rattle.paper.specs.DamageDetected.{CutRefused, ByteSeen, BitSeen};
 
 // Blocks cut at a block's end do not load.
 pub fn cut_blocks_are_refused()

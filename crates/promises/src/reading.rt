@@ -37,7 +37,7 @@ pub fn nodes_within_tokens()
     ensures { λ _. ⌜ NodesWithinTokens ⌝ }
 {}
 
-// Each token begins behind the one before it, in the text.
+// Each token begins after the one before it, in the text.
 pub fn token_offsets_rise()
     ensures { λ _. ⌜ OffsetsRise ⌝ }
 {}

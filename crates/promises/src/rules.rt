@@ -1,6 +1,6 @@
 // The rules by example: what document 01 marks, both sides of every limit, and every clause of every definition. `tools/mutate` takes
 // the modules named here for those in which a changed definition must be seen.
-ghost use Rattle.paper.specs.Marked.{Marked};
+ghost use Rattle.paper.specs.MarkedJudgements.{Marked};
 ghost use Rattle.paper.specs.Readings.{Readings};
 ghost use Rattle.paper.specs.CaseFour.{CaseFour};
 ghost use Rattle.paper.specs.Limits.{Texts, Lists, Entries, Held, Sizes};

@@ -1,7 +1,7 @@
 // Running what loads.
-ghost use Rattle.paper.specs.Sound.{CheckIsRun, LoadedRuns};
-ghost use Rattle.paper.specs.Carried.{LoadedAnswers};
-ghost use Rattle.paper.specs.Meant.{ValuesHaveTypes, Judged};
+ghost use Rattle.paper.specs.LoadedBlocksRun.{CheckIsRun, LoadedRuns};
+ghost use Rattle.paper.specs.TranslationCorrect.{LoadedAnswers};
+ghost use Rattle.paper.specs.TypeSoundness.{ValuesHaveTypes, Judged};
 
 // The load check is the run seen through types: it refuses nothing that would run well-typed.
 pub fn load_check_is_the_run()

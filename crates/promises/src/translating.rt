@@ -1,7 +1,7 @@
 // Translating a text, and what its blocks say.
-ghost use Rattle.paper.specs.Translated.{CodeCounted, MeetsByConverting, ComparesWhereMet, CodeFits, FewHeld};
-ghost use Rattle.paper.specs.Written.{BlocksBack, PartsAgain, BytesAgain};
-ghost use Rattle.paper.specs.Carried.{TranslationCarries, CheckedTranslates, RefusedUnchanged};
+ghost use Rattle.paper.specs.CodeCorrect.{CodeCounted, MeetsByConverting, ComparesWhereMet, CodeFits, FewHeld};
+ghost use Rattle.paper.specs.BlocksRoundTrip.{BlocksBack, PartsAgain, BytesAgain};
+ghost use Rattle.paper.specs.TranslationCorrect.{TranslationCarries, CheckedTranslates, RefusedUnchanged};
 
 // The instructions are the nodes of the tree plus the conversions.
 pub fn instructions_counted()

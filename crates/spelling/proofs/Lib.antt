@@ -1,3 +1,5 @@
 pub mod Numbers
 pub mod Spans
 pub mod Tests
+pub mod Steps
+mod Words

@@ -62,7 +62,7 @@ module _ (ds : List ℕ) (base end : ℕ) (f : EndsAt ds 0 (span (inRun (Digits 
   digits-all z h =
       rw (lt-ltb 0 (length ds) (omega arith), eq-eqb (span (inRun (Digits base)) ds) (length ds) (omega arith))
 
--- one digit more, and what stands behind it
+-- one digit more, and what stands after it
 module _ (base n d : ℕ) (ds : List ℕ) (r : Grown) (g : Grows (n * base + d) r) where
   pub grown-on : r .ok ≡ true → value (r .number) ≡ n * base + d
   grown-on e = g .kept ∙ mod-eq-of-lt (ltb-true (n * base + d) (2 ^ 128) (sym (g .told) ∙ e))

@@ -1,2 +1,3 @@
 pub mod Numerals
 pub mod Runs
+pub mod Words

@@ -15,7 +15,7 @@ inRun Line = λ b. not (eqb b 10)
 inRun Quoted = λ b. not (is "'" b || eqb b 10)
 inRun (Digits base) = λ b. ltb (digitOf b) base
 
--- n bytes behind an offset, none of them past the text's end
+-- n bytes after an offset, none of them past the text's end
 pub record EndsAt (text : List ℕ) (at n end : ℕ) : Type 0 where
   pub far : end ≡ at + n
   pub inside : end ≤ length text

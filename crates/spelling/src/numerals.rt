@@ -24,7 +24,7 @@ pub struct Numeral {
     pub number: Magnitude,
 }
 
-// The base that a letter announces behind a first 0, and 0 for none.
+// The base that a letter announces after a first 0, and 0 for none.
 fn base_of(letter: u8) -> u8
     ensures { λ r. ⌜ baseSaid r ≡ baseOf letter ⌝ }
 {

@@ -5,6 +5,7 @@ ghost use lib.ListN.{length, drop};
 ghost use Rattle.paper.specs.Tokens.{span};
 ghost use Rattle.spelling.specs.Runs.{inRun, EndsAt};
 use crate::bytes;
+use crate::word;
 
 pub enum Run {
     // Letters, digits and underscores.
@@ -21,7 +22,7 @@ fn goes_on(run: Run, byte: u8) -> bool
     ensures { λ r. ⌜ r ≡ inRun run byte ⌝ }
 {
     match run {
-        Run::Name => keys::word::is_id_byte(byte),
+        Run::Name => word::is_id_byte(byte),
         Run::Line => byte != b'\n',
         Run::Quoted => {
             if byte == b'\n' {

@@ -36,7 +36,7 @@ fn word(text: &[u8], at: usize) -> Found
     ensures { λ r. ⌜ Stands (now (text .entry)) at 0 (paper.scanWord (getD (now (text .entry)) at 0) (drop (at + 1) (now (text .entry)))) r ⌝ }
 {
     let next = at + 1;
-    Found::Token(kinds::WORD, next + keys::word::word_more(text, next))
+    Found::Token(kinds::WORD, next + spelling::word::word_more(text, next))
 }
 
 fn numeral(text: &[u8], at: usize) -> Scanned
@@ -72,7 +72,7 @@ pub(crate) fn scan(text: &[u8], at: usize) -> Scanned
     if byte == b'\'' {
         return unnumbered(quotes::string(text, at));
     }
-    if keys::word::is_id_start(byte) {
+    if spelling::word::is_id_start(byte) {
         return unnumbered(word(text, at));
     }
     if bytes::is_digit(byte) {

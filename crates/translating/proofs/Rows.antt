@@ -9,7 +9,7 @@ use lib.Seq.{sets}
 use Rattle.paper.specs.Numbers.{bigEndian}
 use Rattle.paper.specs.Code.{Instruction, Parts, partsOf, instructionSize, encode}
 use Rattle.paper.specs.Blocks.{encodeAll}
-use Rattle.paper.proofs.Encoded.{row-length}
+use Rattle.paper.proofs.InstructionsRoundTrip.{row-length}
 use Rattle.number.proofs.BigEndian.{sets-append}
 use Rattle.translating.specs.Writing.{Wrote}
 

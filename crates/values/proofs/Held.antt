@@ -19,7 +19,7 @@ pub is-when : (t : Bool) (v w : Value) → v ≡ w → Is (when t w) v
 is-when true v w e = e
 is-when false v w e = tt
 
--- an operation behind another
+-- an operation after another
 pub is-then : (o : Option Value) (f : Value → Option Value) (u v : Value) → Is o u → Is (f u) v → Is (andThen o f) v
 is-then none f u v i j = tt
 is-then (some w) f u v i j = subst (λ (x : Value). Is (f x) v) i j

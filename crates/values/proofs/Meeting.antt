@@ -9,7 +9,7 @@ use Rattle.paper.specs.Tokens.{Comparison}
 use Rattle.paper.specs.Keys.{Kind, exact, ternary, lpm, range, optional}
 use Rattle.paper.specs.Types.{Ty, bool, int, of, sameTy, takes, meet, when, andThen}
 use Rattle.paper.specs.Meaning.{Value, tyOf, inType, convertValue, compareValue, comparisonValue}
-use Rattle.paper.proofs.Meant.{Comes, stays, meets, compared-there}
+use Rattle.paper.proofs.TypeSoundness.{Comes, stays, meets, compared-there}
 use Rattle.paper.proofs.MeetingTypes.{same-types, same-self, meets-by-converting}
 use Rattle.values.specs.Held.{likeValue, Is}
 

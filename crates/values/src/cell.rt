@@ -11,8 +11,11 @@ ghost use Rattle.number.specs.Values.{value, signed, wholeOf};
 ghost use Rattle.values.specs.Typed.{tyMeant};
 ghost use Rattle.values.specs.Held.{held, matchFrom};
 use crate::types::Type;
+use keys::KeyRecord;
 use number::Magnitude;
 use number::Whole;
+use paper::fields;
+use paper::kinds;
 
 pub enum Sort {
     Truth(bool),
@@ -89,9 +92,9 @@ impl Cell {
         ensures { λ r. ⌜ held r ≡ paper.matched (kindOf kind) width (oneValue (kindOf kind) width (value n)) ⌝ }
     {
         match kind {
-            0 => Cell::matched(kind, width, n, Magnitude::zero(), 0),
-            2 => Cell::matched(kind, width, n, Magnitude::zero(), width),
-            3 => Cell::matched(kind, width, n, n, 0),
+            kinds::EXACT => Cell::matched(kind, width, n, Magnitude::zero(), 0),
+            kinds::LPM => Cell::matched(kind, width, n, Magnitude::zero(), width),
+            kinds::RANGE => Cell::matched(kind, width, n, n, 0),
             _ => Cell::matched(kind, width, n, Magnitude::ones(width as u32), 0),
         }
     }
@@ -102,11 +105,11 @@ impl Cell {
         ensures { λ r. ⌜ held r ≡ fieldIn width (fieldOf field) (matchFrom first second length) ⌝ }
     {
         match field {
-            0 => Cell::one_value(0, width, first),
-            1 => Cell::one_value(0, width, second),
-            2 => Cell::whole(Magnitude::of(length as u32)),
-            3 => Cell::one_value(0, width, first),
-            _ => Cell::one_value(0, width, second),
+            fields::VALUE => Cell::one_value(kinds::EXACT, width, first),
+            fields::MASK => Cell::one_value(kinds::EXACT, width, second),
+            fields::PREFIX_LENGTH => Cell::whole(Magnitude::of(length as u32)),
+            fields::LOW => Cell::one_value(kinds::EXACT, width, first),
+            _ => Cell::one_value(kinds::EXACT, width, second),
         }
     }
 
@@ -138,7 +141,11 @@ impl Cell {
     pub(crate) fn width_held(self) -> u8
         ensures { λ r. ⌜ (r ≡ min (self .width) 128) × (r ≤ 128) ⌝ }
     {
-        if self.width < 128 { self.width } else { 128 }
+        if self.width < KeyRecord::WIDEST {
+            self.width
+        } else {
+            KeyRecord::WIDEST
+        }
     }
 
     // The whole number of this sign and the cell's size.

@@ -8,6 +8,7 @@ ghost use Rattle.values.specs.Held.{held, heldAs, likeValue, Is};
 use crate::cell::Cell;
 use crate::cell::Sort;
 use crate::types;
+use paper::comparisons;
 
 fn same_truth(truth: bool, b: Cell) -> bool
     ensures { λ r. ⌜ r ≡ sameValue (paper.truth truth) (held b) ⌝ }
@@ -93,11 +94,11 @@ impl Cell {
         ensures { λ r. ⌜ r ≡ paper.holds (comparisonOf comparison) (held self) (held right) ⌝ }
     {
         match comparison {
-            0 => self.same(right),
-            1 => !self.same(right),
-            2 => right.less(self),
-            3 => !self.less(right),
-            4 => self.less(right),
+            comparisons::EQUAL => self.same(right),
+            comparisons::UNEQUAL => !self.same(right),
+            comparisons::GREATER => right.less(self),
+            comparisons::AT_LEAST => !self.less(right),
+            comparisons::LESS => self.less(right),
             _ => !right.less(self),
         }
     }

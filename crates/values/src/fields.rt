@@ -10,9 +10,11 @@ ghost use Rattle.values.specs.Typed.{tyMeant, typingMeant, namedOf};
 use crate::types;
 use crate::types::Type;
 use crate::types::Typing;
-use keys::bytes::same_bytes;
+use paper::fields;
+use paper::kinds;
+use spelling::bytes::same_bytes;
 
-// A field's number: 0 value, 1 mask, 2 prefix_length, 3 low, 4 high.
+// A field's number in document 01.
 pub enum Named {
     Field(u8),
     Nothing,
@@ -22,20 +24,20 @@ fn has(kind: u8, field: u8) -> bool
     ensures { λ r. ⌜ r ≡ paper.has (kindOf kind) (fieldOf field) ⌝ }
 {
     match field {
-        0 => kind != 3,
-        1 => (kind == 1) | (3 < kind),
-        2 => kind == 2,
-        _ => kind == 3,
+        fields::VALUE => kind != kinds::RANGE,
+        fields::MASK => (kind == kinds::TERNARY) | (kinds::RANGE < kind),
+        fields::PREFIX_LENGTH => kind == kinds::LPM,
+        _ => kind == kinds::RANGE,
     }
 }
 
 fn type_in(width: u8, field: u8) -> Type
     ensures { λ r. ⌜ tyMeant r ≡ fieldTy width (fieldOf field) ⌝ }
 {
-    if field == 2 {
+    if field == fields::PREFIX_LENGTH {
         Type::Int
     } else {
-        Type::Of(0, width)
+        Type::Of(kinds::EXACT, width)
     }
 }
 
@@ -59,11 +61,11 @@ fn spelled(word: &[u8], name: &[u8], field: u8, other: Named) -> Named
 pub fn field_named(word: &[u8]) -> Named
     ensures { λ r. ⌜ r ≡ namedOf (fieldNamed (now (word .entry))) ⌝ }
 {
-    let high = spelled(word, b"high", 4, Named::Nothing);
-    let low = spelled(word, b"low", 3, high);
-    let length = spelled(word, b"prefix_length", 2, low);
-    let mask = spelled(word, b"mask", 1, length);
-    spelled(word, b"value", 0, mask)
+    let high = spelled(word, b"high", fields::HIGH, Named::Nothing);
+    let low = spelled(word, b"low", fields::LOW, high);
+    let length = spelled(word, b"prefix_length", fields::PREFIX_LENGTH, low);
+    let mask = spelled(word, b"mask", fields::MASK, length);
+    spelled(word, b"value", fields::VALUE, mask)
 }
 
 // Whether a word names the attribute "priority", the only one there is.

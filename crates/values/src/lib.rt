@@ -6,6 +6,7 @@
 // instructions has only to walk.
 mod cell;
 mod comparing;
+pub mod connectives;
 pub mod fields;
 mod operations;
 pub mod operators;

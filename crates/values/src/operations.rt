@@ -8,15 +8,16 @@ ghost use Rattle.number.specs.Values.{value};
 ghost use Rattle.values.specs.Held.{held, Is, asNumber, connectiveOf};
 use crate::cell::Cell;
 use crate::cell::Sort;
+use crate::connectives;
 use number::Magnitude;
 
-// 0 both, 1 either, 2 if the first then the second. Any number over 2 is read as 2.
+// Any number over the last is read as the last.
 fn connect(connective: u8, a: bool, b: bool) -> bool
     ensures { λ r. ⌜ r ≡ paper.connect (connectiveOf connective) a b ⌝ }
 {
     match connective {
-        0 => a & b,
-        1 => a | b,
+        connectives::BOTH => a & b,
+        connectives::EITHER => a | b,
         _ => !a | b,
     }
 }

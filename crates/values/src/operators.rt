@@ -8,6 +8,8 @@ ghost use Rattle.values.specs.Typed.{tyMeant, typingMeant};
 use crate::types;
 use crate::types::Type;
 use crate::types::Typing;
+use paper::comparisons;
+use paper::kinds;
 
 // The type that "!" gives, where it takes its operand.
 pub fn not_type(a: Type) -> Typing
@@ -44,7 +46,7 @@ fn is_number(a: Type) -> bool
     match a {
         Type::Bool => false,
         Type::Int => true,
-        Type::Of(kind, _) => kind == 0,
+        Type::Of(kind, _) => kind == kinds::EXACT,
     }
 }
 
@@ -52,7 +54,7 @@ fn is_number(a: Type) -> bool
 fn suits(comparison: u8, a: Type) -> bool
     ensures { λ r. ⌜ r ≡ paper.suits (comparisonOf comparison) (tyMeant a) ⌝ }
 {
-    (comparison == 0) | (comparison == 1) | is_number(a)
+    (comparison == comparisons::EQUAL) | (comparison == comparisons::UNEQUAL) | is_number(a)
 }
 
 // The type that a comparison gives of two operands of one type, where it takes them.

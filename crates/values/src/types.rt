@@ -4,6 +4,7 @@ ghost use Rattle.paper.specs.Keys.{kindOf, kindNo};
 ghost use Rattle.paper.specs.Types as paper;
 ghost use Rattle.paper.specs.Types.{bool, int, of, sameTy};
 ghost use Rattle.values.specs.Typed.{tyMeant, typingMeant};
+use paper::kinds;
 
 // A key's kind is held as its number in a key list. Any number over 4 is read as 4, optional.
 pub enum Type {
@@ -23,7 +24,11 @@ pub enum Typing {
 pub fn kind_number(kind: u8) -> u8
     ensures { λ r. ⌜ r ≡ kindNo (kindOf kind) ⌝ }
 {
-    if kind < 4 { kind } else { 4 }
+    if kind < kinds::OPTIONAL {
+        kind
+    } else {
+        kinds::OPTIONAL
+    }
 }
 
 // Whether a type is bool.
@@ -76,7 +81,8 @@ pub(crate) fn takes(a: Type, b: Type) -> bool
     match a {
         Type::Bool => false,
         Type::Int => false,
-        Type::Of(kind, width) => is_int(b) | !(kind == 0) & is_of(b, 0, width),
+        Type::Of(kind, width) => is_int(b)
+            | !(kind == kinds::EXACT) & is_of(b, kinds::EXACT, width),
     }
 }
 

@@ -14,7 +14,7 @@ use Rattle.paper.specs.Grammar as G
 use Rattle.paper.specs.Entry.{entryOf}
 use Rattle.paper.specs.Meaning.{Value, truth, valueOf, isTrue}
 use Rattle.paper.specs.Calls.{judgeAnswer}
-use Rattle.paper.proofs.Meant.{judged}
+use Rattle.paper.proofs.TypeSoundness.{judged}
 use Rattle.keys.specs.Says.{keysIn, conforms}
 use Rattle.keys.proofs.Conforming.{matches-length}
 use Rattle.keys.proofs.Conforming as K

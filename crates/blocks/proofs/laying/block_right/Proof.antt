@@ -2,7 +2,7 @@ use Prim.Native.Nat.{_≤_}
 use native.Mathlib.Omega.{arith}
 use mathlib.Core.Path.{sym, _∙_}
 use borrow.Author.Tests.{eq-eqb, ne-eqb, not-true, not-false}
-use Rattle.paper.proofs.Laid.{few-counted}
+use Rattle.paper.proofs.LayoutPassed.{few-counted}
 use Rattle.blocks.proofs.Layouts.{right-by}
 use borrow.Author.Needs.{needs}
 use Rattle.blocks.proofs.laying.block_right.Statement.{statement}

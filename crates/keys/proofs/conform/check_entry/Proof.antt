@@ -12,7 +12,7 @@ use Rattle.paper.specs.Keys.{recordsIn}
 use Rattle.paper.specs.Entry.{priorityOf, ruleTest}
 use Rattle.paper.proofs.InTurn.{goes-on, stops, is-over}
 use Rattle.keys.specs.Says.{keysIn, conforms}
-use Rattle.keys.proofs.Steps.{refuted, granted}
+use Rattle.spelling.proofs.Steps.{refuted, granted}
 use Rattle.keys.proofs.Entering.{wrong-length, too-high, by-rules, rule-broken, rule-kept}
 use Rattle.keys.proofs.conform.check_entry.Statement.{statement}
 use Rattle.keys.proofs.conform.check_entry.Tie as tie

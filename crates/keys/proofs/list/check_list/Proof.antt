@@ -10,7 +10,7 @@ use Rattle.paper.specs.Answers.{Answer, ok, _>>=_, inTurn}
 use Rattle.paper.specs.Keys.{recordsIn, recordTest, layoutRule}
 use Rattle.paper.proofs.InTurn.{goes-on, stops, is-over}
 use Rattle.keys.specs.Says.{found, keyCount}
-use Rattle.keys.proofs.Steps.{refuted, granted}
+use Rattle.spelling.proofs.Steps.{refuted, granted}
 use Rattle.keys.proofs.Listing.{ragged, too-long, by-records, broken, repeated, new}
 use Rattle.keys.proofs.list.check_list.Statement.{statement}
 use Rattle.keys.proofs.list.check_list.Tie as tie

@@ -5,7 +5,7 @@ use denote.Ref.{now}
 use lib.ListN.{getD, drop, length-drop}
 use lib.Seq.{take-all}
 use borrow.Author.Needs.{needs}
-use Rattle.keys.proofs.Steps.{to-end}
+use Rattle.spelling.proofs.Steps.{to-end}
 use Rattle.keys.proofs.record.name_of.Statement.{statement}
 use Rattle.keys.proofs.record.name_of.Tie as tie
 

@@ -1,5 +1,5 @@
 use borrow.Author.Needs.{needs}
-use Rattle.keys.proofs.Steps.{refuted, granted}
+use Rattle.spelling.proofs.Steps.{refuted, granted}
 use Rattle.keys.proofs.record.name_ok.Statement.{statement}
 use Rattle.keys.proofs.record.name_ok.Tie as tie
 

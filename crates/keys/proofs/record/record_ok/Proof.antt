@@ -3,7 +3,7 @@ use denote.Ref.{now}
 use lib.ListN.{getD}
 use borrow.Author.Needs.{needs}
 use borrow.Author.Tests.{le-leb, lt-leb}
-use Rattle.keys.proofs.Steps.{to-end, refuted, granted}
+use Rattle.spelling.proofs.Steps.{to-end, refuted, granted}
 use Rattle.keys.proofs.record.record_ok.Statement.{statement}
 use Rattle.keys.proofs.record.record_ok.Tie as tie
 

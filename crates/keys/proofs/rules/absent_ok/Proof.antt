@@ -1,4 +1,4 @@
-use Rattle.keys.proofs.Steps.{to-end}
+use Rattle.spelling.proofs.Steps.{to-end}
 use Rattle.keys.proofs.Matches.{not-exact}
 use borrow.Author.Needs.{needs}
 use Rattle.keys.proofs.rules.absent_ok.Statement.{statement}

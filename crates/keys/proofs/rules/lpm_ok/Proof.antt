@@ -1,5 +1,5 @@
 use borrow.Author.Tests.{le-leb, lt-leb}
-use Rattle.keys.proofs.Steps.{refuted, granted}
+use Rattle.spelling.proofs.Steps.{refuted, granted}
 use borrow.Author.Needs.{needs}
 use Rattle.keys.proofs.rules.lpm_ok.Statement.{statement}
 use Rattle.keys.proofs.rules.lpm_ok.Tie as tie

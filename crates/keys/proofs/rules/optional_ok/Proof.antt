@@ -1,4 +1,4 @@
-use Rattle.keys.proofs.Steps.{refuted, granted}
+use Rattle.spelling.proofs.Steps.{refuted, granted}
 use borrow.Author.Needs.{needs}
 use Rattle.keys.proofs.rules.optional_ok.Statement.{statement}
 use Rattle.keys.proofs.rules.optional_ok.Tie as tie

@@ -1,5 +1,5 @@
 use Rattle.paper.specs.Entry as P
-use Rattle.keys.proofs.Steps.{refuted, granted}
+use Rattle.spelling.proofs.Steps.{refuted, granted}
 use mathlib.Core.Path.{ap}
 use borrow.Author.Needs.{needs}
 use Rattle.keys.proofs.rules.present_ok.Statement.{statement}

@@ -1,5 +1,5 @@
 use borrow.Author.Tests.{eq-eqb, ne-eqb}
-use Rattle.keys.proofs.Steps.{refuted, granted}
+use Rattle.spelling.proofs.Steps.{refuted, granted}
 use borrow.Author.Needs.{needs}
 use Rattle.keys.proofs.rules.range_ok.Statement.{statement}
 use Rattle.keys.proofs.rules.range_ok.Tie as tie

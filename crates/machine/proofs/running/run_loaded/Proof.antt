@@ -7,7 +7,7 @@ use Rattle.paper.specs.Entry.{Entry}
 use Rattle.paper.specs.Meaning.{Value}
 use Rattle.paper.specs.Code.{Action, actionOf, valueAction}
 use Rattle.paper.specs.Loading.{leftTrue}
-use Rattle.paper.proofs.Sound.{conforming}
+use Rattle.paper.proofs.LoadedBlocksRun.{conforming}
 use Rattle.keys.specs.Says.{keysIn}
 use Rattle.values.specs.Held.{held}
 use Rattle.operands.specs.Conforming.{entryIn}

@@ -1,4 +1,4 @@
-use Rattle.paper.proofs.Damaged as Theorem
+use Rattle.paper.proofs.DamageDetected as Theorem
 use Rattle.promises.proofs.damage.a_changed_bit_is_seen.Statement.{statement}
 use Rattle.promises.proofs.damage.a_changed_bit_is_seen.Tie as tie
 

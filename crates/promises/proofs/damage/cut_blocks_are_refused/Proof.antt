@@ -1,4 +1,4 @@
-use Rattle.paper.proofs.Damaged as Theorem
+use Rattle.paper.proofs.DamageDetected as Theorem
 use Rattle.promises.proofs.damage.cut_blocks_are_refused.Statement.{statement}
 use Rattle.promises.proofs.damage.cut_blocks_are_refused.Tie as tie
 

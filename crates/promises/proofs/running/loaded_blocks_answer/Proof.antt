@@ -1,4 +1,4 @@
-use Rattle.paper.proofs.Carried as Theorem
+use Rattle.paper.proofs.TranslationCorrect as Theorem
 use Rattle.promises.proofs.running.loaded_blocks_answer.Statement.{statement}
 use Rattle.promises.proofs.running.loaded_blocks_answer.Tie as tie
 

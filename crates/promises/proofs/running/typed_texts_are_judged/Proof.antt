@@ -1,4 +1,4 @@
-use Rattle.paper.proofs.Meant as Theorem
+use Rattle.paper.proofs.TypeSoundness as Theorem
 use Rattle.promises.proofs.running.typed_texts_are_judged.Statement.{statement}
 use Rattle.promises.proofs.running.typed_texts_are_judged.Tie as tie
 

@@ -1,4 +1,4 @@
-use Rattle.paper.proofs.Meant as Theorem
+use Rattle.paper.proofs.TypeSoundness as Theorem
 use Rattle.promises.proofs.running.values_have_their_types.Statement.{statement}
 use Rattle.promises.proofs.running.values_have_their_types.Tie as tie
 

@@ -1,4 +1,4 @@
-use Rattle.paper.proofs.Written as Theorem
+use Rattle.paper.proofs.BlocksRoundTrip as Theorem
 use Rattle.promises.proofs.translating.blocks_read_back.Statement.{statement}
 use Rattle.promises.proofs.translating.blocks_read_back.Tie as tie
 

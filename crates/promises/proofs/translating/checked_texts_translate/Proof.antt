@@ -1,4 +1,4 @@
-use Rattle.paper.proofs.Carried as Theorem
+use Rattle.paper.proofs.TranslationCorrect as Theorem
 use Rattle.promises.proofs.translating.checked_texts_translate.Statement.{statement}
 use Rattle.promises.proofs.translating.checked_texts_translate.Tie as tie
 

@@ -1,4 +1,4 @@
-use Rattle.paper.proofs.Shallow as Theorem
+use Rattle.paper.proofs.ValuesHeld as Theorem
 use Rattle.promises.proofs.translating.few_values_held.Statement.{statement}
 use Rattle.promises.proofs.translating.few_values_held.Tie as tie
 

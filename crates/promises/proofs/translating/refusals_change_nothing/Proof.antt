@@ -1,4 +1,4 @@
-use Rattle.paper.proofs.Carried as Theorem
+use Rattle.paper.proofs.TranslationCorrect as Theorem
 use Rattle.promises.proofs.translating.refusals_change_nothing.Statement.{statement}
 use Rattle.promises.proofs.translating.refusals_change_nothing.Tie as tie
 

@@ -1,4 +1,4 @@
-use Rattle.paper.proofs.Carried as Theorem
+use Rattle.paper.proofs.TranslationCorrect as Theorem
 use Rattle.promises.proofs.translating.translation_carries_the_judgement.Statement.{statement}
 use Rattle.promises.proofs.translating.translation_carries_the_judgement.Tie as tie
 

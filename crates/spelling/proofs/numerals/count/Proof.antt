@@ -1,4 +1,4 @@
--- The digits from here on, behind the number so far, count what all of them count.
+-- The digits from here on, after the number so far, count what all of them count.
 use Prim.Native.Nat.{_+_, _*_, _-_, _^_, _≤_}
 use mathlib.Core.Path.{_≡_, sym, _∙_}
 use mathlib.Core.Bool.{true}
@@ -26,7 +26,7 @@ abbrev μ-loop : tie.MeasureT-loop
 loop-holds : tie.Need-loop-holds Inv-loop μ-loop
 loop-holds c = (search needs, rw (c .zero .ensures), rw (c .zero .ensures))
 
--- the digits behind the one that was read
+-- the digits after the one that was read
 onward : (c : tie.After-digit-of Inv-loop μ-loop)
     → digitsAfter (c .before .before .before .before .before .before .args .base) (value (c .before .before .before .loop .number) * c .before .before .before .before .before .before .args .base + c .digit-of .result) (map digitOf (drop (c .before .before .before .loop .i + 1) (c .before .before .before .before .before .before .args .digits .now)))
     ≡ inBase (c .before .before .before .before .before .before .args .base) (map digitOf (c .before .before .before .before .before .before .args .digits .now))

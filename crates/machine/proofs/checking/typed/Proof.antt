@@ -1,3 +1,4 @@
+-- Each arm of the match gives the type that the rule of its operation gives (`values`, `operands`).
 use borrow.Author.Needs.{needs}
 use Rattle.machine.proofs.checking.typed.Statement.{statement}
 use Rattle.machine.proofs.checking.typed.Tie as tie

@@ -1,3 +1,4 @@
+-- The parts at the offset of the instruction, decoded.
 use borrow.Author.Needs.{needs}
 use mathlib.Core.Path.{ap, _∙_}
 use Rattle.paper.specs.Code.{partsAt, decode}

@@ -1,3 +1,4 @@
+-- Each arm of the match says how many operands the action of its operation takes, whatever the keys are.
 use borrow.Author.Needs.{needs}
 use Rattle.machine.proofs.instruction.takes.Statement.{statement}
 use Rattle.machine.proofs.instruction.takes.Tie as tie

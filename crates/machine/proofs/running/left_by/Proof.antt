@@ -1,3 +1,4 @@
+-- Each arm of the match leaves the value that the rule of its operation leaves (`values`, `operands`).
 use native.Mathlib.Omega.{arith}
 use mathlib.Core.Path.{subst}
 use borrow.Author.Needs.{needs}
@@ -8,6 +9,10 @@ use Rattle.operands.proofs.Conforming.{entry-size}
 use Rattle.machine.proofs.running.left_by.Statement.{statement}
 use Rattle.machine.proofs.running.left_by.Tie as tie
 
+-- where a conversion's kind and width are known
+abbrev start-of : tie.After-op4 → tie.Start
+start-of c = c .before .before .before .before
+
 priority-cell-requires : tie.Need-priority-cell-requires
 priority-cell-requires c κs =
     let s = c .before .before .before .before in
@@ -17,8 +22,9 @@ priority-cell-requires c κs =
 is-converted : tie.Need-returns-8
 is-converted c =
     let op = c .before .before .before .op4 .given in
+    let low = start-of (c .before .before .before) .args .low in
     rw (op .1)
-    (subst (λ w. Is (convertValue (kindOf (op .0 .0)) w (held (c .before .before .before .before .before .before .before .args .low))) (held (c .converted .result)))
+    (subst (λ w. Is (convertValue (kindOf (op .0 .0)) w (held low)) (held (c .converted .result)))
     (c .before .narrow .ensures .0) (c .converted .ensures))
 
 pub left-by-spec : {M : Type 1} → statement M

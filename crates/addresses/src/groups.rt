@@ -11,6 +11,8 @@ use crate::bad;
 use crate::parts::is_part;
 use crate::parts::value_of;
 use number::Magnitude;
+use spelling::bytes::DECIMAL;
+use spelling::bytes::HEX;
 
 // Whether all parts are good; if so, how many there are, and the number that they are after another.
 pub struct Counted {
@@ -33,9 +35,9 @@ fn base(kind: Scheme) -> u8
     ensures { λ r. ⌜ (r ≡ baseOf (scheme kind)) × (r ≤ 16) ⌝ }
 {
     match kind {
-        Scheme::Ipv4 => 10,
-        Scheme::Ipv6 => 16,
-        Scheme::Mac => 16,
+        Scheme::Ipv4 => DECIMAL,
+        Scheme::Ipv6 => HEX,
+        Scheme::Mac => HEX,
     }
 }
 

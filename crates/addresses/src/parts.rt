@@ -5,6 +5,8 @@ ghost use lib.ListN.{length};
 ghost use Rattle.paper.specs.Addresses as paper;
 ghost use Rattle.addresses.specs.Reads.{scheme, isPart, zeroFirst};
 use crate::Scheme;
+use spelling::bytes::DECIMAL;
+use spelling::bytes::HEX;
 use spelling::bytes::digit_of;
 use spelling::runs::Run;
 use spelling::runs::run_end;
@@ -49,13 +51,13 @@ fn is_decimal(part: &[u8]) -> bool
     if 3 < part.len() {
         return false;
     }
-    if !all_digits(part, 10) {
+    if !all_digits(part, DECIMAL) {
         return false;
     }
     if zero_first(part) {
         return false;
     }
-    value_of(part, 10) <= 255
+    value_of(part, DECIMAL) <= 255
 }
 
 fn is_pair(part: &[u8]) -> bool
@@ -64,7 +66,7 @@ fn is_pair(part: &[u8]) -> bool
     if part.len() != 2 {
         return false;
     }
-    all_digits(part, 16)
+    all_digits(part, HEX)
 }
 
 fn is_group(part: &[u8]) -> bool
@@ -76,7 +78,7 @@ fn is_group(part: &[u8]) -> bool
     if 4 < part.len() {
         return false;
     }
-    all_digits(part, 16)
+    all_digits(part, HEX)
 }
 
 // Whether bytes are a part of an address of a scheme.

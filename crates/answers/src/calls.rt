@@ -5,14 +5,27 @@ ghost use Rattle.answers.specs.Calls.{afterCall};
 use crate::adler;
 use crate::framing;
 
-// Any call but 4, which alone writes.
+// The calls, by the first byte of a request.
+const READ: u8 = 1;
+
+const CHECK: u8 = 2;
+
+const JUDGE: u8 = 3;
+
+const TRANSLATE: u8 = 4;
+
+const LOAD: u8 = 5;
+
+const RUN: u8 = 6;
+
+// Any call but `translate`, which alone writes.
 fn reading_call(call: u8, first: &[u8], second: &[u8], third: &[u8]) {
     match call {
-        1 => lines::say_reading(valve::read(first)),
-        2 => lines::say_checking(valve::check(first, second)),
-        3 => lines::say_judgement(valve::judge(first, second, third)),
-        5 => lines::say_loading(valve::load(first, second)),
-        6 => lines::say_judgement(valve::run(first, second, third)),
+        READ => lines::say_reading(valve::read(first)),
+        CHECK => lines::say_checking(valve::check(first, second)),
+        JUDGE => lines::say_judgement(valve::judge(first, second, third)),
+        LOAD => lines::say_loading(valve::load(first, second)),
+        RUN => lines::say_judgement(valve::run(first, second, third)),
         _ => lines::say(b"unknown"),
     }
     lines::say(b"\n");
@@ -31,7 +44,7 @@ fn translate(text: &[u8], list: &[u8], buffer: &mut [u8])
 pub(crate) fn answer(call: u8, first: &[u8], second: &[u8], third: &mut [u8], n: usize)
     ensures { λ _. ⌜ now (third .exit) ≡ afterCall call (now (first .entry)) (now (second .entry)) (now (third .entry)) n ⌝ }
 {
-    if call != 4 {
+    if call != TRANSLATE {
         return reading_call(call, first, second, lines::start(third, n));
     }
     if n <= third.len() {

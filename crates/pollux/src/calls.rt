@@ -14,6 +14,13 @@ use paper::Checking;
 use paper::Loading;
 use paper::Translation;
 
+// Where a call finds its files among the arguments.
+const FIRST: usize = 2;
+
+const SECOND: usize = 3;
+
+const OUT: usize = 4;
+
 pub enum Call {
     Check,
     Translate,
@@ -44,14 +51,14 @@ fn check(call: Call, text: &[u8], list: &[u8], text_size: usize, list_size: usiz
 // The blocks of a translation that passed, into the file that argument 4 names.
 fn translated(instructions: usize, buffer: &[u8]) {
     let blocks = Block::needed(instructions);
-    if write_argument(4, sizes::first_blocks(buffer, blocks)) {
+    if write_argument(OUT, sizes::first_blocks(buffer, blocks)) {
         say_count(
             b"translated # instruction into ",
             b"translated # instructions into ",
             instructions,
         );
         say_count(b"# block: ", b"# blocks: ", blocks);
-        say_argument(4);
+        say_argument(OUT);
         say(b"\n")
     }
 }
@@ -101,9 +108,9 @@ fn answer_on(call: Call, first: &[u8], second: &[u8], first_size: usize, second_
 pub(crate) fn answer(call: Call) {
     let mut first = [0u8; 4097];
     let mut second = io::large_buffer();
-    let a = read_argument(2, &mut first);
+    let a = read_argument(FIRST, &mut first);
     if a.read {
-        let b = read_argument(3, &mut second);
+        let b = read_argument(SECOND, &mut second);
         if b.read {
             answer_on(
                 call,

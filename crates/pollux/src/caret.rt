@@ -55,17 +55,22 @@ fn line_of(text: &[u8], at: usize) -> Line
     }
 }
 
+// How much of a long line is shown, and how much of it before the place.
+const COLUMNS: usize = 100;
+
+const BEFORE: usize = 50;
+
 fn window_start(line: Line, at: usize) -> usize
     requires { ⌜ (line .from ≤ at) × (at ≤ line .to) ⌝ }
     ensures { λ r. ⌜ (line .from ≤ r) × (r ≤ at) × (at ≤ r + 100) ⌝ }
 {
-    if line.to - line.from <= 100 {
+    if line.to - line.from <= COLUMNS {
         return line.from;
     }
-    if at - line.from <= 50 {
+    if at - line.from <= BEFORE {
         line.from
     } else {
-        at - 50
+        at - BEFORE
     }
 }
 
@@ -75,7 +80,7 @@ fn window(line: Line, at: usize) -> Stretch
     ensures { λ r. ⌜ Window line at r ⌝ }
 {
     let from = window_start(line, at);
-    if line.to - from <= 100 {
+    if line.to - from <= COLUMNS {
         return Stretch {
             from: from,
             to: line.to,
@@ -83,7 +88,7 @@ fn window(line: Line, at: usize) -> Stretch
     }
     Stretch {
         from: from,
-        to: from + 100,
+        to: from + COLUMNS,
     }
 }
 
@@ -97,7 +102,7 @@ fn shown_as(byte: u8) -> u8
     if byte < b' ' {
         return b'?';
     }
-    if byte < 127 { byte } else { b'?' }
+    if byte <= b'~' { byte } else { b'?' }
 }
 
 fn say_bytes(text: &[u8], from: usize, to: usize)

@@ -8,6 +8,7 @@ use crate::sizes::true_offset;
 use keys::Entry;
 use keys::Matched;
 use paper::Place;
+use paper::refused::ENTRY_RULE;
 
 fn offset(place: Place) -> usize {
     match place {
@@ -67,7 +68,7 @@ pub(crate) fn refused(
 
 // What is wrong with an entry.
 fn say_of_entry(number: u8, at: usize) {
-    if number == 20 {
+    if number == ENTRY_RULE {
         if Entry::HEAD <= at {
             return say_number(
                 b"the record of key # breaks its rule\n",

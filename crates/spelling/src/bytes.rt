@@ -4,6 +4,15 @@ ghost use Rattle.paper.specs.Tokens as paper;
 ghost use Rattle.paper.specs.Tokens.{sameBytes, isDigit, isBlank, digitOf};
 ghost use Rattle.paper.specs.Keys.{allZero};
 
+// The bases of numerals.
+pub const BINARY: u8 = 2;
+
+pub const OCTAL: u8 = 8;
+
+pub const DECIMAL: u8 = 10;
+
+pub const HEX: u8 = 16;
+
 // Whether a byte lies between two others, both of them included.
 pub fn within(low: u8, high: u8, byte: u8) -> bool
     ensures { λ r. ⌜ r ≡ paper.within low high byte ⌝ }

@@ -29,10 +29,10 @@ fn base_of(letter: u8) -> u8
     ensures { λ r. ⌜ baseSaid r ≡ baseOf letter ⌝ }
 {
     match letter {
-        b'd' | b'D' => 10,
-        b'b' | b'B' => 2,
-        b'o' | b'O' => 8,
-        b'x' | b'X' => 16,
+        b'd' | b'D' => bytes::DECIMAL,
+        b'b' | b'B' => bytes::BINARY,
+        b'o' | b'O' => bytes::OCTAL,
+        b'x' | b'X' => bytes::HEX,
         _ => 0,
     }
 }
@@ -108,7 +108,7 @@ pub fn read_numeral(run: &[u8]) -> Numeral
 {
     let base = announced(run);
     if base == 0 {
-        return in_base(run, 10);
+        return in_base(run, bytes::DECIMAL);
     }
     in_base(&run[2..], base)
 }

@@ -1,3 +1,4 @@
+-- Each scheme reads its string by its own rule (`read-as`).
 use lib.Dec.{lit≤}
 use Rattle.paper.specs.Addresses.{address}
 use borrow.Author.Needs.{needs}

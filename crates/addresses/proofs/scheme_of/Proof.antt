@@ -1,3 +1,4 @@
+-- The three words of the definition, in its order.
 use mathlib.Core.Path.{sym, _∙_}
 use borrow.Author.Needs.{needs}
 use Rattle.addresses.proofs.scheme_of.Statement.{statement}

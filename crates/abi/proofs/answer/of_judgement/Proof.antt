@@ -1,3 +1,4 @@
+-- Each case of the answer is told by its own four numbers.
 use borrow.Author.Needs.{needs}
 use Rattle.abi.proofs.answer.of_judgement.Statement.{statement}
 use Rattle.abi.proofs.answer.of_judgement.Tie as tie

@@ -1,3 +1,4 @@
+-- Each input has its own number, and the place is its offset.
 use borrow.Author.Needs.{needs}
 use Rattle.abi.proofs.answer.refusal.Statement.{statement}
 use Rattle.abi.proofs.answer.refusal.Tie as tie

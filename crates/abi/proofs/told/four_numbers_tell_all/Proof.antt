@@ -1,3 +1,4 @@
+-- Two answers that are told by the same four numbers are read back as one.
 use Prim.Native.Nat.{ℕ}
 use mathlib.Core.Path.{_≡_, refl}
 use mathlib.Core.Bool.{Bool, true, false}

@@ -1,3 +1,5 @@
+-- Before each turn the parts so far are good and make the number so far (`Going`); a bad part ends it, and the last one ends the
+-- string (`going-bad`, `going-last`, `going-on`).
 use Prim.Native.Nat.{_+_, _*_, _-_, _%_, _^_}
 use mathlib.Core.Path.{_≡_, refl, sym, _∙_}
 use mathlib.Core.Bool.{false≢true}

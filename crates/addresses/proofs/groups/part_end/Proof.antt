@@ -1,3 +1,4 @@
+-- No separator stands before index i, so the first one that is found ends the part.
 use Prim.Native.Nat.{_+_, _-_, _≤_}
 use mathlib.Core.Path.{_≡_, refl, ap}
 use mathlib.Core.Bool.{not}

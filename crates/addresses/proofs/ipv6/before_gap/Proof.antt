@@ -1,3 +1,5 @@
+-- No gap stands before index i (`gap-on`), so the first one that is found is the first of all (`gap-here`), or there is none
+-- (`gap-end`).
 use Prim.Native.Nat.{_+_, _-_, _≤_}
 use mathlib.Core.Path.{_≡_, sym, _∙_}
 use native.Mathlib.Nat.{zero-add}

@@ -1,3 +1,4 @@
+-- A gap stands where two colons do.
 use Prim.Native.Nat.{_+_}
 use mathlib.Core.Path.{_≡_}
 use mathlib.Core.Bool.{and-false}

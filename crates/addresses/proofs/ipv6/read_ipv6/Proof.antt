@@ -1,3 +1,4 @@
+-- Without a gap the string is eight groups; with one, the groups on its two sides with zeros between them (`read-as`, `eight`).
 use Prim.Native.Nat.{_+_, _-_}
 use mathlib.Core.Path.{sym, _∙_}
 use native.Mathlib.Omega.{arith}

@@ -1,3 +1,4 @@
+-- No bytes are no groups (`none-grouped`); any others are read as groups (`some-groups`).
 use mathlib.Core.Path.{_≡_, refl}
 use mathlib.Core.List.{[]}
 use native.Mathlib.Omega.{arith}

@@ -1,3 +1,4 @@
+-- A group of zeros is the number times 65,536; so many of them are that many times over (`zero-on`).
 use Prim.Native.Nat.{_%_, _^_, _<_}
 use mathlib.Core.Path.{_≡_, refl, sym, _∙_}
 use native.Mathlib.Omega.{arith}

@@ -1,3 +1,4 @@
+-- The tests are the definition's, in its order: one to three digits, no 0 before another, at most 255.
 use mathlib.Core.Path.{sym, _∙_}
 use native.Mathlib.Omega.{arith}
 use borrow.Author.Tests.{le-leb, lt-leb, not-true, not-false}

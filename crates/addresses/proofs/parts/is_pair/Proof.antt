@@ -1,3 +1,4 @@
+-- Two digits of hex, no more and no less.
 use mathlib.Core.Path.{sym, _∙_}
 use borrow.Author.Tests.{eq-eqb, ne-eqb}
 use lib.ListN.{length}

@@ -1,3 +1,4 @@
+-- Each scheme has its own rule of a part.
 use borrow.Author.Needs.{needs}
 use Rattle.addresses.proofs.parts.is_part.Statement.{statement}
 use Rattle.addresses.proofs.parts.is_part.Tie as tie

@@ -1,3 +1,5 @@
+-- The digits so far count the number that the definition counts of them, and it fits, since there are at most four (`value-on`,
+-- `value-fits`).
 use Prim.Native.Nat.{_-_, _^_, _≤_, _<_}
 use mathlib.Core.Path.{_≡_, refl, sym, _∙_}
 use mathlib.Core.List.{map}

@@ -1,3 +1,4 @@
+-- Two bytes, the high one first (`number-two`).
 use borrow.Author.Needs.{needs}
 use Rattle.blocks.proofs.Steps.{number-two}
 use Rattle.blocks.proofs.fields.two_bytes.Statement.{statement}

@@ -1,3 +1,4 @@
+-- The tests are the definition's, in its order, on the numbers that were read from the block (`right-by`).
 use Prim.Native.Nat.{_≤_}
 use native.Mathlib.Omega.{arith}
 use mathlib.Core.Path.{sym, _∙_}

@@ -1,3 +1,4 @@
+-- The counts from block k on add up to the count of block k and those after it (`counts-on`).
 use Prim.Native.Nat.{ℕ, _≤_, _-_, _+_, _*_}
 use native.Mathlib.Nat.{sub-zero, zero-add, add-zero}
 use native.Mathlib.Omega.{arith}

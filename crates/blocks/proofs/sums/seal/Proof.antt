@@ -1,3 +1,4 @@
+-- The four bytes stored are those of the two sums, the second one first.
 use Prim.Native.Nat.{_/_, _%_}
 use native.Mathlib.Omega.{arith}
 use mathlib.Core.Path.{sym, ap}

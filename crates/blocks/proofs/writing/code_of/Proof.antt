@@ -1,3 +1,4 @@
+-- The code of a block is the part of all code that it holds; the last one may be shorter (`short-part`).
 use Prim.Native.Nat.{ℕ, _+_, _*_, _-_}
 use native.Mathlib.Omega.{arith}
 use mathlib.Core.Path.{_≡_, ap}

@@ -1,3 +1,4 @@
+-- Up to index i the block holds the code with zeros after it; each turn adds a byte (`padded-on`).
 use Prim.Native.Nat.{ℕ, _+_, _-_, _≤_}
 use native.Mathlib.Omega.{arith}
 use mathlib.Core.Path.{_≡_, refl, _∙_, ap, ap₂}

@@ -1,3 +1,4 @@
+-- The two stores are the two bytes of the number (`two-stores`).
 use native.Mathlib.Omega.{arith}
 use lib.ListN.{length-set}
 use borrow.Author.Needs.{needs}

@@ -1,3 +1,4 @@
+-- Head, code, total, keys and check, stored one after another, are the block (`filled-sealed`).
 use Prim.Native.Nat.{ℕ, _/_}
 use native.Mathlib.Omega.{arith}
 use mathlib.Core.Path.{_∙_, ap}

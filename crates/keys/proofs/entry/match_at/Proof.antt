@@ -1,3 +1,4 @@
+-- The 36 bytes of the record lie in the entry, since the entry has a record for each key.
 use native.Mathlib.Omega.{arith}
 use denote.Ref.{now}
 use mathlib.Core.Path.{_≡_}

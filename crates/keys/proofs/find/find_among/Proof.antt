@@ -1,3 +1,5 @@
+-- What is found from index k on is what is found from the start: the keys before k have other names (`find-here`, `find-on`,
+-- `find-end`).
 use Prim.Native.Nat.{_-_, _≤_}
 use mathlib.Core.Path.{_≡_, sym, _∙_}
 use native.Mathlib.Nat.{sub-zero}

@@ -1,3 +1,4 @@
+-- The name is as long as its first byte says, or ends with the record.
 use Prim.Native.Nat.{_+_, _-_}
 use mathlib.Core.Path.{_≡_, sym, _∙_}
 use native.Mathlib.Omega.{arith}

@@ -1,3 +1,4 @@
+-- A name is a key by the grammar, and neither "true" nor "false".
 use borrow.Author.Needs.{needs}
 use Rattle.spelling.proofs.Steps.{refuted, granted}
 use Rattle.keys.proofs.record.name_ok.Statement.{statement}

@@ -1,3 +1,4 @@
+-- The 80 bytes of the record lie in the list, since the list has that many records.
 use Prim.Native.Nat.{_+_, _*_, _-_}
 use mathlib.Core.Path.{_≡_}
 use native.Mathlib.Omega.{arith}

@@ -1,3 +1,5 @@
+-- The tests are the definition's, one byte after another: the size of the name, the kind, the width, zeros, the name, and zeros after
+-- it.
 use native.Mathlib.Omega.{arith}
 use denote.Ref.{now}
 use lib.ListN.{getD}

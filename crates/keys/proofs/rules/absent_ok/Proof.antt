@@ -1,3 +1,4 @@
+-- An exact key is never absent, and any other key is absent where all bytes after the first are zero.
 use Rattle.spelling.proofs.Steps.{to-end}
 use Rattle.keys.proofs.Matches.{not-exact}
 use borrow.Author.Needs.{needs}

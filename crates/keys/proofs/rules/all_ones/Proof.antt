@@ -1,3 +1,4 @@
+-- A mask is all ones where it is 2^W - 1; over 128 bits no mask is (`too-wide`).
 use mathlib.Core.Path.{sym}
 use Rattle.number.proofs.Limbs.{value-lt}
 use Rattle.number.proofs.Powers.{power-within}

@@ -1,3 +1,4 @@
+-- Each arm is the rule of its kind, and a kind past the last is read as the last.
 use borrow.Author.Tests.{ne-eqb}
 use borrow.Author.Needs.{needs}
 use Rattle.keys.proofs.rules.kind_ok.Statement.{statement}

@@ -1,3 +1,4 @@
+-- The tests are the definition's, in its order: no mask, a length of at most the width, and no bit below the prefix.
 use borrow.Author.Tests.{le-leb, lt-leb}
 use Rattle.spelling.proofs.Steps.{refuted, granted}
 use borrow.Author.Needs.{needs}

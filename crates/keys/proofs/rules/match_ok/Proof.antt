@@ -1,3 +1,4 @@
+-- The first byte tells whether the key is absent (0) or present (1); any other is refused.
 use borrow.Author.Tests.{eq-eqb, ne-eqb}
 use borrow.Author.Needs.{needs}
 use Rattle.keys.proofs.rules.match_ok.Statement.{statement}

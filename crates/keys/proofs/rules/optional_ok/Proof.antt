@@ -1,3 +1,4 @@
+-- The rule is that of a ternary key, and the mask none or all ones: the definition's order of tests is the code's.
 use Rattle.spelling.proofs.Steps.{refuted, granted}
 use borrow.Author.Needs.{needs}
 use Rattle.keys.proofs.rules.optional_ok.Statement.{statement}

@@ -1,3 +1,4 @@
+-- The tests are the definition's, in its order: two bytes of zeros, both numbers within the width, the rule of the kind.
 use Rattle.paper.specs.Entry as P
 use Rattle.spelling.proofs.Steps.{refuted, granted}
 use mathlib.Core.Path.{ap}

@@ -1,3 +1,4 @@
+-- The tests are the definition's, in its order: no prefix length; low below high, or both 0 for a range that is left out.
 use borrow.Author.Tests.{eq-eqb, ne-eqb}
 use Rattle.spelling.proofs.Steps.{refuted, granted}
 use borrow.Author.Needs.{needs}

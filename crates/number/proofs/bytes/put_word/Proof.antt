@@ -1,3 +1,4 @@
+-- The four stores are the four bytes of the word (`four-stores`); none changes the length.
 use borrow.Author.Needs.{needs}
 use native.Mathlib.Omega.{arith}
 use lib.ListN.{length-set}

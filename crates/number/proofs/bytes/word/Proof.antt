@@ -1,3 +1,4 @@
+-- Four bytes, the highest first, as the definition adds them up.
 use borrow.Author.Needs.{needs}
 use native.Mathlib.Nat.{add-zero}
 use native.Mathlib.Omega.{arith}

@@ -1,3 +1,4 @@
+-- Past the list any cell is right (`no-key`); else the cell holds the field of the match that the entry has for the key (`readable`).
 use Prim.Native.Nat.{_/_, _<_}
 use borrow.Author.Needs.{needs}
 use lib.ListN.{length}

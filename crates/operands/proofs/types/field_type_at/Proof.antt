@@ -1,3 +1,4 @@
+-- Past the list there is no key and no type (`no-key`); else the rule of the field decides, by the kind and the width of the key.
 use borrow.Author.Needs.{needs}
 use Prim.Native.Nat.{_/_}
 use lib.ListN.{length}

@@ -1,3 +1,4 @@
+-- The three classes of digits do not overlap, and each is counted from its first byte (`within-from`).
 use Prim.Native.Nat.{_≤_}
 use mathlib.Core.Path.{sym, _∙_}
 use native.Mathlib.Omega.{arith}

@@ -1,3 +1,4 @@
+-- The four blanks of the definition, one after another.
 use borrow.Author.Tests.{eq-eqb, ne-eqb}
 use Rattle.spelling.proofs.bytes.is_blank.Statement.{statement}
 use Rattle.spelling.proofs.bytes.is_blank.Tie as tie

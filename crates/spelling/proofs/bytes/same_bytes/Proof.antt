@@ -1,3 +1,5 @@
+-- Lists of one length are the same where no index tells them apart (`same-on`, `same-stop`, `same-end`); of two lengths they are not
+-- (`other-length`).
 use Prim.Native.Nat.{_≤_, _-_}
 use mathlib.Core.Path.{_≡_, refl, sym, _∙_}
 use denote.Ref.{now}

@@ -1,3 +1,4 @@
+-- A base is announced by a first 0 and a letter after it; a shorter run, or one with another first byte, announces none.
 use mathlib.Core.Path.{ap, sym, _∙_}
 use native.Mathlib.Omega.{arith}
 use borrow.Author.Needs.{needs}

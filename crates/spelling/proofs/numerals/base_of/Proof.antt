@@ -1,3 +1,4 @@
+-- Each letter, in either case, announces the base that the definition names; any other byte announces none.
 use Prim.Native.Nat.{ℕ}
 use mathlib.Core.Path.{_≡_}
 use mathlib.Core.Bool.{false, _||_}

@@ -1,3 +1,4 @@
+-- What a first 0 and a letter announce decides the base; the rest is counted in it (`in_base`).
 use Prim.Native.Nat.{_-_, _≤_}
 use mathlib.Core.Path.{_≡_, ap, sym, _∙_, subst}
 use native.Mathlib.Omega.{arith}

@@ -1,3 +1,4 @@
+-- Each sort of run goes on at the bytes that its definition names.
 use mathlib.Core.Bool.{or-true, or-false}
 use borrow.Author.Needs.{needs}
 use borrow.Author.Tests.{eq-eqb, ne-eqb}

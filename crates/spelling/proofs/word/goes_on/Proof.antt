@@ -1,3 +1,5 @@
+-- An id byte goes on; a dot goes on where an id start follows it: the definition looks at the rest of the text, the code at its first
+-- byte (`cut`).
 use Prim.Native.Nat.{_+_, _≤_}
 use native.Mathlib.Omega.{arith}
 use denote.Ref.{now}

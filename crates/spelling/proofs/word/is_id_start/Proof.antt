@@ -1,3 +1,4 @@
+-- The three classes of the definition, in its order.
 use borrow.Author.Needs.{needs}
 use Rattle.spelling.proofs.word.is_id_start.Statement.{statement}
 use Rattle.spelling.proofs.word.is_id_start.Tie as tie

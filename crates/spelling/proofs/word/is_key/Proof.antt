@@ -1,3 +1,4 @@
+-- A key is a byte that may begin an id, and a word that goes on from it to the end (`key-some`).
 use denote.Ref.{now}
 use mathlib.Core.Path.{sym}
 use borrow.Author.Needs.{needs}

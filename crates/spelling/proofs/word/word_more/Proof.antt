@@ -1,3 +1,4 @@
+-- As long as the byte goes on a word, the word that is left is one byte longer than the one after it (`word-on`).
 use Prim.Native.Nat.{_+_, _-_, _≤_}
 use mathlib.Core.Path.{_≡_, refl}
 use native.Mathlib.Omega.{arith}

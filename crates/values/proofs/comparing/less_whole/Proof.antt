@@ -1,3 +1,4 @@
+-- Whole numbers are less than whole numbers alone, by their sign and size.
 use mathlib.Core.Path.{_∙_}
 use borrow.Author.Needs.{needs}
 use Rattle.values.proofs.comparing.less_whole.Statement.{statement}

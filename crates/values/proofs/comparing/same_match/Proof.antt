@@ -1,3 +1,4 @@
+-- Matches are the same where kind, width and all three fields are.
 use borrow.Author.Needs.{needs}
 use Rattle.values.proofs.comparing.same_match.Statement.{statement}
 use Rattle.values.proofs.comparing.same_match.Tie as tie

@@ -1,3 +1,4 @@
+-- Whole numbers are the same as whole numbers alone, by their sign and size.
 use mathlib.Core.Path.{_∙_}
 use borrow.Author.Needs.{needs}
 use Rattle.values.proofs.comparing.same_whole.Statement.{statement}

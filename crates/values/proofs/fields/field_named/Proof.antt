@@ -1,3 +1,4 @@
+-- The names are asked for one after another, in the definition's order (`named-if`).
 use mathlib.Core.Path.{sym, _∙_}
 use Rattle.values.proofs.Numbered.{named-if}
 use borrow.Author.Needs.{needs}

@@ -1,3 +1,4 @@
+-- Two kinds are the same where the numbers that they are read as are.
 use borrow.Author.Needs.{needs}
 use Rattle.values.proofs.types.is_of.Statement.{statement}
 use Rattle.values.proofs.types.is_of.Tie as tie

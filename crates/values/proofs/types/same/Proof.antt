@@ -1,3 +1,4 @@
+-- Each arm asks for the type of its name.
 use borrow.Author.Needs.{needs}
 use Rattle.values.proofs.types.same.Statement.{statement}
 use Rattle.values.proofs.types.same.Tie as tie

@@ -1,3 +1,5 @@
+-- An int converts to any type of a width, and bit<W> to a bare key of that width; the kind that the number is read as decides
+-- (`kind-exact`).
 use Rattle.values.proofs.Numbered.{kind-exact}
 use borrow.Author.Needs.{needs}
 use Rattle.values.proofs.types.takes.Statement.{statement}

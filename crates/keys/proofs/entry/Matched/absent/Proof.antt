@@ -1,3 +1,4 @@
+-- An absent range reads as the whole range, and any other absent key as zeros.
 use Rattle.number.proofs.Powers.{power-within}
 use Rattle.keys.proofs.Matches.{not-range}
 use borrow.Author.Needs.{needs}

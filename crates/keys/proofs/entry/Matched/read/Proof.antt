@@ -1,3 +1,4 @@
+-- A first byte of 0 reads as the absent match of the key, any other as what is spelled out.
 use borrow.Author.Tests.{eq-eqb, ne-eqb}
 use borrow.Author.Needs.{needs}
 use Rattle.keys.proofs.entry.Matched.read.Statement.{statement}

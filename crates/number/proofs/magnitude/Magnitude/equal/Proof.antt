@@ -1,3 +1,4 @@
+-- The limbs are compared from the highest down; the first two that differ decide (`equal3` to `equal0`).
 use borrow.Author.Needs.{needs}
 use Rattle.number.proofs.Orders.{equal0, equal1, equal2, equal3}
 use Rattle.number.proofs.magnitude.Magnitude.equal.Statement.{statement}

@@ -1,3 +1,4 @@
+-- A number fits W bits where its lowest W bits are the number itself (`fits-mod`).
 use borrow.Author.Needs.{needs}
 use Prim.Native.Nat.{ℕ}
 use mathlib.Core.Path.{_∙_, ap}

@@ -1,3 +1,4 @@
+-- Sixteen bytes are four words of four, the highest first (`four-words`).
 use borrow.Author.Needs.{needs}
 use denote.Ref.{now}
 use Rattle.number.specs.Values.{value}

@@ -1,3 +1,5 @@
+-- Each limb is scaled and takes what the limb below it carries (`scaled-four`); the number fits where the last one carries nothing
+-- (`grows`).
 use borrow.Author.Needs.{needs}
 use mathlib.Core.Path.{refl}
 use Rattle.number.specs.Values.{value}

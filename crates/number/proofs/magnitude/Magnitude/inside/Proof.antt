@@ -1,3 +1,4 @@
+-- A number lies inside a mask where "and" with it changes nothing, limb by limb (`and-limbs`).
 use borrow.Author.Needs.{needs}
 use Prim.Native.Nat.{ℕ}
 use mathlib.Core.Path.{_∙_, sym, ap}

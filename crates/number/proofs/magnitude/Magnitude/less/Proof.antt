@@ -1,3 +1,4 @@
+-- The limbs are compared from the highest down; the first two that differ decide (`less3` to `less0`).
 use borrow.Author.Needs.{needs}
 use Rattle.number.proofs.Orders.{less0, less1, less2, less3}
 use Rattle.number.proofs.magnitude.Magnitude.less.Statement.{statement}

@@ -1,3 +1,4 @@
+-- The lowest W bits, limb by limb: each limb keeps those of its own bits that are below W (`mod-limbs`).
 use borrow.Author.Needs.{needs}
 use Rattle.number.specs.Values.{value}
 use Rattle.number.proofs.Powers.{mod-limbs}

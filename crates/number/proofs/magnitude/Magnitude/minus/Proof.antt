@@ -1,3 +1,5 @@
+-- Each limb is taken from zero with what the limb below it owes (`taken-four`), and the lowest W bits of that are 2^W less the number
+-- (`minus-low`).
 use borrow.Author.Needs.{needs}
 use mathlib.Core.Path.{_∙_}
 use Rattle.number.specs.Values.{bit, value}

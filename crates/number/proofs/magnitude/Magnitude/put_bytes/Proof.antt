@@ -1,3 +1,4 @@
+-- The four words stored one after another are the sixteen bytes of the number (`four-put`).
 use borrow.Author.Needs.{needs}
 use denote.Ref.{now}
 use Rattle.number.proofs.BigEndian.{four-put}

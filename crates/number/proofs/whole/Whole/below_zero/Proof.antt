@@ -1,3 +1,4 @@
+-- Below zero is what has a minus sign and a size: zero has either sign.
 use borrow.Author.Needs.{needs}
 use mathlib.Core.Bool.{not}
 use mathlib.Core.Path.{_∙_, sym, ap}

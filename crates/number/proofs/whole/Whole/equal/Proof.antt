@@ -1,3 +1,4 @@
+-- Two whole numbers with one sign are the same where their sizes are (`sizes-same`); with two signs they never are (`same-apart`).
 use borrow.Author.Needs.{needs}
 use mathlib.Core.Bool.{not}
 use mathlib.Core.Path.{_∙_, sym, ap}

@@ -1,3 +1,5 @@
+-- Two whole numbers with one sign compare by their sizes, the other way round below zero; with two signs the one below zero is less
+-- (`less-apart`).
 use borrow.Author.Needs.{needs}
 use mathlib.Core.Bool.{not}
 use mathlib.Core.Path.{_∙_, sym, ap}

@@ -1,3 +1,4 @@
+-- A whole number is reduced modulo 2^W, and a match is its value.
 use mathlib.Core.Path.{_∙_}
 use native.Mathlib.Nat.{min-eq-left}
 use borrow.Author.Needs.{needs}

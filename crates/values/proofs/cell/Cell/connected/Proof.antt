@@ -1,3 +1,4 @@
+-- The connective of the two truths, where both are truths (`is-join`).
 use Rattle.values.proofs.Held.{is-join}
 use Rattle.values.specs.Held.{held, connectiveOf}
 use borrow.Author.Needs.{needs}

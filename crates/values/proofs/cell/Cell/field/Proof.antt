@@ -1,3 +1,4 @@
+-- Each arm is the field of its number; a number past the last is read as the last.
 use borrow.Author.Tests.{ne-eqb}
 use borrow.Author.Needs.{needs}
 use Rattle.values.proofs.cell.Cell.field.Statement.{statement}

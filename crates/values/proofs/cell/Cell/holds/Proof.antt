@@ -1,3 +1,4 @@
+-- Each arm is the comparison of its number, by `same` and `less`.
 use borrow.Author.Tests.{ne-eqb}
 use borrow.Author.Needs.{needs}
 use Rattle.values.proofs.cell.Cell.holds.Statement.{statement}

@@ -1,3 +1,4 @@
+-- Each arm compares with what is held of its own sort; truths have no order.
 use borrow.Author.Needs.{needs}
 use Rattle.values.proofs.cell.Cell.less.Statement.{statement}
 use Rattle.values.proofs.cell.Cell.less.Tie as tie

@@ -1,3 +1,4 @@
+-- A whole number changes its sign; bit<W> is taken from 2^W (`is-negated`).
 use mathlib.Core.Path.{_∙_}
 use Prim.Native.Nat.{min}
 use native.Mathlib.Nat.{min-eq-left}

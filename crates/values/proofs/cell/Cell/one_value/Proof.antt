@@ -1,3 +1,4 @@
+-- Each arm is the match of one value that its kind has; a mask of W ones is 2^W - 1 (`one-masked`).
 use mathlib.Core.Path.{_∙_, ap, refl}
 use mathlib.Core.Bool.{cond}
 use native.Mathlib.Nat.{min-eq-left}

@@ -1,3 +1,4 @@
+-- Each arm compares with what is held of its own sort.
 use borrow.Author.Needs.{needs}
 use Rattle.values.proofs.cell.Cell.same.Statement.{statement}
 use Rattle.values.proofs.cell.Cell.same.Tie as tie

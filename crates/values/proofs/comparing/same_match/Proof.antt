@@ -1,4 +1,4 @@
--- Matches are the same where kind, width and all three fields are.
+-- Matches are the same as matches alone, by all three fields.
 use borrow.Author.Needs.{needs}
 use Rattle.values.proofs.comparing.same_match.Statement.{statement}
 use Rattle.values.proofs.comparing.same_match.Tie as tie

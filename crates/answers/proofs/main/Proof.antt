@@ -1,3 +1,4 @@
+-- The three rooms keep their length, and the turns end the loop.
 use borrow.Author.Needs.{needs}
 use mathlib.Core.Path.{_≡_, sym}
 use lib.ListN.{length}

@@ -1,3 +1,4 @@
+-- The first n bytes of the room where it has them, else all of it.
 use borrow.Author.Needs.{needs}
 use mathlib.Core.Path.{sym}
 use lib.Seq.{take-all, length-take-le}

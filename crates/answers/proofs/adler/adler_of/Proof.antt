@@ -1,3 +1,4 @@
+-- The two sums of the bytes so far are those that the definition goes on from (`adler-on`), and both stay below 65,521.
 use borrow.Author.Needs.{needs}
 use Prim.Native.Nat.{_+_, _-_, _%_, _≤_, _<_}
 use native.Mathlib.Omega.{arith}

@@ -1,3 +1,4 @@
+-- The first n bytes of the room lie in it.
 use borrow.Author.Needs.{needs}
 use mathlib.Core.Path.{sym}
 use lib.Seq.{length-take-le}

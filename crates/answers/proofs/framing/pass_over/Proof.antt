@@ -1,3 +1,4 @@
+-- The room keeps its length, and what is left to pass over falls by it.
 use borrow.Author.Needs.{needs}
 use native.Mathlib.Omega.{arith}
 use mathlib.Core.Path.{_≡_, refl, _∙_}

@@ -1,3 +1,4 @@
+-- The room keeps its length, and each step takes at least a byte of the file.
 use lib.ListN.{length}
 use mathlib.Core.Path.{_≡_}
 use Prim.Native.Nat.{_-_}

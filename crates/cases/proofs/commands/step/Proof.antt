@@ -1,3 +1,4 @@
+-- The first bytes of the room, as many as the case says, lie in it.
 use mathlib.Core.Path.{sym}
 use lib.Seq.{length-take-le}
 use borrow.Author.Needs.{needs}

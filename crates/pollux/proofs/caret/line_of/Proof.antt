@@ -1,3 +1,5 @@
+-- The line so far starts at or before the place, and the lines before it are counted (the five facts of the invariant); what is left
+-- up to the place falls.
 use Prim.Native.Nat.{suc, _+_, _-_, _≤_}
 use mathlib.Core.Path.{_≡_, refl}
 use mathlib.Core.Logic.{_⊎_, inl, inr}

@@ -1,3 +1,4 @@
+-- Nothing is asked of what was written; what is left to write falls.
 use Prim.Native.Nat.{_-_}
 use borrow.Author.Needs.{needs}
 use Rattle.pollux.proofs.caret.say_bytes.Statement.{statement}

@@ -1,3 +1,4 @@
+-- A byte of the text is seen as it is; at the end of the text the last line is seen.
 use native.Mathlib.Nat.{sub-zero}
 use mathlib.Core.Path.{_≡_, sym}
 use mathlib.Core.Bool.{false}

@@ -1,3 +1,4 @@
+-- The three classes of the definition, in its order.
 use borrow.Author.Tests.{eq-eqb, ne-eqb, le-leb, lt-leb}
 use native.Mathlib.Omega.{arith}
 use Rattle.pollux.proofs.caret.shown_as.Statement.{statement}

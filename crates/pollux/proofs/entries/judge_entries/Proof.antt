@@ -1,3 +1,4 @@
+-- The part of the buffer that whole entries fill lies in it.
 use native.Mathlib.Omega.{arith}
 use mathlib.Core.Path.{sym}
 use lib.Seq.{length-take-le}

@@ -1,3 +1,4 @@
+-- Each entry takes at least a byte, so there are no more of them than bytes, and the offset ends the loop.
 use Prim.Native.Nat.{_+_, _-_, _≤_}
 use Rattle.pollux.specs.Tallies.{total}
 use borrow.Author.Needs.{needs}

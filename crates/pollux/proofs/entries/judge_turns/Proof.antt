@@ -1,3 +1,4 @@
+-- One number ends the turns and bounds the entries, so no count can overflow.
 use Prim.Native.Nat.{_+_, _*_, _≤_, _<_}
 use mathlib.Core.Path.{_≡_}
 use lib.ListN.{length}
@@ -6,7 +7,6 @@ use Rattle.pollux.specs.Tallies.{total}
 use Rattle.pollux.proofs.entries.judge_turns.Statement.{statement}
 use Rattle.pollux.proofs.entries.judge_turns.Tie as tie
 
--- one number ends the turns and bounds the entries
 abbrev Inv-loop : tie.InvT-loop
 Inv-loop form rule list fd part₀ tally₀ turns₀ part tally turns =
     (length part ≡ length part₀) × (total tally + 65536 * turns ≤ 9223372036854775808)

@@ -1,3 +1,4 @@
+-- The turns bound what is counted: so many more of 65,536 bytes still fit below 2^63.
 use Prim.Native.Nat.{_+_, _*_, _≤_}
 use mathlib.Core.Path.{_≡_}
 use lib.ListN.{length}

@@ -1,3 +1,4 @@
+-- The offset stays within the table, and the lines that are left fall.
 use Prim.Native.Nat.{_≤_}
 use lib.ListN.{length}
 use borrow.Author.Needs.{needs}

@@ -1,3 +1,4 @@
+-- The index stays within the form, and what is left of it falls.
 use Prim.Native.Nat.{_-_, _≤_}
 use lib.ListN.{length}
 use borrow.Author.Needs.{needs}

@@ -1,3 +1,4 @@
+-- Each answer adds one to its own count, and so one to the total.
 use native.Mathlib.Omega.{arith}
 use mathlib.Core.Path.{_≡_, refl}
 use borrow.Author.Needs.{needs}

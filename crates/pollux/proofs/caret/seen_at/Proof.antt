@@ -1,4 +1,4 @@
--- A byte of the text is seen as it is; at the end of the text the last line is seen.
+-- A place in the text is seen where it is; the text's end is seen after the last line, not below it.
 use native.Mathlib.Nat.{sub-zero}
 use mathlib.Core.Path.{_≡_, sym}
 use mathlib.Core.Bool.{false}

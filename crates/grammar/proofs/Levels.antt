@@ -1,5 +1,5 @@
 -- Levels of the ladder: "p, or p operator p", and "p, p operator p, ..". One law for each outcome.
-use Prim.Native.Nat.{ℕ, zero, suc, _+_, _*_, _-_, _≤_, _<_}
+use Prim.Native.Nat.{ℕ, zero, suc, _+_, _-_, _≤_, _<_}
 use mathlib.Core.Path.{_≡_, refl, sym, ap, _∙_}
 use mathlib.Core.Bool.{Bool, true, false, _&&_, true≢false}
 use mathlib.Core.Option.{none}
@@ -15,8 +15,8 @@ use Rattle.paper.specs.Grammar.{Tree, Out, got, Parser, _>>>_, onceMore, behind
 use Rattle.tokens.specs.Tape.{Tape, tokensOn}
 use Rattle.trees.specs.Words.{words, operatorWords, Spelled}
 use Rattle.trees.proofs.Stored.{words-length}
-use Rattle.grammar.specs.Places.{placeOn}
-use Rattle.grammar.specs.Reading.{past, Built, Took}
+use Rattle.grammar.specs.Places.{placeOn, onward, past, nodeAt, joinedKind}
+use Rattle.grammar.specs.Reading.{Built, Took}
 use Rattle.grammar.proofs.Tapes.{tokens-here, tokens-none, length-tokens}
 use Rattle.grammar.proofs.Stores.{sets-on}
 use Rattle.grammar.proofs.Outcomes.{Up, refuses}
@@ -25,7 +25,7 @@ use Rattle.grammar.proofs.Operators.{Operator, Joining, first, Apart}
 -- the node of an operator after those of its operands
 pub built-joined : {T : Tape} {n i k at b f g j : ℕ} {op : Operator} {before mid after last : List ℕ} {x y : Tree}
     → Built n at b before mid x f i → (J : Joining T n i op k) → Built n (i + 1) f mid after y g j
-    → last ≡ sets after (g * 8) (operatorWords (k + 4) (placeOn T i) (f - 1)) → Built n at b before last (J .make x y) (g + 1) j
+    → last ≡ sets after (nodeAt g) (operatorWords (joinedKind k) (placeOn T i) (f - 1)) → Built n at b before last (J .make x y) (g + 1) j
 built-joined {b = b} {f = f} {g = g} {before = before} {mid = mid} {after = after} {last = last} {x = x} {y = y} l J r put =
     let s = J .sizes x y in
     record {
@@ -47,7 +47,7 @@ built-joined {b = b} {f = f} {g = g} {before = before} {mid = mid} {after = afte
 module _ (op : Operator) (p : Parser) (ts : List Token) {T : Tape} {n at b : ℕ} {before mid : List ℕ} {f i : ℕ} where
   pub once-stop : Took T n at b (p ts) before mid f i → Apart T n i op → Took T n at b (G.once op p ts) before mid f i
   unfolding G.once
-  once-stop h e = record { tree = h .tree; out = stop (tokensOn T i (n - i)) (h .out) e; spelled = h .spelled; built = h .built }
+  once-stop h e = record { tree = h .tree; out = stop (onward T n i) (h .out) e; spelled = h .spelled; built = h .built }
     where
       stop : (us : List Token) → p ts ≡ G.ends (got (h .tree)) us → first op us ≡ none
           → (p ts >>> onceMore op p) ≡ G.ends (got (h .tree)) us
@@ -63,7 +63,7 @@ module _ (op : Operator) (p : Parser) (ts : List Token) {T : Tape} {n at b : ℕ
     once-second = rw once-more (refuses (length (T .text)) (p (past T n i)) _)
 
     pub once-both : {after last : List ℕ} {g j : ℕ} → Took T n (i + 1) f (p (past T n i)) mid after g j
-        → last ≡ sets after (g * 8) (operatorWords (k + 4) (placeOn T i) (f - 1)) → Took T n at b (G.once op p ts) before last (g + 1) j
+        → last ≡ sets after (nodeAt g) (operatorWords (joinedKind k) (placeOn T i) (f - 1)) → Took T n at b (G.once op p ts) before last (g + 1) j
     once-both r put =
         record {
           tree = J .make (h .tree) (r .tree);
@@ -88,7 +88,7 @@ pub record Going (T : Tape) (n : ℕ) (top : Bool) (op : Operator) (p : Parser) 
   pub tree : Tree
   pub turns : ℕ
   pub enough : n ≤ i + turns
-  pub out : o ≡ G.more top op p turns tree (tokensOn T i (n - i))
+  pub out : o ≡ G.more top op p turns tree (onward T n i)
   pub spelled : Spelled (T .text) tree
   pub built : Built n at b before after tree f i
 
@@ -101,7 +101,7 @@ more-stop top op p (suc m) t (u ∷ us) e = rw e
 
 -- where the text does not end after the operator
 behind-on : (top : Bool) (T : Tape) (n i : ℕ) (t : Tree) (o : Out) → i ≤ n → (top && eqb i n) ≡ false
-    → behind top t (tokensOn T i (n - i)) o ≡ o
+    → behind top t (onward T n i) o ≡ o
 behind-on false T n i t o h e = refl
 behind-on true T n i t o h e = let d = eqb-false i n e in rw (tokens-here T n i (omega arith))
 
@@ -117,7 +117,7 @@ module _ {T : Tape} {n : ℕ} {top : Bool} {op : Operator} {p : Parser} {at b : 
       record {
         tree = h .tree;
         spelled = h .spelled;
-        turns = length (tokensOn T i (n - i));
+        turns = length (onward T n i);
         enough = omega (arith, length-tokens T i (n - i));
         out = rw (h .out);
         built = h .built;
@@ -163,7 +163,7 @@ module _ {T : Tape} {n : ℕ} {top : Bool} {op : Operator} {p : Parser} {at b : 
         going-next = rw going-more (refuses (length (T .text)) (p (past T n i)) _)
 
         pub going-on : {mid last : List ℕ} {g j : ℕ} → Took T n (i + 1) f (p (past T n i)) after mid g j
-            → last ≡ sets mid (g * 8) (operatorWords (k + 4) (placeOn T i) (f - 1)) → Going T n top op p at b o before last (g + 1) j
+            → last ≡ sets mid (nodeAt g) (operatorWords (joinedKind k) (placeOn T i) (f - 1)) → Going T n top op p at b o before last (g + 1) j
         going-on r put =
             record {
               tree = J .make (w .tree) (r .tree);
@@ -196,7 +196,7 @@ module _ {T : Tape} {n : ℕ} {top : Bool} {op : Operator} {p : Parser} {at b : 
 
   module _ {start nodes : List ℕ} {f₀ i₀ f i : ℕ} (w : Turned T n top op p at b start f₀ i₀ nodes f i) where
     pub turned-on : {k : ℕ} → Joining T n i op k → (top && eqb (i + 1) n) ≡ false → {mid last : List ℕ} {g j : ℕ} → Took T n (i + 1) f (p (past T n i)) nodes mid g j
-        → last ≡ sets mid (g * 8) (operatorWords (k + 4) (placeOn T i) (f - 1)) → Turned T n top op p at b start f₀ i₀ last (g + 1) j
+        → last ≡ sets mid (nodeAt g) (operatorWords (joinedKind k) (placeOn T i) (f - 1)) → Turned T n top op p at b start f₀ i₀ last (g + 1) j
     turned-on J on {mid} {last} {g} r put =
         record {
           kept =

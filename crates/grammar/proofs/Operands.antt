@@ -1,27 +1,27 @@
 -- Operands: after a prefix operator, in parentheses, and where neither is the next token.
-use Prim.Native.Nat.{ℕ, zero, suc, _+_, _*_, _-_, _≤_, _<_}
+use Prim.Native.Nat.{ℕ, zero, suc, _+_, _-_, _≤_, _<_}
 use mathlib.Core.Path.{_≡_, refl, sym, ap, _∙_}
 use mathlib.Core.Bool.{false, cond}
 use mathlib.Core.Logic.{_⊎_, ⊎-elim}
 use mathlib.Core.List.{List, _∷_}
 use native.Mathlib.Omega.{arith}
 use native.Mathlib.Decide.{decLt}
-use lib.ListN.{length, getD}
+use lib.ListN.{length}
 use lib.Seq.{sets}
 use Rattle.paper.specs.declared.Place.{Place}
 use Rattle.paper.specs.Tokens.{Sign, join, comparison, prefix, opening, closing, colons, Prefix, notSign, minusSign, Tok, sign, Token}
 use Rattle.paper.specs.Addresses.{address}
 use Rattle.paper.specs.Grammar as G
 use Rattle.paper.specs.Grammar.{Tree, Out, got, stuck, deep, Parser, Reader, _>>>_, closed, isSign, operand, operandAt, signed, prefixes, sequence}
-use Rattle.tokens.specs.Tape.{Tape, tokensOn, tokenOn, signNo}
+use Rattle.tokens.specs.Tape.{Tape, kindAt, firstPrefix, lastPrefix, tokenOn, signNo}
 use Rattle.grammar.specs.declared.steps.Taken.{Taken}
 use Rattle.grammar.specs.declared.steps.Taken.the-variants as A
 use Rattle.grammar.specs.declared.tape.Next.the-variants.{Other}
 use Rattle.grammar.specs.Ladder as L
 use Rattle.trees.specs.Words.{prefixNo, words, operatorWords}
 use Rattle.trees.proofs.Stored.{words-length}
-use Rattle.grammar.specs.Places.{placeOn}
-use Rattle.grammar.specs.Reading.{past, Found, Finds, Took, Meets, Closes, Closed, Unclosed}
+use Rattle.grammar.specs.Places.{placeOn, onward, past, nodeAt, prefixedKind}
+use Rattle.grammar.specs.Reading.{Found, Finds, Took, Meets, Closes, Closed, Unclosed}
 use Rattle.grammar.proofs.Tapes.{tokens-here, tokens-none, Stands, by-kind, sign-at}
 use Rattle.grammar.proofs.Stores.{sets-on}
 use Rattle.grammar.proofs.Outcomes.{Up, refuses, stuck-at}
@@ -32,30 +32,30 @@ unfolding prefixes
 levels-left zero h = absurd (h refl)
 levels-left (suc l) h = let e : suc l - 1 ≡ l = omega arith in rw e
 
-prefix-of : (k : ℕ) → 13 ≤ k → k ≤ 14 → (o : Prefix) × (k ≡ signNo (prefix o))
+prefix-of : (k : ℕ) → firstPrefix ≤ k → k ≤ lastPrefix → (o : Prefix) × (k ≡ signNo (prefix o))
 prefix-of k l h =
     elim (decLt k 14) [ yes a ↦ let e : k ≡ 13 = omega arith in (notSign, e) | no a ↦ let e : k ≡ 14 = omega arith in (minusSign, e) ]
 
--- the number of a prefix operator's node is that of its token, less 8
-prefixed-no : (o : Prefix) → prefixNo o ≡ signNo (prefix o) - 8
+-- the kind of a prefix operator's node by that of its token
+prefixed-no : (o : Prefix) → prefixNo o ≡ prefixedKind (signNo (prefix o))
 prefixed-no notSign = refl
 prefixed-no minusSign = refl
 
-pub prefix-no : (o : Prefix) → (13 ≤ signNo (prefix o)) × (signNo (prefix o) ≤ 14)
+pub prefix-no : (o : Prefix) → (firstPrefix ≤ signNo (prefix o)) × (signNo (prefix o) ≤ lastPrefix)
 prefix-no notSign = omega arith
 prefix-no minusSign = omega arith
 
 -- a ")" after a tree
 
 module _ (T : Tape) (n i : ℕ) where
-  abbrev kindAt : ℕ
-  kindAt = getD (T .kinds) i 0
+  abbrev kind-there : ℕ
+  kind-there = kindAt (T .rows) i
 
-  close-here : {f f′ i′ : ℕ} (t : Tree) → Closed (T .kinds) n f i f′ i′ → closed t (tokensOn T i (n - i)) ≡ G.ends (got t) (tokensOn T i′ (n - i′))
+  close-here : {f f′ i′ : ℕ} (t : Tree) → Closed (T .rows) n f i f′ i′ → closed t (onward T n i) ≡ G.ends (got t) (onward T n i′)
   close-here t h = rw (tokens-here T n i (h .here), sign-at T i closing (h .told), h .next)
 
-  close-not : {k : ℕ} {p : Place} (t : Tree) → Unclosed (length (T .text)) (T .kinds) (T .starts) n i k p
-      → closed t (tokensOn T i (n - i)) ≡ G.ends stuck (tokensOn T i (n - i))
+  close-not : {k : ℕ} {p : Place} (t : Tree) → Unclosed (length (T .text)) (T .rows) n i k p
+      → closed t (onward T n i) ≡ G.ends stuck (onward T n i)
   close-not t h =
       elim (decLt i n) [
         | yes l ↦
@@ -68,7 +68,7 @@ module _ (T : Tape) (n i : ℕ) where
       follows : Tok → Out
       follows t′ = cond (isSign closing t′) (G.ends (got t) (past T n i)) (G.ends stuck (tokenOn T i ∷ past T n i))
 
-      go : i < n → (g : Sign) → Stands kindAt g → follows (sign g) ≡ G.ends stuck (tokenOn T i ∷ past T n i)
+      go : i < n → (g : Sign) → Stands kind-there g → follows (sign g) ≡ G.ends stuck (tokenOn T i ∷ past T n i)
       go l (join j) e = refl
       go l (comparison c) e = refl
       go l (prefix p) e = refl
@@ -78,7 +78,7 @@ module _ (T : Tape) (n i : ℕ) where
 
 module _ (T : Tape) (n at at′ b : ℕ) (o : Out) (before after : List ℕ) (f i : ℕ) where
   pub close-on : Took T n at′ b o before after f i → at ≤ at′ → (r : Taken)
-      → Closes (length (T .text)) (T .kinds) (T .starts) n f i r → Meets T n at b (o >>> closed) before after r
+      → Closes (length (T .text)) (T .rows) n f i r → Meets T n at b (o >>> closed) before after r
   close-on h l (A.Tree f′ i′) c =
       record {
         tree = h .tree;
@@ -98,14 +98,14 @@ module _ (T : Tape) (n at at′ b : ℕ) (o : Out) (before after : List ℕ) (f 
 
 module _ (read : Reader) (inner outer : ℕ → Parser) (T : Tape) (n at : ℕ) where
   abbrev here : List Token
-  here = tokensOn T at (n - at)
+  here = onward T n at
 
   abbrev kind : ℕ
-  kind = getD (T .kinds) at 0
+  kind = kindAt (T .rows) at
 
   -- a prefix operator
 
-  module _ {k : ℕ} (h : Found (T .kinds) n at 13 14 k) where
+  module _ {k : ℕ} (h : Found (T .rows) n at firstPrefix lastPrefix k) where
     abbrev which : Prefix
     which = prefix-of k (h .low) (h .high) .0
 
@@ -118,9 +118,9 @@ module _ (read : Reader) (inner outer : ℕ → Parser) (T : Tape) (n at : ℕ) 
     prefix-up = rw prefix-here (refuses (length (T .text)) (inner (placeOn T at) (past T n at)) _)
 
     pub prefix-took : {b f i : ℕ} {before after last : List ℕ} → Took T n (at + 1) b (inner (placeOn T at) (past T n at)) before after f i
-        → last ≡ sets after (f * 8) (operatorWords (k - 8) (placeOn T at) 0) → Took T n at b (operand read inner outer here) before last (f + 1) i
+        → last ≡ sets after (nodeAt f) (operatorWords (prefixedKind k) (placeOn T at) 0) → Took T n at b (operand read inner outer here) before last (f + 1) i
     prefix-took {b} {f} {i} {before} {after} {last} r put =
-        let no : k - 8 ≡ prefixNo which = ap (λ m. m - 8) (prefix-of k (h .low) (h .high) .1) ∙ sym (prefixed-no which) in
+        let no : prefixedKind k ≡ prefixNo which = ap prefixedKind (prefix-of k (h .low) (h .high) .1) ∙ sym (prefixed-no which) in
         let g = r .built in
         record {
           tree = G.prefixed (placeOn T at) which (r .tree);
@@ -139,7 +139,7 @@ module _ (read : Reader) (inner outer : ℕ → Parser) (T : Tape) (n at : ℕ) 
         }
 
   -- another token: what a prefix operator would stand before does not matter
-  pub prefix-not : Finds (T .kinds) n at 13 14 Other → (inner′ : ℕ → Parser) → operand read inner outer here ≡ operand read inner′ outer here
+  pub prefix-not : Finds (T .rows) n at firstPrefix lastPrefix Other → (inner′ : ℕ → Parser) → operand read inner outer here ≡ operand read inner′ outer here
   unfolding operand
   prefix-not h inner′ =
       elim (decLt at n) [
@@ -150,7 +150,7 @@ module _ (read : Reader) (inner outer : ℕ → Parser) (T : Tape) (n at : ℕ) 
         | no l ↦ rw (tokens-none T n at (omega arith))
       ]
     where
-      go : (kind < 13) ⊎ (14 < kind) → (g : Sign) → Stands kind g
+      go : (kind < firstPrefix) ⊎ (lastPrefix < kind) → (g : Sign) → Stands kind g
           → signed inner outer g (tokenOn T at) (past T n at) ≡ signed inner′ outer g (tokenOn T at) (past T n at)
       go d (join j) e = refl
       go d (comparison c) e = refl
@@ -161,7 +161,7 @@ module _ (read : Reader) (inner outer : ℕ → Parser) (T : Tape) (n at : ℕ) 
 
   -- a parenthesis
 
-  module _ {k : ℕ} (h : Found (T .kinds) n at 15 15 k) where
+  module _ {k : ℕ} (h : Found (T .rows) n at (signNo opening) (signNo opening) k) where
     paren-here : operand read inner outer here ≡ (outer (placeOn T at) (past T n at) >>> closed)
     unfolding operand
     paren-here = rw (tokens-here T n at (h .here), sign-at T at opening (omega arith))
@@ -170,10 +170,10 @@ module _ (read : Reader) (inner outer : ℕ → Parser) (T : Tape) (n at : ℕ) 
     paren-up = rw paren-here (refuses (length (T .text)) (outer (placeOn T at) (past T n at)) closed)
 
     pub paren-close : {b f i : ℕ} {before after : List ℕ} → Took T n (at + 1) b (outer (placeOn T at) (past T n at)) before after f i
-        → (r : Taken) → Closes (length (T .text)) (T .kinds) (T .starts) n f i r → Meets T n at b (operand read inner outer here) before after r
+        → (r : Taken) → Closes (length (T .text)) (T .rows) n f i r → Meets T n at b (operand read inner outer here) before after r
     paren-close {b} {f} {i} {before} {after} t r c = rw paren-here (close-on T n at (at + 1) b _ before after f i t (omega arith) r c)
 
-  pub paren-not : Finds (T .kinds) n at 15 15 Other → (outer′ : ℕ → Parser) → operand read inner outer here ≡ operand read inner outer′ here
+  pub paren-not : Finds (T .rows) n at (signNo opening) (signNo opening) Other → (outer′ : ℕ → Parser) → operand read inner outer here ≡ operand read inner outer′ here
   unfolding operand
   paren-not h outer′ =
       elim (decLt at n) [
@@ -184,7 +184,7 @@ module _ (read : Reader) (inner outer : ℕ → Parser) (T : Tape) (n at : ℕ) 
         | no l ↦ rw (tokens-none T n at (omega arith))
       ]
     where
-      go : (kind < 15) ⊎ (15 < kind) → (g : Sign) → Stands kind g
+      go : (kind < signNo opening) ⊎ (signNo opening < kind) → (g : Sign) → Stands kind g
           → signed inner outer g (tokenOn T at) (past T n at) ≡ signed inner outer′ g (tokenOn T at) (past T n at)
       go d (join j) e = refl
       go d (comparison c) e = refl
@@ -194,24 +194,24 @@ module _ (read : Reader) (inner outer : ℕ → Parser) (T : Tape) (n at : ℕ) 
       go d colons e = refl
 
 -- an atom, where no parenthesis is next, is a leaf
-pub leaf-only : (l : ℕ) (T : Tape) (n at : ℕ) → Finds (T .kinds) n at 15 15 Other
-    → L.atom l (tokensOn T at (n - at)) ≡ L.prefix 0 (tokensOn T at (n - at))
+pub leaf-only : (l : ℕ) (T : Tape) (n at : ℕ) → Finds (T .rows) n at (signNo opening) (signNo opening) Other
+    → L.atom l (onward T n at) ≡ L.prefix 0 (onward T n at)
 unfolding prefixes
 leaf-only l T n at h = paren-not address (λ place us. deep place) (λ _. L.sequence false (l - 1)) T n at h (λ place us. deep place)
 
 -- with l levels left, one at least
 
 module _ (l : ℕ) (some : l ≡ 0 → ⊥) (T : Tape) (n at : ℕ) where
-  level : L.prefix l (tokensOn T at (n - at)) ≡ operand address (λ _. L.prefix (l - 1)) (λ _. L.sequence false (l - 1)) (tokensOn T at (n - at))
-  level = ap (λ (p : Parser). p (tokensOn T at (n - at))) (levels-left l some)
+  level : L.prefix l (onward T n at) ≡ operand address (λ _. L.prefix (l - 1)) (λ _. L.sequence false (l - 1)) (onward T n at)
+  level = ap (λ (p : Parser). p (onward T n at)) (levels-left l some)
 
-  module _ {k : ℕ} (h : Found (T .kinds) n at 13 14 k) where
-    pub level-up : Up (length (T .text)) (L.prefix (l - 1) (past T n at)) (L.prefix l (tokensOn T at (n - at)))
+  module _ {k : ℕ} (h : Found (T .rows) n at firstPrefix lastPrefix k) where
+    pub level-up : Up (length (T .text)) (L.prefix (l - 1) (past T n at)) (L.prefix l (onward T n at))
     level-up = rw level (prefix-up address _ _ T n at h)
 
     pub level-took : {b f i : ℕ} {before after last : List ℕ} → Took T n (at + 1) b (L.prefix (l - 1) (past T n at)) before after f i
-        → last ≡ sets after (f * 8) (operatorWords (k - 8) (placeOn T at) 0) → Took T n at b (L.prefix l (tokensOn T at (n - at))) before last (f + 1) i
+        → last ≡ sets after (nodeAt f) (operatorWords (prefixedKind k) (placeOn T at) 0) → Took T n at b (L.prefix l (onward T n at)) before last (f + 1) i
     level-took r put = rw level (prefix-took address _ _ T n at h r put)
 
-  pub level-not : Finds (T .kinds) n at 13 14 Other → L.prefix l (tokensOn T at (n - at)) ≡ L.atom l (tokensOn T at (n - at))
+  pub level-not : Finds (T .rows) n at firstPrefix lastPrefix Other → L.prefix l (onward T n at) ≡ L.atom l (onward T n at)
   level-not h = level ∙ prefix-not address _ _ T n at h (λ place us. deep place)

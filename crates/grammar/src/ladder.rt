@@ -1,18 +1,20 @@
-// The ladder, from the loosest level to the tightest. Each level reads its first operand by the level below, goes on
-// while its operator is the next token, and passes every refusal up. An atom starts the ladder again inside
-// parentheses, after a token and with a level less.
+// The ladder, from the loosest level to the tightest. A rung reads its first operand by the next tighter one, goes on
+// while its operator is the next token, and passes every refusal up. It has one of two forms: a chain of any number of
+// operators, or one operator at most. An atom starts the ladder again inside parentheses, after a token and with a level
+// less.
 //
-// All of them take the tape, the number of its tokens, where to start, and the nodes.
+// All of them take the tape, where to start, and the nodes.
 ghost use mathlib.Core.Path.{_≡_};
 ghost use mathlib.Core.Bool.{_&&_};
-ghost use Prim.Native.Nat.{_<_};
+ghost use Prim.Native.Nat.{_*_, _≤_, _<_};
 ghost use lib.Dec.{eqb};
 ghost use lib.ListN.{length};
-ghost use Rattle.tokens.specs.Tokenized.{tape};
+ghost use Rattle.tokens.specs.Tape.{tapeOf, rowWords};
 ghost use Rattle.grammar.specs.Ladder as L;
-ghost use Rattle.grammar.specs.Reading.{Ready, Reads};
+ghost use Rattle.grammar.specs.Reading.{Ready, Reads, Finds};
 use crate::leaves::close;
 use crate::leaves::leaf;
+use crate::steps::Rung;
 use crate::steps::Start;
 use crate::steps::Taken;
 use crate::store::put_joined;
@@ -29,261 +31,145 @@ use tokens::kinds::OPENING;
 use tokens::kinds::OR_ELSE;
 use tokens::kinds::SEQUEL;
 
-// At the top the text may also end after a ";".
-fn ends_behind(top: bool, at: usize, count: usize) -> bool
-    ensures { λ r. ⌜ r ≡ (top && eqb at count) ⌝ }
+// The lowest and the highest kind of some signs.
+struct Signs(u32, u32);
+
+// The operators of a rung.
+fn signs_of(rung: Rung) -> Signs
+    ensures { λ r. ⌜ (r .0 ≡ L.lowest rung) × (r .1 ≡ L.highest rung) ⌝ }
 {
-    if top {
-        return at == count;
+    match rung {
+        Rung::Whole => Signs(SEQUEL, SEQUEL),
+        Rung::Sequence => Signs(SEQUEL, SEQUEL),
+        Rung::Implication => Signs(IMPLIES, IMPLIES),
+        Rung::Disjunction => Signs(OR_ELSE, OR_ELSE),
+        Rung::Conjunction => Signs(AND_ALSO, AND_ALSO),
+        Rung::Comparison => Signs(EQUAL, AT_MOST),
     }
-    false
 }
 
-// Operands of ";", joined from the left.
-pub(crate) fn sequence(
-    text: &[u8],
-    kinds: &[u8],
-    starts: &[u16],
-    ends: &[u16],
-    limbs: &[u32],
-    count: usize,
-    top: bool,
-    from: Start,
-    nodes: &mut [u32],
-) -> Taken
-    requires { ⌜ Ready (now text) (now kinds) (now starts) (now ends) (now limbs) (length (now nodes)) count from ⌝ }
-    ensures { λ r. ⌜ Reads (L.sequence top)
-        (tape (now (text .entry)) (now (kinds .entry)) (now (starts .entry)) (now (ends .entry)) (now (limbs .entry)))
-        count from (now (nodes .entry)) (now (nodes .exit)) r ⌝ }
+// Whether an operator of a rung is the token of an index, and of which kind.
+fn operator_at(tape: &[u32], rung: Rung, count: usize, at: usize) -> Next
+    requires { ⌜ count * rowWords ≤ length (now tape) ⌝ }
+    ensures { λ r. ⌜ Finds (now (tape .entry)) count at (L.lowest rung) (L.highest rung) r ⌝ }
 {
-    let first = implication(text, kinds, starts, ends, limbs, count, from, nodes);
+    let signs = signs_of(rung);
+    next_in(tape, count, at, signs.0, signs.1)
+}
+
+// At the top the text may also end after a ";".
+fn ends_after(rung: Rung, at: usize, count: usize) -> bool
+    ensures { λ r. ⌜ r ≡ (L.mayEnd rung && eqb at count) ⌝ }
+{
+    match rung {
+        Rung::Whole => at == count,
+        Rung::Sequence => false,
+        Rung::Implication => false,
+        Rung::Disjunction => false,
+        Rung::Conjunction => false,
+        Rung::Comparison => false,
+    }
+}
+
+// An operand of a rung, which the next tighter rung reads.
+fn operand(text: &[u8], tape: &[u32], rung: Rung, from: Start, nodes: &mut [u32]) -> Taken
+    requires { ⌜ Ready (tapeOf (now text) (now tape)) (length (now nodes)) from ⌝ }
+    ensures { λ r. ⌜ Reads (L.operandOf rung) (tapeOf (now (text .entry)) (now (tape .entry))) from (now (nodes .entry)) (now (nodes .exit)) r ⌝ }
+{
+    match rung {
+        Rung::Whole => once(text, tape, Rung::Implication, from, nodes),
+        Rung::Sequence => once(text, tape, Rung::Implication, from, nodes),
+        Rung::Implication => chain(text, tape, Rung::Disjunction, from, nodes),
+        Rung::Disjunction => chain(text, tape, Rung::Conjunction, from, nodes),
+        Rung::Conjunction => once(text, tape, Rung::Comparison, from, nodes),
+        Rung::Comparison => prefix(text, tape, from, nodes),
+    }
+}
+
+// Operands with operators between them, joined from the left.
+pub(crate) fn chain(text: &[u8], tape: &[u32], rung: Rung, from: Start, nodes: &mut [u32]) -> Taken
+    requires { ⌜ Ready (tapeOf (now text) (now tape)) (length (now nodes)) from ⌝ }
+    ensures { λ r. ⌜ Reads (L.chainOf rung) (tapeOf (now (text .entry)) (now (tape .entry))) from (now (nodes .entry)) (now (nodes .exit)) r ⌝ }
+{
+    let first = operand(text, tape, rung, from, nodes);
     let Taken::Tree(f, i) = first else {
         return first;
     };
     let mut past = f;
     let mut next = i;
     loop {
-        let Next::Is(sign) = next_in(kinds, count, next, SEQUEL, SEQUEL) else {
+        let Next::Is(sign) = operator_at(tape, rung, from.count, next) else {
             return Taken::Tree(past, next);
         };
-        if ends_behind(top, next + 1, count) {
+        if ends_after(rung, next + 1, from.count) {
             return Taken::Tree(past, next + 1);
         }
-        let behind = from.moved(next + 1, past);
-        let more = implication(text, kinds, starts, ends, limbs, count, behind, nodes);
+        let onward = from.moved(next + 1, past);
+        let more = operand(text, tape, rung, onward, nodes);
         let Taken::Tree(end, rest) = more else {
             return more;
         };
-        put_joined(starts, nodes, end, sign, next, past - 1);
+        put_joined(tape, nodes, end, sign, next, past - 1);
         past = end + 1;
         next = rest;
     }
 }
 
-// One operand of "->", or two.
-fn implication(
-    text: &[u8],
-    kinds: &[u8],
-    starts: &[u16],
-    ends: &[u16],
-    limbs: &[u32],
-    count: usize,
-    from: Start,
-    nodes: &mut [u32],
-) -> Taken
-    requires { ⌜ Ready (now text) (now kinds) (now starts) (now ends) (now limbs) (length (now nodes)) count from ⌝ }
-    ensures { λ r. ⌜ Reads L.implication
-        (tape (now (text .entry)) (now (kinds .entry)) (now (starts .entry)) (now (ends .entry)) (now (limbs .entry)))
-        count from (now (nodes .entry)) (now (nodes .exit)) r ⌝ }
+// One operand, or two with an operator between them.
+fn once(text: &[u8], tape: &[u32], rung: Rung, from: Start, nodes: &mut [u32]) -> Taken
+    requires { ⌜ Ready (tapeOf (now text) (now tape)) (length (now nodes)) from ⌝ }
+    ensures { λ r. ⌜ Reads (L.onceOf rung) (tapeOf (now (text .entry)) (now (tape .entry))) from (now (nodes .entry)) (now (nodes .exit)) r ⌝ }
 {
-    let first = disjunction(text, kinds, starts, ends, limbs, count, from, nodes);
+    let first = operand(text, tape, rung, from, nodes);
     let Taken::Tree(past, next) = first else {
         return first;
     };
-    let Next::Is(sign) = next_in(kinds, count, next, IMPLIES, IMPLIES) else {
+    let Next::Is(sign) = operator_at(tape, rung, from.count, next) else {
         return first;
     };
-    let behind = from.moved(next + 1, past);
-    let second = disjunction(text, kinds, starts, ends, limbs, count, behind, nodes);
+    let onward = from.moved(next + 1, past);
+    let second = operand(text, tape, rung, onward, nodes);
     let Taken::Tree(end, rest) = second else {
         return second;
     };
-    put_joined(starts, nodes, end, sign, next, past - 1);
-    Taken::Tree(end + 1, rest)
-}
-
-// Operands of "||", joined from the left.
-fn disjunction(
-    text: &[u8],
-    kinds: &[u8],
-    starts: &[u16],
-    ends: &[u16],
-    limbs: &[u32],
-    count: usize,
-    from: Start,
-    nodes: &mut [u32],
-) -> Taken
-    requires { ⌜ Ready (now text) (now kinds) (now starts) (now ends) (now limbs) (length (now nodes)) count from ⌝ }
-    ensures { λ r. ⌜ Reads L.disjunction
-        (tape (now (text .entry)) (now (kinds .entry)) (now (starts .entry)) (now (ends .entry)) (now (limbs .entry)))
-        count from (now (nodes .entry)) (now (nodes .exit)) r ⌝ }
-{
-    let first = conjunction(text, kinds, starts, ends, limbs, count, from, nodes);
-    let Taken::Tree(f, i) = first else {
-        return first;
-    };
-    let mut past = f;
-    let mut next = i;
-    loop {
-        let Next::Is(sign) = next_in(kinds, count, next, OR_ELSE, OR_ELSE) else {
-            return Taken::Tree(past, next);
-        };
-        let behind = from.moved(next + 1, past);
-        let more = conjunction(text, kinds, starts, ends, limbs, count, behind, nodes);
-        let Taken::Tree(end, rest) = more else {
-            return more;
-        };
-        put_joined(starts, nodes, end, sign, next, past - 1);
-        past = end + 1;
-        next = rest;
-    }
-}
-
-// Operands of "&&", joined from the left.
-fn conjunction(
-    text: &[u8],
-    kinds: &[u8],
-    starts: &[u16],
-    ends: &[u16],
-    limbs: &[u32],
-    count: usize,
-    from: Start,
-    nodes: &mut [u32],
-) -> Taken
-    requires { ⌜ Ready (now text) (now kinds) (now starts) (now ends) (now limbs) (length (now nodes)) count from ⌝ }
-    ensures { λ r. ⌜ Reads L.conjunction
-        (tape (now (text .entry)) (now (kinds .entry)) (now (starts .entry)) (now (ends .entry)) (now (limbs .entry)))
-        count from (now (nodes .entry)) (now (nodes .exit)) r ⌝ }
-{
-    let first = comparison(text, kinds, starts, ends, limbs, count, from, nodes);
-    let Taken::Tree(f, i) = first else {
-        return first;
-    };
-    let mut past = f;
-    let mut next = i;
-    loop {
-        let Next::Is(sign) = next_in(kinds, count, next, AND_ALSO, AND_ALSO) else {
-            return Taken::Tree(past, next);
-        };
-        let behind = from.moved(next + 1, past);
-        let more = comparison(text, kinds, starts, ends, limbs, count, behind, nodes);
-        let Taken::Tree(end, rest) = more else {
-            return more;
-        };
-        put_joined(starts, nodes, end, sign, next, past - 1);
-        past = end + 1;
-        next = rest;
-    }
-}
-
-// One operand of a comparison, or two.
-fn comparison(
-    text: &[u8],
-    kinds: &[u8],
-    starts: &[u16],
-    ends: &[u16],
-    limbs: &[u32],
-    count: usize,
-    from: Start,
-    nodes: &mut [u32],
-) -> Taken
-    requires { ⌜ Ready (now text) (now kinds) (now starts) (now ends) (now limbs) (length (now nodes)) count from ⌝ }
-    ensures { λ r. ⌜ Reads L.comparison
-        (tape (now (text .entry)) (now (kinds .entry)) (now (starts .entry)) (now (ends .entry)) (now (limbs .entry)))
-        count from (now (nodes .entry)) (now (nodes .exit)) r ⌝ }
-{
-    let first = prefix(text, kinds, starts, ends, limbs, count, from, nodes);
-    let Taken::Tree(past, next) = first else {
-        return first;
-    };
-    let Next::Is(sign) = next_in(kinds, count, next, EQUAL, AT_MOST) else {
-        return first;
-    };
-    let behind = from.moved(next + 1, past);
-    let second = prefix(text, kinds, starts, ends, limbs, count, behind, nodes);
-    let Taken::Tree(end, rest) = second else {
-        return second;
-    };
-    put_joined(starts, nodes, end, sign, next, past - 1);
+    put_joined(tape, nodes, end, sign, next, past - 1);
     Taken::Tree(end + 1, rest)
 }
 
 // An operand after any number of "!" and "-". With no level left, only a leaf.
-fn prefix(
-    text: &[u8],
-    kinds: &[u8],
-    starts: &[u16],
-    ends: &[u16],
-    limbs: &[u32],
-    count: usize,
-    from: Start,
-    nodes: &mut [u32],
-) -> Taken
-    requires { ⌜ Ready (now text) (now kinds) (now starts) (now ends) (now limbs) (length (now nodes)) count from ⌝ }
-    ensures { λ r. ⌜ Reads L.prefix
-        (tape (now (text .entry)) (now (kinds .entry)) (now (starts .entry)) (now (ends .entry)) (now (limbs .entry)))
-        count from (now (nodes .entry)) (now (nodes .exit)) r ⌝ }
+fn prefix(text: &[u8], tape: &[u32], from: Start, nodes: &mut [u32]) -> Taken
+    requires { ⌜ Ready (tapeOf (now text) (now tape)) (length (now nodes)) from ⌝ }
+    ensures { λ r. ⌜ Reads L.prefix (tapeOf (now (text .entry)) (now (tape .entry))) from (now (nodes .entry)) (now (nodes .exit)) r ⌝ }
 {
     if from.levels == 0 {
-        return leaf(text, kinds, starts, ends, limbs, count, from, nodes);
+        return leaf(text, tape, from, nodes);
     }
     let at = from.token;
-    let Next::Is(sign) = next_in(kinds, count, at, NOT, MINUS) else {
-        return atom(text, kinds, starts, ends, limbs, count, from, nodes);
+    let Next::Is(sign) = next_in(tape, from.count, at, NOT, MINUS) else {
+        return atom(text, tape, from, nodes);
     };
     let inside = from.inside();
-    let operand = prefix(text, kinds, starts, ends, limbs, count, inside, nodes);
+    let operand = prefix(text, tape, inside, nodes);
     let Taken::Tree(past, next) = operand else {
         return operand;
     };
-    put_prefixed(starts, nodes, past, sign, at);
+    put_prefixed(tape, nodes, past, sign, at);
     Taken::Tree(past + 1, next)
 }
 
 // A leaf, or a parenthesis.
-fn atom(
-    text: &[u8],
-    kinds: &[u8],
-    starts: &[u16],
-    ends: &[u16],
-    limbs: &[u32],
-    count: usize,
-    from: Start,
-    nodes: &mut [u32],
-) -> Taken
+fn atom(text: &[u8], tape: &[u32], from: Start, nodes: &mut [u32]) -> Taken
     requires { ⌜ 0 < from .levels ⌝ }
-    requires { ⌜ Ready (now text) (now kinds) (now starts) (now ends) (now limbs) (length (now nodes)) count from ⌝ }
-    ensures { λ r. ⌜ Reads L.atom
-        (tape (now (text .entry)) (now (kinds .entry)) (now (starts .entry)) (now (ends .entry)) (now (limbs .entry)))
-        count from (now (nodes .entry)) (now (nodes .exit)) r ⌝ }
+    requires { ⌜ Ready (tapeOf (now text) (now tape)) (length (now nodes)) from ⌝ }
+    ensures { λ r. ⌜ Reads L.atom (tapeOf (now (text .entry)) (now (tape .entry))) from (now (nodes .entry)) (now (nodes .exit)) r ⌝ }
 {
-    let Next::Is(_) = next_in(kinds, count, from.token, OPENING, OPENING) else {
-        return leaf(text, kinds, starts, ends, limbs, count, from, nodes);
+    let Next::Is(_) = next_in(tape, from.count, from.token, OPENING, OPENING) else {
+        return leaf(text, tape, from, nodes);
     };
     let inside = from.inside();
-    let inner = sequence(
-        text,
-        kinds,
-        starts,
-        ends,
-        limbs,
-        count,
-        false,
-        inside,
-        nodes,
-    );
+    let inner = chain(text, tape, Rung::Sequence, inside, nodes);
     let Taken::Tree(past, next) = inner else {
         return inner;
     };
-    close(text, kinds, starts, count, past, next)
+    close(text, tape, from.count, past, next)
 }

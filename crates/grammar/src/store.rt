@@ -1,13 +1,14 @@
 // Nodes of tokens: the offsets of a token in the text, and the operator that it is.
 ghost use mathlib.Core.Path.{_≡_};
-ghost use Prim.Native.Nat.{_+_, _*_, _-_, _≤_, _<_};
-ghost use lib.ListN.{length, getD};
+ghost use Prim.Native.Nat.{_≤_, _<_};
 ghost use lib.Seq.{sets};
-ghost use Rattle.paper.specs.Tokens.{plain};
+ghost use Rattle.paper.specs.Tokens.{plain, mostTokens};
 ghost use Rattle.paper.specs.Grammar as G;
 ghost use Rattle.number.specs.Values.{value};
+ghost use Rattle.tokens.specs.Tape.{Has, startAt, endAt, firstJoin, lastJoin, firstComparison, lastComparison, firstPrefix, lastPrefix};
 ghost use Rattle.trees.specs.Standing.{prefixMeant, joinMeant, comparisonMeant};
 ghost use Rattle.trees.specs.Words.{leafWords, operatorWords, words, prefixNo, joinNo, comparisonNo, operatorNo};
+ghost use Rattle.grammar.specs.Places.{Fits, nodeAt, joinedKind, prefixedKind};
 use number::Magnitude;
 use tokens::kinds::AT_LEAST;
 use tokens::kinds::EQUAL;
@@ -18,96 +19,76 @@ use tokens::kinds::NOT;
 use tokens::kinds::OR_ELSE;
 use tokens::kinds::SEQUEL;
 use tokens::kinds::UNEQUAL;
+use tokens::rows::end_at;
+use tokens::rows::start_at;
 use trees::Comparison;
 use trees::Join;
 use trees::Operator;
 use trees::Prefix;
 
-// An offset in the text, of a token.
-fn offset(of: &[u16], token: usize) -> u32
-    requires { ⌜ token < length (now of) ⌝ }
-    ensures { λ r. ⌜ r ≡ getD (now (of .entry)) token 0 ⌝ }
+pub(crate) fn put_truth(tape: &[u32], nodes: &mut [u32], node: usize, token: usize, truth: bool)
+    requires { ⌜ Fits (now nodes) node × Has (now tape) token ⌝ }
+    ensures { λ _. ⌜ now (nodes .exit) ≡ sets (now (nodes .entry)) (nodeAt node) (words node (G.truth (startAt (now (tape .entry)) token) truth)) ⌝ }
 {
-    of[token] as u32
+    trees::put_truth(nodes, node, start_at(tape, token), truth);
 }
 
-pub(crate) fn put_truth(starts: &[u16], nodes: &mut [u32], node: usize, token: usize, truth: bool)
-    requires { ⌜ (node * 8 + 8 ≤ length (now nodes)) × (token < length (now starts)) ⌝ }
-    ensures { λ _. ⌜ now (nodes .exit) ≡ sets (now (nodes .entry)) (node * 8) (words node (G.truth (getD (now (starts .entry)) token 0) truth)) ⌝ }
+pub(crate) fn put_key(tape: &[u32], nodes: &mut [u32], node: usize, token: usize)
+    requires { ⌜ Fits (now nodes) node × Has (now tape) token ⌝ }
+    ensures { λ _. ⌜ now (nodes .exit) ≡ sets (now (nodes .entry)) (nodeAt node)
+        (leafWords 2 (startAt (now (tape .entry)) token) (startAt (now (tape .entry)) token) (endAt (now (tape .entry)) token) 0 0) ⌝ }
 {
-    trees::put_truth(nodes, node, offset(starts, token), truth);
+    trees::put_key(nodes, node, start_at(tape, token), end_at(tape, token));
 }
 
-pub(crate) fn put_key(starts: &[u16], ends: &[u16], nodes: &mut [u32], node: usize, token: usize)
-    requires { ⌜ (node * 8 + 8 ≤ length (now nodes)) × (token < length (now starts)) × (token < length (now ends)) ⌝ }
-    ensures { λ _. ⌜ now (nodes .exit) ≡ sets (now (nodes .entry)) (node * 8)
-        (leafWords 2 (getD (now (starts .entry)) token 0) (getD (now (starts .entry)) token 0) (getD (now (ends .entry)) token 0) 0 0) ⌝ }
-{
-    trees::put_key(nodes, node, offset(starts, token), offset(ends, token));
-}
-
-pub(crate) fn put_field(
-    starts: &[u16],
-    ends: &[u16],
-    nodes: &mut [u32],
-    node: usize,
-    token: usize,
-    name: usize,
-)
-    requires { ⌜ (node * 8 + 8 ≤ length (now nodes)) × (token < length (now starts)) × (token < length (now ends)) × (name < length (now starts)) × (name < length (now ends)) ⌝ }
-    ensures { λ _. ⌜ now (nodes .exit) ≡ sets (now (nodes .entry)) (node * 8)
-        (leafWords 3 (getD (now (starts .entry)) token 0) (getD (now (starts .entry)) token 0) (getD (now (ends .entry)) token 0)
-        (getD (now (starts .entry)) name 0) (getD (now (ends .entry)) name 0)) ⌝ }
+pub(crate) fn put_field(tape: &[u32], nodes: &mut [u32], node: usize, token: usize, name: usize)
+    requires { ⌜ Fits (now nodes) node × Has (now tape) token × Has (now tape) name ⌝ }
+    ensures { λ _. ⌜ now (nodes .exit) ≡ sets (now (nodes .entry)) (nodeAt node)
+        (leafWords 3 (startAt (now (tape .entry)) token) (startAt (now (tape .entry)) token) (endAt (now (tape .entry)) token)
+        (startAt (now (tape .entry)) name) (endAt (now (tape .entry)) name)) ⌝ }
 {
     trees::put_field(
         nodes,
         node,
-        offset(starts, token),
-        offset(ends, token),
-        offset(starts, name),
-        offset(ends, name),
+        start_at(tape, token),
+        end_at(tape, token),
+        start_at(tape, name),
+        end_at(tape, name),
     );
 }
 
-pub(crate) fn put_attribute(
-    starts: &[u16],
-    ends: &[u16],
-    nodes: &mut [u32],
-    node: usize,
-    token: usize,
-    name: usize,
-)
-    requires { ⌜ (node * 8 + 8 ≤ length (now nodes)) × (token < length (now starts)) × (name < length (now starts)) × (name < length (now ends)) ⌝ }
-    ensures { λ _. ⌜ now (nodes .exit) ≡ sets (now (nodes .entry)) (node * 8)
-        (leafWords 4 (getD (now (starts .entry)) token 0) 0 0 (getD (now (starts .entry)) name 0) (getD (now (ends .entry)) name 0)) ⌝ }
+pub(crate) fn put_attribute(tape: &[u32], nodes: &mut [u32], node: usize, token: usize, name: usize)
+    requires { ⌜ Fits (now nodes) node × Has (now tape) token × Has (now tape) name ⌝ }
+    ensures { λ _. ⌜ now (nodes .exit) ≡ sets (now (nodes .entry)) (nodeAt node)
+        (leafWords 4 (startAt (now (tape .entry)) token) 0 0 (startAt (now (tape .entry)) name) (endAt (now (tape .entry)) name)) ⌝ }
 {
     trees::put_attribute(
         nodes,
         node,
-        offset(starts, token),
-        offset(starts, name),
-        offset(ends, name),
+        start_at(tape, token),
+        start_at(tape, name),
+        end_at(tape, name),
     );
 }
 
 pub(crate) fn put_number(
-    starts: &[u16],
+    tape: &[u32],
     nodes: &mut [u32],
     node: usize,
     token: usize,
     number: Magnitude,
 )
-    requires { ⌜ (node * 8 + 8 ≤ length (now nodes)) × (token < length (now starts)) ⌝ }
-    ensures { λ _. ⌜ now (nodes .exit) ≡ sets (now (nodes .entry)) (node * 8) (words node (G.number (getD (now (starts .entry)) token 0) (plain (value number)))) ⌝ }
+    requires { ⌜ Fits (now nodes) node × Has (now tape) token ⌝ }
+    ensures { λ _. ⌜ now (nodes .exit) ≡ sets (now (nodes .entry)) (nodeAt node) (words node (G.number (startAt (now (tape .entry)) token) (plain (value number)))) ⌝ }
 {
-    trees::put_number(nodes, node, offset(starts, token), number);
+    trees::put_number(nodes, node, start_at(tape, token), number);
 }
 
 // The operators of signs.
 
-fn join_of(sign: u8) -> Join
-    requires { ⌜ (3 ≤ sign) × (sign ≤ 6) ⌝ }
-    ensures { λ r. ⌜ joinNo (joinMeant r) ≡ sign + 4 ⌝ }
+fn join_of(sign: u32) -> Join
+    requires { ⌜ (firstJoin ≤ sign) × (sign ≤ lastJoin) ⌝ }
+    ensures { λ r. ⌜ joinNo (joinMeant r) ≡ joinedKind sign ⌝ }
 {
     match sign {
         SEQUEL => Join::Sequel,
@@ -117,9 +98,9 @@ fn join_of(sign: u8) -> Join
     }
 }
 
-fn comparison_of(sign: u8) -> Comparison
-    requires { ⌜ (7 ≤ sign) × (sign ≤ 12) ⌝ }
-    ensures { λ r. ⌜ comparisonNo (comparisonMeant r) ≡ sign + 4 ⌝ }
+fn comparison_of(sign: u32) -> Comparison
+    requires { ⌜ (firstComparison ≤ sign) × (sign ≤ lastComparison) ⌝ }
+    ensures { λ r. ⌜ comparisonNo (comparisonMeant r) ≡ joinedKind sign ⌝ }
 {
     match sign {
         EQUAL => Comparison::Equal,
@@ -131,9 +112,9 @@ fn comparison_of(sign: u8) -> Comparison
     }
 }
 
-fn operator_of(sign: u8) -> Operator
-    requires { ⌜ (3 ≤ sign) × (sign ≤ 12) ⌝ }
-    ensures { λ r. ⌜ operatorNo r ≡ sign + 4 ⌝ }
+fn operator_of(sign: u32) -> Operator
+    requires { ⌜ (firstJoin ≤ sign) × (sign ≤ lastComparison) ⌝ }
+    ensures { λ r. ⌜ operatorNo r ≡ joinedKind sign ⌝ }
 {
     if sign < EQUAL {
         return Operator::Joins(join_of(sign));
@@ -141,9 +122,9 @@ fn operator_of(sign: u8) -> Operator
     Operator::Compares(comparison_of(sign))
 }
 
-fn prefix_of(sign: u8) -> Prefix
-    requires { ⌜ (13 ≤ sign) × (sign ≤ 14) ⌝ }
-    ensures { λ r. ⌜ prefixNo (prefixMeant r) ≡ sign - 8 ⌝ }
+fn prefix_of(sign: u32) -> Prefix
+    requires { ⌜ (firstPrefix ≤ sign) × (sign ≤ lastPrefix) ⌝ }
+    ensures { λ r. ⌜ prefixNo (prefixMeant r) ≡ prefixedKind sign ⌝ }
 {
     if sign == NOT {
         return Prefix::Not;
@@ -153,23 +134,25 @@ fn prefix_of(sign: u8) -> Prefix
 
 // The node of an operator between two operands.
 pub(crate) fn put_joined(
-    starts: &[u16],
+    tape: &[u32],
     nodes: &mut [u32],
     node: usize,
-    sign: u8,
+    sign: u32,
     token: usize,
     left: usize,
 )
-    requires { ⌜ (node * 8 + 8 ≤ length (now nodes)) × (token < length (now starts)) × (left < 65536) × (3 ≤ sign) × (sign ≤ 12) ⌝ }
-    ensures { λ _. ⌜ now (nodes .exit) ≡ sets (now (nodes .entry)) (node * 8) (operatorWords (sign + 4) (getD (now (starts .entry)) token 0) left) ⌝ }
+    requires { ⌜ Fits (now nodes) node × Has (now tape) token × (left < mostTokens) ⌝ }
+    requires { ⌜ (firstJoin ≤ sign) × (sign ≤ lastComparison) ⌝ }
+    ensures { λ _. ⌜ now (nodes .exit) ≡ sets (now (nodes .entry)) (nodeAt node) (operatorWords (joinedKind sign) (startAt (now (tape .entry)) token) left) ⌝ }
 {
-    trees::put_operator(nodes, node, offset(starts, token), operator_of(sign), left);
+    trees::put_operator(nodes, node, start_at(tape, token), operator_of(sign), left);
 }
 
 // The node of an operator before its operand.
-pub(crate) fn put_prefixed(starts: &[u16], nodes: &mut [u32], node: usize, sign: u8, token: usize)
-    requires { ⌜ (node * 8 + 8 ≤ length (now nodes)) × (token < length (now starts)) × (13 ≤ sign) × (sign ≤ 14) ⌝ }
-    ensures { λ _. ⌜ now (nodes .exit) ≡ sets (now (nodes .entry)) (node * 8) (operatorWords (sign - 8) (getD (now (starts .entry)) token 0) 0) ⌝ }
+pub(crate) fn put_prefixed(tape: &[u32], nodes: &mut [u32], node: usize, sign: u32, token: usize)
+    requires { ⌜ Fits (now nodes) node × Has (now tape) token ⌝ }
+    requires { ⌜ (firstPrefix ≤ sign) × (sign ≤ lastPrefix) ⌝ }
+    ensures { λ _. ⌜ now (nodes .exit) ≡ sets (now (nodes .entry)) (nodeAt node) (operatorWords (prefixedKind sign) (startAt (now (tape .entry)) token) 0) ⌝ }
 {
-    trees::put_prefix(nodes, node, offset(starts, token), prefix_of(sign));
+    trees::put_prefix(nodes, node, start_at(tape, token), prefix_of(sign));
 }

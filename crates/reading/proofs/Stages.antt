@@ -54,6 +54,7 @@ module _ (text nodes : List ℕ) (r : Counted) (grows : Grows text nodes r) wher
               checked = sym says ∙ ap checkingSays f;
               count = omega (arith, p .count, p .some);
               few = omega (arith, p .few, p .some);
+              short = omega (arith, p .short, p .some);
             }
 
 -- 1; 2; 3 and 4; then these

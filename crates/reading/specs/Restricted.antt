@@ -2,6 +2,7 @@
 use Prim.Native.Nat.{ℕ, _+_, _<_}
 use mathlib.Core.Path.{_≡_}
 use mathlib.Core.List.{List}
+use lib.ListN.{length}
 use Rattle.paper.specs.declared.Counted.{Counted}
 use Rattle.paper.specs.declared.Counted.the-variants.{Count, Refused}
 use Rattle.paper.specs.Answers.{ok, refused, _>>=_, inputOf, offsetOf}
@@ -19,6 +20,7 @@ pub record Typed (text list nodes : List ℕ) (k : ℕ) : Type 0 where
   pub checked : typed (keysIn list) (treeAt text nodes k) ≡ ok tt
   pub count : G.nodes (treeAt text nodes k) ≡ k + 1
   pub few : k < mostTokens
+  pub short : k < length text
 
 -- and text and list pass
 pub record Rooted (text list nodes : List ℕ) (k : ℕ) : Type 0 where

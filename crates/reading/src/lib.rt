@@ -1,7 +1,7 @@
 // A text made into a typed tree: the stages that the calls on texts have in common.
 //
 // `read_tree` cuts a text of at most 4,096 bytes into tokens and these into a tree, or gives the first refusal from 5 to
-// 10 that document 01 gives the text. The tree stands in `nodes`; the definition `treeAt` (crate trees) says which it is, and it is
+// 10 that document 01 gives the text. The tokens stand on a tape of its own. The tree stands in `nodes`; the definition `treeAt` (crate trees) says which it is, and it is
 // the one that the definition `tree` reads.
 //
 // `restrict` takes a key list too. It gives the first refusal that document 01 gives the two (1; 2; 3 and 4; 5 to 10; 11 to 14), or
@@ -10,12 +10,14 @@ ghost use mathlib.Core.Path.{_≡_};
 ghost use Prim.Native.Nat.{_≤_};
 ghost use lib.ListN.{length};
 ghost use Rattle.paper.specs.Tokens.{mostText};
-ghost use Rattle.reading.specs.Grown.{Grows};
+ghost use Rattle.reading.specs.Grown.{Room, Short, Grows};
 ghost use Rattle.reading.specs.Restricted.{Types, Restricts};
 use paper::Checking;
 use paper::Counted;
 use paper::Place;
+use paper::refused;
 use tokens::MOST_TOKENS;
+use tokens::rows::Row;
 use trees::Node;
 
 // No text is longer: document 01's refusal 1, which is given before a text comes here.
@@ -24,27 +26,57 @@ pub const MOST_TEXT: usize = 4096;
 // The words of a text's nodes: a tree has at most one node for each token.
 pub const NODE_WORDS: usize = Node::WORDS * MOST_TOKENS;
 
-// The number of nodes, of which the last is the root; or a refusal.
-pub fn read_tree(text: &[u8], nodes: &mut [u32]) -> Counted
+// A text of at most so many bytes is short. It has no more tokens than bytes, so that it is read with a small tape.
+pub const SHORT_TEXT: usize = 256;
+
+// The number of nodes, of which the last is the root; or a refusal. The tokens stand on a tape that is lent.
+fn read_on(text: &[u8], tape: &mut [u32], nodes: &mut [u32]) -> Counted
     requires { ⌜ length (now text) ≤ mostText ⌝ }
-    requires { ⌜ length (now nodes) ≡ 8192 ⌝ }
+    requires { ⌜ Room (now text) (now tape) ⌝ }
+    requires { ⌜ Room (now text) (now nodes) ⌝ }
     ensures { λ r. ⌜ Grows (now (text .entry)) (now (nodes .exit)) r ⌝ }
 {
-    let mut kinds = [0u8; MOST_TOKENS];
-    let mut starts = [0u16; MOST_TOKENS];
-    let mut ends = [0u16; MOST_TOKENS];
-    let mut limbs = [0u32; 4 * MOST_TOKENS];
-    let tokenized = tokens::tokenize(text, &mut kinds, &mut starts, &mut ends, &mut limbs);
+    let tokenized = tokens::tokenize(text, tape);
     let Counted::Count(count) = tokenized else {
         return tokenized;
     };
-    grammar::parse(text, &kinds, &starts, &ends, &limbs, count, nodes)
+    grammar::parse(text, tape, count, nodes)
+}
+
+fn read_short(text: &[u8], nodes: &mut [u32]) -> Counted
+    requires { ⌜ Short (now text) ⌝ }
+    requires { ⌜ Room (now text) (now nodes) ⌝ }
+    ensures { λ r. ⌜ Grows (now (text .entry)) (now (nodes .exit)) r ⌝ }
+{
+    let mut tape = [0u32; Row::WORDS * SHORT_TEXT];
+    read_on(text, &mut tape, nodes)
+}
+
+fn read_long(text: &[u8], nodes: &mut [u32]) -> Counted
+    requires { ⌜ length (now text) ≤ mostText ⌝ }
+    requires { ⌜ Room (now text) (now nodes) ⌝ }
+    ensures { λ r. ⌜ Grows (now (text .entry)) (now (nodes .exit)) r ⌝ }
+{
+    let mut tape = [0u32; Row::WORDS * MOST_TOKENS];
+    read_on(text, &mut tape, nodes)
+}
+
+// The number of nodes, of which the last is the root; or a refusal.
+pub fn read_tree(text: &[u8], nodes: &mut [u32]) -> Counted
+    requires { ⌜ length (now text) ≤ mostText ⌝ }
+    requires { ⌜ Room (now text) (now nodes) ⌝ }
+    ensures { λ r. ⌜ Grows (now (text .entry)) (now (nodes .exit)) r ⌝ }
+{
+    if text.len() <= SHORT_TEXT {
+        return read_short(text, nodes);
+    }
+    read_long(text, nodes)
 }
 
 // Of a text that is not too long and a list that is good: 5 to 10; 11 to 14.
 fn typed_root(text: &[u8], list: &[u8], nodes: &mut [u32]) -> Counted
     requires { ⌜ length (now text) ≤ mostText ⌝ }
-    requires { ⌜ length (now nodes) ≡ 8192 ⌝ }
+    requires { ⌜ Room (now text) (now nodes) ⌝ }
     ensures { λ r. ⌜ Types (now (text .entry)) (now (list .entry)) (now (nodes .exit)) r ⌝ }
 {
     let grown = read_tree(text, nodes);
@@ -61,11 +93,11 @@ fn typed_root(text: &[u8], list: &[u8], nodes: &mut [u32]) -> Counted
 
 // The number of the root of a text that is good for the keys of a list, or the first refusal of the two.
 pub fn restrict(text: &[u8], list: &[u8], nodes: &mut [u32]) -> Counted
-    requires { ⌜ length (now nodes) ≡ 8192 ⌝ }
+    requires { ⌜ Room (now text) (now nodes) ⌝ }
     ensures { λ r. ⌜ Restricts (now (text .entry)) (now (list .entry)) (now (nodes .exit)) r ⌝ }
 {
     if MOST_TEXT < text.len() {
-        return Counted::Refused(1, Place::Text(MOST_TEXT));
+        return Counted::Refused(refused::TEXT_TOO_LONG, Place::Text(MOST_TEXT));
     }
     let listed = keys::check_list(list);
     let Counted::Count(_) = listed else {

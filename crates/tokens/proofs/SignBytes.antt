@@ -12,8 +12,8 @@ use borrow.Author.Tests.{eqb-true, eqb-false, eq-eqb, ne-eqb, not-true}
 use Rattle.paper.specs.Tokens.{twoBytes, scanTwo, scanSign, token, sign}
 use Rattle.spelling.proofs.Spans.{cut}
 use Rattle.spelling.proofs.Tests.{and-both}
-use Rattle.tokens.specs.Tape.{signOf}
-use Rattle.tokens.specs.Scanned.{Stands, Begins, tokOf}
+use Rattle.tokens.specs.Tape.{wordNo, numeralNo, stringNo, firstSign, lastSign, signOf, tokOf}
+use Rattle.tokens.specs.Scanned.{Stands, Begins}
 use Rattle.tokens.specs.declared.found.Found.the-variants.{Token, NoToken}
 use Rattle.tokens.specs.declared.signs.Signs.{Signs}
 
@@ -30,8 +30,8 @@ next s at b = go (decLt at (length s))
         let k : length s ≤ at = omega arith in
         rw (drop-of-length-le s k, List·getD-eq-default s 0 k, alone b)
 
-tok-sign : (s : List ℕ) (k from to n : ℕ) → 3 ≤ k → tokOf s k from to n ≡ sign (signOf k)
-tok-sign s k from to n h = rw (ne-eqb k 0 (omega arith), ne-eqb k 1 (omega arith), ne-eqb k 2 (omega arith))
+tok-sign : (s : List ℕ) (k from to n : ℕ) → firstSign ≤ k → tokOf s k from to n ≡ sign (signOf k)
+tok-sign s k from to n h = rw (ne-eqb k wordNo (omega arith), ne-eqb k numeralNo (omega arith), ne-eqb k stringNo (omega arith))
 
 -- what is not 0 stands in the text
 there : (s : List ℕ) (i : ℕ) → 0 < getD s i 0 → i < length s
@@ -44,7 +44,7 @@ there s i h = go (decLt i (length s))
         absurd (omega (arith, List·getD-eq-default s 0 past))
 
 module _ (s : List ℕ) (at : ℕ) (r : Signs) (g : Begins (getD s at 0) r) (h : at < length s) where
-  stands : (k m : ℕ) → 3 ≤ k → k ≤ 17 → at + suc m ≤ length s
+  stands : (k m : ℕ) → firstSign ≤ k → k ≤ lastSign → at + suc m ≤ length s
       → scanTwo (twoBytes (getD s at 0) (getD s (at + 1) 0)) (getD s at 0) ≡ token (sign (signOf k)) m
       → Stands s at 0 (scanSign (getD s at 0) (drop (at + 1) s)) (Token k (at + suc m))
   stands k m low high inside e =

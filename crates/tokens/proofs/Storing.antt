@@ -1,4 +1,4 @@
--- One token more: it stands behind those that stood there before.
+-- One token more on a tape: its row comes after the rows that were there, and those stay.
 use Prim.Native.Nat.{ℕ, zero, suc, _+_, _*_, _≤_, _<_}
 use mathlib.Core.Path.{_≡_, refl, sym, _∙_}
 use mathlib.Core.List.{List, [], _∷_, _++_}
@@ -9,10 +9,10 @@ use borrow.Author.Count.{below-more}
 use lib.ListN.{length, getD, set, length-set}
 use lib.Seq.{sets, getD-set-same, getD-set-other}
 use Rattle.paper.specs.Tokens.{Token}
-use Rattle.number.specs.Values.{limb, value}
+use Rattle.number.specs.Values.{value, nested}
 use Rattle.number.specs.declared.magnitude.Magnitude.{Magnitude}
-use Rattle.tokens.specs.Scanned.{tokOf, Spans}
-use Rattle.tokens.specs.Tape.{Tape, tokenOn, tokensOn, limbsAt}
+use Rattle.tokens.specs.Scanned.{Spans}
+use Rattle.tokens.specs.Tape.{Tape, tapeOf, rowWords, rowAt, Has, wordAt, numberAt, rowOf, tokOf, tokenOn, tokensOn}
 use Rattle.tokens.specs.Tokenized.{SpansOn}
 use Rattle.tokens.proofs.Tapes.{tape-snoc, tape-same}
 
@@ -29,73 +29,41 @@ sets-at (x ∷ vs) l at (suc k) h g =
     let e : at + suc k ≡ suc at + k = omega arith in
     rw e (sets-at vs (set l at x) (suc at) k (omega arith) (simp length-set (omega arith)))
 
-limbs-below : (l vs : List ℕ) (at i : ℕ) → i + 4 ≤ at → limbsAt (sets l at vs) i ≡ limbsAt l i
-limbs-below l vs at i h =
-    rw (sets-below vs l at i (omega arith), sets-below vs l at (i + 1) (omega arith), sets-below vs l at (i + 2) (omega arith), sets-below vs l at (i + 3) (omega arith))
-
-limbs-stored : (l : List ℕ) (at : ℕ) (m : Magnitude) → at + 4 ≤ length l
-    → limbsAt (sets l at (limb m 0 ∷ limb m 1 ∷ limb m 2 ∷ limb m 3 ∷ [])) at ≡ value m
-unfolding value
-limbs-stored l at m h =
-    let vs = limb m 0 ∷ limb m 1 ∷ limb m 2 ∷ limb m 3 ∷ [] in
-    let first : getD (sets l at vs) at 0 ≡ limb m 0 = rw add-zero at (sets-at vs l at 0 (omega arith) (omega arith)) in
-    rw (first, sets-at vs l at 1 (omega arith) (omega arith), sets-at vs l at 2 (omega arith) (omega arith), sets-at vs l at 3 (omega arith) (omega arith))
-
--- a token by what stands at its index
+-- a token by the words of its row
 abbrev made : List ℕ → ℕ → ℕ → ℕ → ℕ → Token
 made text kind from to number = record { at = from; tok = tokOf text kind from to number }
 
--- the slices of U are those of T with one token stored at n
-pub record Stored (T U : Tape) (n kind from to : ℕ) (m : Magnitude) : Type 0 where
-  pub text : T .text ≡ U .text
-  pub kinds : U .kinds ≡ set (T .kinds) n kind
-  pub starts : U .starts ≡ set (T .starts) n from
-  pub ends : U .ends ≡ set (T .ends) n to
-  pub limbs : U .limbs ≡ sets (T .limbs) (n * 4) (limb m 0 ∷ limb m 1 ∷ limb m 2 ∷ limb m 3 ∷ [])
+-- the rows after a token was stored as the one of index n
+module _ (text rows after : List ℕ) (n kind from to : ℕ) (m : Magnitude)
+    (room : Has rows n) (put : after ≡ sets rows (rowAt n) (rowOf kind from to m))
+  where
+    kept : (i k : ℕ) → i < n → k < rowWords → wordAt rows i k ≡ wordAt after i k
+    kept i k h l = rw put (sym (sets-below (rowOf kind from to m) rows (rowAt n) (rowAt i + k) (omega arith)))
 
--- there is room for it
-pub record Room (T : Tape) (n : ℕ) : Type 0 where
-  pub kinds : n < length (T .kinds)
-  pub starts : n < length (T .starts)
-  pub ends : n < length (T .ends)
-  pub limbs : n * 4 + 4 ≤ length (T .limbs)
+    new : (k : ℕ) → k < rowWords → wordAt after n k ≡ getD (rowOf kind from to m) k 0
+    new k l = rw put (sets-at (rowOf kind from to m) rows (rowAt n) k l room)
 
-module _ (T U : Tape) (n kind from to : ℕ) (m : Magnitude) (w : Stored T U n kind from to m) (r : Room T n) where
-  kept : (l k : List ℕ) (x i : ℕ) → k ≡ set l n x → i < n → getD l i 0 ≡ getD k i 0
-  kept l k x i e h = rw (e, getD-set-other l n i x 0 (λ q. omega arith))
+    token-kept : (i : ℕ) → i < n → tokenOn (tapeOf text rows) i ≡ tokenOn (tapeOf text after) i
+    token-kept i h =
+        let number : numberAt rows i ≡ numberAt after i = λ j. nested (kept i 3 h (omega arith) j) (kept i 4 h (omega arith) j) (kept i 5 h (omega arith) j) (kept i 6 h (omega arith) j) in
+        λ j. made text (kept i 0 h (omega arith) j) (kept i 1 h (omega arith) j) (kept i 2 h (omega arith) j) (number j)
 
-  new : (l k : List ℕ) (x : ℕ) → k ≡ set l n x → n < length l → getD k n 0 ≡ x
-  new l k x e h = rw (e, getD-set-same l n x 0 h)
+    number-new : numberAt after n ≡ value m
+    unfolding value
+    number-new = λ j. nested (new 3 (omega arith) j) (new 4 (omega arith) j) (new 5 (omega arith) j) (new 6 (omega arith) j)
 
-  token-kept : (i : ℕ) → i < n → tokenOn T i ≡ tokenOn U i
-  token-kept i h =
-      let k = kept (T .kinds) (U .kinds) kind i (w .kinds) h in
-      let s = kept (T .starts) (U .starts) from i (w .starts) h in
-      let e = kept (T .ends) (U .ends) to i (w .ends) h in
-      let l : limbsAt (T .limbs) (i * 4) ≡ limbsAt (U .limbs) (i * 4) = rw (w .limbs) (sym (limbs-below (T .limbs) (limb m 0 ∷ limb m 1 ∷ limb m 2 ∷ limb m 3 ∷ []) (n * 4) (i * 4) (omega arith))) in
-      λ j. made (w .text j) (k j) (s j) (e j) (l j)
+    token-new : tokenOn (tapeOf text after) n ≡ made text kind from to (value m)
+    token-new = λ j. made text (new 0 (omega arith) j) (new 1 (omega arith) j) (new 2 (omega arith) j) (number-new j)
 
-  token-new : tokenOn U n ≡ made (T .text) kind from to (value m)
-  token-new =
-      let t = sym (w .text) in
-      let k = new (T .kinds) (U .kinds) kind (w .kinds) (r .kinds) in
-      let s = new (T .starts) (U .starts) from (w .starts) (r .starts) in
-      let e = new (T .ends) (U .ends) to (w .ends) (r .ends) in
-      let l : limbsAt (U .limbs) (n * 4) ≡ value m = rw (w .limbs) (limbs-stored (T .limbs) (n * 4) m (r .limbs)) in
-      λ j. made (t j) (k j) (s j) (e j) (l j)
+    pub tokens-stored : tokensOn (tapeOf text after) 0 (n + 1) ≡ tokensOn (tapeOf text rows) 0 n ++ (made text kind from to (value m) ∷ [])
+    tokens-stored =
+        let same = tape-same (tapeOf text rows) (tapeOf text after) 0 n (λ k h. token-kept k (omega arith)) in
+        let last : tokenOn (tapeOf text after) (0 + n) ≡ made text kind from to (value m) = rw zero-add token-new in
+        rw (add-one n) (tape-snoc (tapeOf text after) 0 n ∙ λ j. sym same j ++ (last j ∷ []))
 
-  pub tokens-stored : tokensOn U 0 (n + 1) ≡ tokensOn T 0 n ++ (made (T .text) kind from to (value m) ∷ [])
-  tokens-stored =
-      let same = tape-same T U 0 n (λ k h. token-kept k (omega arith)) in
-      let last : tokenOn U (0 + n) ≡ made (T .text) kind from to (value m) = rw zero-add token-new in
-      rw (add-one n) (tape-snoc U 0 n ∙ λ j. sym same j ++ (last j ∷ []))
-
-  pub spans-stored : Spans (T .text) kind from to → ((i : ℕ) → i < n → SpansOn T i) → (i : ℕ) → i < n + 1 → SpansOn U i
-  spans-stored here old =
-      let t = sym (w .text) in
-      let k = new (T .kinds) (U .kinds) kind (w .kinds) (r .kinds) in
-      let s = new (T .starts) (U .starts) from (w .starts) (r .starts) in
-      let e = new (T .ends) (U .ends) to (w .ends) (r .ends) in
-      below-more (SpansOn U) n
-      (λ i h. rw (← kept (T .kinds) (U .kinds) kind i (w .kinds) h, ← kept (T .starts) (U .starts) from i (w .starts) h, ← kept (T .ends) (U .ends) to i (w .ends) h, t) (old i h))
-      (rw (k, s, e, t) here)
+    pub spans-stored : Spans text kind from to → ((i : ℕ) → i < n → SpansOn (tapeOf text rows) i)
+        → (i : ℕ) → i < n + 1 → SpansOn (tapeOf text after) i
+    spans-stored here old =
+        below-more (SpansOn (tapeOf text after)) n
+        (λ i h. rw (← kept i 0 h (omega arith), ← kept i 1 h (omega arith), ← kept i 2 h (omega arith)) (old i h))
+        (rw (new 0 (omega arith), new 1 (omega arith), new 2 (omega arith)) here)

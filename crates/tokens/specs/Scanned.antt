@@ -5,27 +5,19 @@ use mathlib.Core.Bool.{cond, not, _&&_}
 use mathlib.Core.Option.{Option, none, some}
 use mathlib.Core.List.{List}
 use lib.ListN.{length}
-use lib.Seq.{slice}
 use lib.Dec.{eqb}
-use Rattle.paper.specs.Tokens.{Tok, word, numeral, string, sign, Scan, blank, token, noToken, tooLarge, Sign, twoBytes, oneByte, plain}
-use Rattle.tokens.specs.Tape.{signOf}
+use Rattle.paper.specs.Tokens.{Scan, blank, token, noToken, tooLarge, Sign, twoBytes, oneByte}
+use Rattle.tokens.specs.Tape.{stringNo, firstSign, lastSign, signOf, tokOf}
 use Rattle.tokens.specs.declared.found.Found.{Found}
 use Rattle.tokens.specs.declared.found.Found.the-variants as F
 use Rattle.tokens.specs.declared.signs.Signs.{Signs}
 
--- a token by its kind, from a byte up to another, with a numeral's number
-abbrev pub tokOf : List ℕ → ℕ → ℕ → ℕ → ℕ → Tok
-tokOf text kind from to number =
-    cond (eqb kind 0) (word (slice from to text))
-    (cond (eqb kind 1) (numeral (plain number))
-    (cond (eqb kind 2) (string (slice (from + 1) (to - 1) text)) (sign (signOf kind))))
-
 -- how a token may stand in a text: a string has both its quotes
 pub record Spans (text : List ℕ) (kind from to : ℕ) : Type 0 where
-  pub known : kind ≤ 17
+  pub known : kind ≤ lastSign
   pub taken : from < to
   pub inside : to ≤ length text
-  pub quoted : kind ≡ 2 → from + 2 ≤ to
+  pub quoted : kind ≡ stringNo → from + 2 ≤ to
 
 abbrev pub foundSays : List ℕ → ℕ → ℕ → Found → Scan
 foundSays text at number (F.Blank end) = blank (end - (at + 1))
@@ -52,5 +44,5 @@ signAt kind = cond (eqb kind 0) none (some (signOf kind))
 pub record Begins (b : ℕ) (r : Signs) : Type 0 where
   pub two : (c : ℕ) → twoBytes b c ≡ cond (not (eqb (r .1) 0) && eqb c (r .0)) (some (signOf (r .1))) none
   pub one : oneByte b ≡ signAt (r .2)
-  pub double : (r .1 ≡ 0 → ⊥) → (3 ≤ r .1) × (r .1 ≤ 17) × (0 < r .0)
-  pub single : (r .2 ≡ 0 → ⊥) → (3 ≤ r .2) × (r .2 ≤ 17)
+  pub double : (r .1 ≡ 0 → ⊥) → (firstSign ≤ r .1) × (r .1 ≤ lastSign) × (0 < r .0)
+  pub single : (r .2 ≡ 0 → ⊥) → (firstSign ≤ r .2) × (r .2 ≤ lastSign)

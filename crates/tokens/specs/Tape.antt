@@ -1,21 +1,70 @@
--- How the tokens of a text stand in lent slices: a kind, the first byte and the byte past the last for each token, and four
--- limbs, which hold a numeral's number.
-use Prim.Native.Nat.{ℕ, zero, suc, _+_, _*_, _-_, _^_}
-use mathlib.Core.Bool.{Bool, cond}
+-- How the tokens of a text stand on a tape, a slice of numbers: a row of eight words for each token, which are its kind, its
+-- first byte, the byte past its last, the four limbs of a numeral's number, and a word that is free.
+use Prim.Native.Nat.{ℕ, zero, suc, _+_, _*_, _-_, _≤_}
+use mathlib.Core.Bool.{cond}
 use mathlib.Core.List.{List, [], _∷_}
-use lib.ListN.{getD}
+use lib.ListN.{length, getD}
 use lib.Seq.{slice}
 use lib.Dec.{eqb}
-use Rattle.paper.specs.Tokens.{Sign, join, comparison, prefix, opening, closing, colons, sequel, implies, orElse, andAlso, equal, unequal, greater, atLeast, less, atMost, notSign, minusSign, Tok, word, numeral, string, sign, Token, plain}
+use Rattle.paper.specs.Tokens.{Sign, join, comparison, prefix, opening, closing, colons, sequel, implies, orElse, andAlso, equal, unequal, greater, atLeast, less, atMost, notSign, minusSign, Tok, word, numeral, string, sign, Token, plain, mostTokens}
+use Rattle.number.specs.Values.{nested, limb}
+use Rattle.number.specs.declared.magnitude.Magnitude.{Magnitude}
 
+-- a text and the rows of its tokens
 pub record Tape : Type 0 where
   pub text : List ℕ
-  pub kinds : List ℕ
-  pub starts : List ℕ
-  pub ends : List ℕ
-  pub limbs : List ℕ
+  pub rows : List ℕ
 
--- the number of a token's kind: 0 word, 1 numeral, 2 string, then the signs
+abbrev pub tapeOf : List ℕ → List ℕ → Tape
+tapeOf text rows = record { text = text; rows = rows }
+
+-- rows
+
+abbrev pub rowWords : ℕ
+rowWords = 8
+
+-- where the row of a token begins
+abbrev pub rowAt : ℕ → ℕ
+rowAt i = i * rowWords
+
+-- the slice has that row
+abbrev pub Has : List ℕ → ℕ → Type 0
+Has rows i = rowAt i + rowWords ≤ length rows
+
+-- and a row for each token that a text can have: no token is without a byte, and there is a limit
+abbrev pub Room : List ℕ → List ℕ → Type 0
+Room text rows = (n : ℕ) → n ≤ mostTokens → n ≤ length text → n * rowWords ≤ length rows
+
+abbrev pub wordAt : List ℕ → ℕ → ℕ → ℕ
+wordAt rows i k = getD rows (rowAt i + k) 0
+
+abbrev pub kindAt : List ℕ → ℕ → ℕ
+kindAt rows i = wordAt rows i 0
+
+abbrev pub startAt : List ℕ → ℕ → ℕ
+startAt rows i = wordAt rows i 1
+
+abbrev pub endAt : List ℕ → ℕ → ℕ
+endAt rows i = wordAt rows i 2
+
+abbrev pub numberAt : List ℕ → ℕ → ℕ
+numberAt rows i = nested (wordAt rows i 3) (wordAt rows i 4) (wordAt rows i 5) (wordAt rows i 6)
+
+abbrev pub rowOf : ℕ → ℕ → ℕ → Magnitude → List ℕ
+rowOf kind from to m = kind ∷ from ∷ to ∷ limb m 0 ∷ limb m 1 ∷ limb m 2 ∷ limb m 3 ∷ 0 ∷ []
+
+-- kinds
+
+abbrev pub wordNo : ℕ
+wordNo = 0
+
+abbrev pub numeralNo : ℕ
+numeralNo = 1
+
+abbrev pub stringNo : ℕ
+stringNo = 2
+
+-- the signs have the numbers after these
 abbrev pub signNo : Sign → ℕ
 signNo (join sequel) = 3
 signNo (join implies) = 4
@@ -33,7 +82,33 @@ signNo opening = 15
 signNo closing = 16
 signNo colons = 17
 
--- of a number from 3 to 17
+abbrev pub firstSign : ℕ
+firstSign = signNo (join sequel)
+
+abbrev pub lastSign : ℕ
+lastSign = signNo colons
+
+-- and among them joins, comparisons and prefix operators each have a range
+
+abbrev pub firstJoin : ℕ
+firstJoin = signNo (join sequel)
+
+abbrev pub lastJoin : ℕ
+lastJoin = signNo (join andAlso)
+
+abbrev pub firstComparison : ℕ
+firstComparison = signNo (comparison equal)
+
+abbrev pub lastComparison : ℕ
+lastComparison = signNo (comparison atMost)
+
+abbrev pub firstPrefix : ℕ
+firstPrefix = signNo (prefix notSign)
+
+abbrev pub lastPrefix : ℕ
+lastPrefix = signNo (prefix minusSign)
+
+-- of a number from the first sign's to the last's
 abbrev pub signOf : ℕ → Sign
 signOf n =
     cond (eqb n 3) (join sequel)
@@ -51,21 +126,20 @@ signOf n =
     (cond (eqb n 15) opening
     (cond (eqb n 16) closing colons)))))))))))))
 
--- four limbs, the lowest first
-abbrev pub limbsAt : List ℕ → ℕ → ℕ
-limbsAt l at = getD l at 0 + 2 ^ 32 * (getD l (at + 1) 0 + 2 ^ 32 * (getD l (at + 2) 0 + 2 ^ 32 * getD l (at + 3) 0))
+-- tokens
+
+-- a token by its kind, from a byte up to another, with a numeral's number
+abbrev pub tokOf : List ℕ → ℕ → ℕ → ℕ → ℕ → Tok
+tokOf text kind from to number =
+    cond (eqb kind wordNo) (word (slice from to text))
+    (cond (eqb kind numeralNo) (numeral (plain number))
+    (cond (eqb kind stringNo) (string (slice (from + 1) (to - 1) text)) (sign (signOf kind))))
 
 abbrev pub tokOn : Tape → ℕ → Tok
-tokOn T i =
-    let k = getD (T .kinds) i 0 in
-    let from = getD (T .starts) i 0 in
-    let to = getD (T .ends) i 0 in
-    cond (eqb k 0) (word (slice from to (T .text)))
-    (cond (eqb k 1) (numeral (plain (limbsAt (T .limbs) (i * 4))))
-    (cond (eqb k 2) (string (slice (from + 1) (to - 1) (T .text))) (sign (signOf k))))
+tokOn T i = tokOf (T .text) (kindAt (T .rows) i) (startAt (T .rows) i) (endAt (T .rows) i) (numberAt (T .rows) i)
 
 abbrev pub tokenOn : Tape → ℕ → Token
-tokenOn T i = record { at = getD (T .starts) i 0; tok = tokOn T i }
+tokenOn T i = record { at = startAt (T .rows) i; tok = tokOn T i }
 
 -- n tokens, from the one of index i on
 unfoldable pub tokensOn : Tape → ℕ → ℕ → List Token

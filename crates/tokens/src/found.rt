@@ -3,7 +3,7 @@ pub enum Found {
     // A blank, up to an offset.
     Blank(usize),
     // A token of a kind, up to an offset.
-    Token(u8, usize),
+    Token(u32, usize),
     // Bytes that form no token.
     NoToken,
     // A numeral above 2^128 - 1.

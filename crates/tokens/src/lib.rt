@@ -1,38 +1,35 @@
-// The tokens of a text, in lent slices of numbers.
+// The tokens of a text, on a tape: a lent slice of numbers, eight words a token.
 //
 // `tokenize` cuts a text of at most 4,096 bytes into at most 1,024 tokens, or gives refusal 5, 6 or 7 at the byte
-// that document 01 says. For each token the slices hold its kind (`kinds`), its first byte, the byte past its last,
-// and the four limbs of a numeral's number; specs/Tape.antt reads them back as the paper's tokens.
+// that document 01 says. `rows` owns the layout of a token's eight words and reads them; specs/Tape.antt reads the tape
+// back as the paper's tokens.
 ghost use mathlib.Core.Path.{_≡_};
-ghost use Prim.Native.Nat.{_*_, _≤_};
+ghost use Prim.Native.Nat.{_≤_};
 ghost use lib.ListN.{length};
-ghost use Rattle.paper.specs.Tokens.{tokens, mostText, mostTokens};
-ghost use Rattle.tokens.specs.Tokenized.{tape, tokenizedSays, Placed};
+ghost use Rattle.paper.specs.Tokens.{tokens, mostText};
+ghost use Rattle.tokens.specs.Tape.{Room, tapeOf};
+ghost use Rattle.tokens.specs.Tokenized.{tokenizedSays, Placed};
 use crate::found::Found;
+use crate::rows::Row;
 use paper::Counted;
 use paper::Place;
+use paper::refused;
 
 mod found;
 pub mod kinds;
 mod quotes;
+pub mod rows;
 mod scan;
 mod signs;
-mod slots;
 
 pub const MOST_TOKENS: usize = 1024;
 
-// Cuts a text into tokens and stores each in its slots; answers how many there are, or the refusal.
-pub fn tokenize(
-    text: &[u8],
-    kinds: &mut [u8],
-    starts: &mut [u16],
-    ends: &mut [u16],
-    limbs: &mut [u32],
-) -> Counted
-    requires { ⌜ (length (now text) ≤ mostText) × (length (now kinds) ≡ mostTokens) × (length (now starts) ≡ mostTokens)
-        × (length (now ends) ≡ mostTokens) × (length (now limbs) ≡ 4 * mostTokens) ⌝ }
-    ensures says { λ r. ⌜ tokenizedSays (tape (now (text .entry)) (now (kinds .exit)) (now (starts .exit)) (now (ends .exit)) (now (limbs .exit))) r ≡ tokens (now (text .entry)) ⌝ }
-    ensures placed { λ r. ⌜ Placed (tape (now (text .entry)) (now (kinds .exit)) (now (starts .exit)) (now (ends .exit)) (now (limbs .exit))) r ⌝ }
+// Cuts a text into tokens and stores each in its row; answers how many there are, or the refusal.
+pub fn tokenize(text: &[u8], tape: &mut [u32]) -> Counted
+    requires { ⌜ length (now text) ≤ mostText ⌝ }
+    requires { ⌜ Room (now text) (now tape) ⌝ }
+    ensures says { λ r. ⌜ tokenizedSays (tapeOf (now (text .entry)) (now (tape .exit))) r ≡ tokens (now (text .entry)) ⌝ }
+    ensures placed { λ r. ⌜ Placed (tapeOf (now (text .entry)) (now (tape .exit))) r ⌝ }
 {
     let mut n = 0;
     let mut at = 0;
@@ -43,15 +40,21 @@ pub fn tokenize(
             Found::Blank(end) => at = end,
             Found::Token(kind, end) => {
                 if n == MOST_TOKENS {
-                    return Counted::Refused(7, Place::Text(at));
+                    return Counted::Refused(refused::TOKENS_MANY, Place::Text(at));
                 }
-                slots::store_token(kinds, starts, ends, n, kind, at, end);
-                slots::store_number(limbs, n * 4, scanned.number);
+                let number = scanned.number;
+                let row = Row {
+                    kind: kind,
+                    start: at,
+                    end: end,
+                    number: number,
+                };
+                rows::put(tape, n, row);
                 n += 1;
                 at = end;
             }
-            Found::NoToken => return Counted::Refused(5, Place::Text(at)),
-            Found::TooLarge => return Counted::Refused(6, Place::Text(at)),
+            Found::NoToken => return Counted::Refused(refused::NO_TOKEN, Place::Text(at)),
+            Found::TooLarge => return Counted::Refused(refused::NUMERAL_LARGE, Place::Text(at)),
         }
     }
     Counted::Count(n)

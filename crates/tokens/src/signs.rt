@@ -11,7 +11,7 @@ use crate::kinds;
 
 // The signs that begin with a byte: the second byte of the one that takes two, its kind, and the kind of the byte
 // alone; 0 for what there is not.
-pub struct Signs(pub u8, pub u8, pub u8);
+pub struct Signs(pub u8, pub u32, pub u32);
 
 fn signs_from(byte: u8) -> Signs
     ensures { λ r. ⌜ Begins byte r ⌝ }

@@ -33,7 +33,7 @@ root-stands c κs =
     let at-read = read-at (c .before) in
     let t = at-read .read-tree in
     let p = planted _ _ (t .result) (t .ensures) (c .before .before .grown .given .1) in
-    omega (arith, t .kept, start at-read .pre .1, p .some, p .few)
+    omega (arith, t .kept, start at-read .pre .1 _ (p .few) (p .short), p .some)
 
 wrong-types : tie.Need-returns-2
 wrong-types c =

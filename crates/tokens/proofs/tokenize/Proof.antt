@@ -1,131 +1,149 @@
--- The tokens that stand in the slices, and those from the next byte on, are the text's.
-use Prim.Native.Nat.{_*_, _-_, _≤_}
-use mathlib.Core.Path.{_≡_, refl}
+-- `tokens::tokenize` meets its contract. The invariant of its loop (`Going`): the tokens on the tape, and those from the next byte
+-- on, are the text's. What is scanned at a byte is a blank, which the loop passes over, a token, which it stores in the next row, or
+-- a refusal. The measure is the number of bytes that are left: each turn takes one at least.
+use Prim.Native.Nat.{ℕ, _-_, _<_}
 use native.Mathlib.Omega.{arith}
+use mathlib.Core.Path.{_≡_, refl}
+use mathlib.Core.List.{List}
 use lib.ListN.{length}
 use borrow.Author.Needs.{needs}
-use Rattle.paper.specs.Tokens.{mostTokens}
 use Rattle.number.specs.Values.{value}
-use Rattle.tokens.specs.Tape.{Tape}
-use Rattle.tokens.specs.Tokenized.{tape}
-use Rattle.tokens.proofs.Going.{Going, going-start, going-blank, going-token, going-full, going-none, going-large, going-end}
-use Rattle.tokens.proofs.Storing.{Room}
+use Rattle.tokens.specs.Tape.{tapeOf, Has}
+use Rattle.tokens.specs.declared.found.Found.{Found}
+use Rattle.tokens.specs.declared.found.Found.the-variants as F
+use Rattle.tokens.proofs.Going.{Here, Going, going-start, going-blank, going-row, going-token, going-full, going-none, going-large, going-end, going-cut}
 use Rattle.tokens.proofs.tokenize.Statement.{statement}
 use Rattle.tokens.proofs.tokenize.Tie as tie
 
 abbrev Inv-loop : tie.InvT-loop
-Inv-loop text kinds₀ starts₀ ends₀ limbs₀ n₀ at₀ kinds starts ends limbs n at =
-    (length kinds ≡ mostTokens)
-    × (length starts ≡ mostTokens)
-    × (length ends ≡ mostTokens)
-    × (length limbs ≡ 4 * mostTokens)
-    × (n ≤ mostTokens)
-    × (at ≤ length text)
-    × Going (tape text kinds starts ends limbs) n at
+Inv-loop text tape₀ n₀ at₀ tape n at = (length tape ≡ length tape₀) × Going (tapeOf text tape) n at
 
 abbrev μ-loop : tie.MeasureT-loop
-μ-loop text kinds₀ starts₀ ends₀ limbs₀ n₀ at₀ kinds starts ends limbs n at = length text - at
+μ-loop text tape₀ n₀ at₀ tape n at = length text - at
 
-abbrev here : tie.At-loop Inv-loop μ-loop → Tape
-here c = tape (c .before .before .before .before .before .before .args .text .now) (c .loop .kinds) (c .loop .starts) (c .loop .ends) (c .loop .limbs)
+-- within the loop's body, where the next byte has been scanned
+abbrev Scanned : Type 0
+Scanned = tie.After-scan Inv-loop μ-loop
 
-loop-holds : tie.Need-loop-holds Inv-loop μ-loop
-loop-holds c =
-    let a = c .before .before .before .before .before .args in (
-      search needs,
-      search needs,
-      search needs,
-      search needs,
-      search needs,
-      search needs,
-      going-start (tape (a .text .now) (a .kinds .now) (a .starts .now) (a .ends .now) (a .limbs .now)),
-    )
+abbrev at-loop : Scanned → tie.At-loop Inv-loop μ-loop
+at-loop c = c .before .before
 
-loop-less : tie.Need-loop-less Inv-loop μ-loop
-loop-less c =
-    let w = rw (c .before .found .given .1) at (c .before .before .before .scan .ensures) in
-    omega (arith, w .ends)
+abbrev start : Scanned → tie.Start Inv-loop μ-loop
+start c = at-loop c .before .before .before
 
-loop-again : tie.Need-loop-again Inv-loop μ-loop
-loop-again c =
-    let T = here (c .before .before .before .before .before) in
-    let l = c .before .before .before .before .before .loop in
-    let f = c .before .before .before .scan in
-    let w = rw (c .before .found .given .1) at (f .ensures) in (
-      search needs,
-      search needs,
-      search needs,
-      search needs,
-      search needs,
-      w .ends .1,
-      going-blank T (l .n) (l .at) (l .inv .6) (search needs) (value (f .result .number)) (c .before .found .given .0 .0) w,
-    )
+abbrev text : Scanned → List ℕ
+text c = start c .args .text .now
 
-returns : tie.Need-returns Inv-loop μ-loop
-returns c =
-    let T = here (c .before .before .before .before .before .before) in
-    let l = c .before .before .before .before .before .before .loop in
-    let f = c .before .before .before .before .scan in
-    let e = c .before .before .found2 .given in (
-      going-full T (l .n) (l .at) (l .inv .6) (search needs) (value (f .result .number)) (e .0 .0) (e .0 .1 .0) (c .if1 .taken) (rw (e .1) at (f .ensures)),
-      tt,
-    )
+abbrev rows : Scanned → List ℕ
+rows c = at-loop c .loop .tape
 
-store-token-requires : tie.Need-store-token-requires Inv-loop μ-loop
-store-token-requires c κs =
-    let w = rw (c .before .before .before .before .before .found2 .given .1) at (c .before .before .before .before .before .before .before .scan .ensures) in
-    omega (arith, w .ends, c .before .before .before .before .before .before .before .before .before .loop .inv, c .before .before .before .before .before .before .before .before .before .before .before .before .before .before .before .pre)
+abbrev n : Scanned → ℕ
+n c = at-loop c .loop .n
 
-loop-less-2 : tie.Need-loop-less-2 Inv-loop μ-loop
-loop-less-2 c =
-    let w = rw (c .before .before .before .before .before .before .before .before .before .before .before .before .before .before .before .before .found2 .given .1) at (c .before .before .before .before .before .before .before .before .before .before .before .before .before .before .before .before .before .before .scan .ensures) in
-    omega (arith, w .ends)
+abbrev at : Scanned → ℕ
+at c = at-loop c .loop .at
 
-loop-again-2 : tie.Need-loop-again-2 Inv-loop μ-loop
-loop-again-2 c =
-    let T = here (c .before .before .before .before .before .before .before .before .before .before .before .before .before .before .before .before .before .before .before .before) in
-    let l = c .before .before .before .before .before .before .before .before .before .before .before .before .before .before .before .before .before .before .before .before .loop in
-    let f = c .before .before .before .before .before .before .before .before .before .before .before .before .before .before .before .before .before .before .scan in
-    let e = c .before .before .before .before .before .before .before .before .before .before .before .before .before .before .before .before .found2 .given in
-    let w = rw (e .1) at (f .ensures) in
-    let t = c .before .before .before .before .before .before .before .before .before .before .store-token in
-    let m = c .before .before .store-number in
-    let r : Room T (l .n) = omega (arith, l .inv, c .before .before .before .before .before .before .before .before .before .before .before .before .before .before) in
-    let u = tape (T .text) (t .last .0) (t .last .1 .0) (t .last .1 .1 .0) (m .last .0) in (
-      omega (arith, t .kept, l .inv),
-      omega (arith, t .kept, l .inv),
-      omega (arith, t .kept, l .inv),
-      omega (arith, m .kept, l .inv),
-      omega (arith, l .inv, c .before .before .before .before .before .before .before .before .before .before .before .before .before .before),
-      w .ends .inside,
-      going-token T (l .n) (l .at) (l .inv .6) (search needs) u (e .0 .0) (e .0 .1 .0) (f .result .number) (omega (arith, l .inv, c .before .before .before .before .before .before .before .before .before .before .before .before .before .before)) r
-          (record { text = refl; kinds = t .ensures .0; starts = t .ensures .1; ends = t .ensures .2; limbs = m .ensures })
-          w,
-    )
+abbrev number : Scanned → ℕ
+number c = value (c .scan .result .number)
 
-returns-2 : tie.Need-returns-2 Inv-loop μ-loop
-returns-2 c =
-    let T = here (c .before .before .before .before) in
-    let l = c .before .before .before .before .loop in
-    let f = c .before .before .scan in (
-      going-none T (l .n) (l .at) (l .inv .6) (search needs) (value (f .result .number)) (rw (c .enum-told .given .1) at (f .ensures)),
-      tt,
-    )
+going : (c : Scanned) → Going (tapeOf (text c) (rows c)) (n c) (at c)
+going c = at-loop c .loop .inv .1
 
-returns-3 : tie.Need-returns-3 Inv-loop μ-loop
-returns-3 c =
-    let T = here (c .before .before .before .before) in
-    let l = c .before .before .before .before .loop in
-    let f = c .before .before .scan in (
-      going-large T (l .n) (l .at) (l .inv .6) (search needs) (value (f .result .number)) (rw (c .enum-told2 .given .1) at (f .ensures)),
-      tt,
-    )
+more : (c : Scanned) → at c < length (text c)
+more c = c .before .loop-test .taken
 
-returns-4 : tie.Need-returns-4 Inv-loop μ-loop
-returns-4 c =
-    let T = here (c .before) in
-    let l = c .before .loop in
-    (going-end T (l .n) (l .at) (l .inv .6) (c .loop-test .left), (l .inv .4, l .inv .6 .placed))
+here : (c : Scanned) (f : Found) → c .scan .result .found ≡ f → Here (text c) (at c) (number c) f
+here c f e = rw e at (c .scan .ensures)
+
+-- a blank
+
+blank : tie.Need-loop-again Inv-loop μ-loop
+blank c =
+    let scanned = c .before .before .before in
+    let found = c .before .found .given in
+    (at-loop scanned .loop .inv .0, going-blank (text scanned) (rows scanned) (n scanned) (at scanned) (going scanned) (more scanned) (number scanned) (found .0 .0) (here scanned _ (found .1)))
+
+blank-taken : tie.Need-loop-less Inv-loop μ-loop
+blank-taken c =
+    let scanned = c .before .before .before in
+    let h = here scanned _ (c .before .found .given .1) in
+    omega (arith, h .ends)
+
+-- a token
+
+abbrev Token : Type 0
+Token = tie.After-known-told2 Inv-loop μ-loop
+
+abbrev token-scanned : Token → Scanned
+token-scanned c = c .before .before .before
+
+abbrev kind : Token → ℕ
+kind c = c .before .found2 .given .0 .0
+
+abbrev end : Token → ℕ
+end c = c .before .found2 .given .0 .1 .0
+
+token-here : (c : Token) → Here (text (token-scanned c)) (at (token-scanned c)) (number (token-scanned c)) (F.Token (kind c) (end c))
+token-here c = here (token-scanned c) _ (c .before .found2 .given .1)
+
+too-many : tie.Need-returns Inv-loop μ-loop
+too-many c =
+    let t : Token = c .before in
+    let s = token-scanned t in
+    (going-full (text s) (rows s) (n s) (at s) (going s) (more s) (number s) (kind t) (end t) (c .if1 .taken) (token-here t), tt)
+
+-- there is a row for it
+has-row : (c : tie.Else1 Inv-loop μ-loop) → Has (rows (token-scanned (c .before))) (n (token-scanned (c .before)))
+has-row c =
+    let s = token-scanned (c .before) in
+    going-row (text s) (rows s) (n s) (at s) (going s) (more s) (start s .args .tape .now) (start s .pre .1) (at-loop s .loop .inv .0)
+    (omega (arith, going s .few, c .if1 .left))
+
+put-fits : tie.Need-put-requires Inv-loop μ-loop
+put-fits c κs =
+    let t : Token = c .before .before .before in
+    let s = token-scanned t in
+    (has-row (c .before .before), omega (arith, token-here t .ends, start s .pre .0))
+
+-- where it was stored
+abbrev Stored : Type 0
+Stored = tie.After-put Inv-loop μ-loop
+
+abbrev stored-token : Stored → Token
+stored-token c = c .before .before .before .before
+
+counted : tie.Need-add-n Inv-loop μ-loop
+counted c = let s = token-scanned (stored-token (c .before .before)) in omega (arith, going s .few)
+
+stored : tie.Need-loop-again-2 Inv-loop μ-loop
+stored c =
+    let put : Stored = c .before .before in
+    let t = stored-token put in
+    let s = token-scanned t in
+    let few = put .before .before .before in
+    (omega (arith, put .put .kept, at-loop s .loop .inv .0), going-token (text s) (rows s) (n s) (at s) (going s) (more s) _ (kind t) (end t) (s .scan .result .number) (omega (arith, going s .few, few .if1 .left)) (has-row few) (put .put .ensures) (token-here t))
+
+token-taken : tie.Need-loop-less-2 Inv-loop μ-loop
+token-taken c = let t = stored-token (c .before .before) in omega (arith, token-here t .ends)
+
+-- neither
+
+no-token : tie.Need-returns-2 Inv-loop μ-loop
+no-token c =
+    let s = c .before .before in
+    (going-none (text s) (rows s) (n s) (at s) (going s) (more s) (number s) (here s _ (c .enum-told .given .1)), tt)
+
+too-large : tie.Need-returns-3 Inv-loop μ-loop
+too-large c =
+    let s = c .before .before in
+    (going-large (text s) (rows s) (n s) (at s) (going s) (more s) (number s) (here s _ (c .enum-told2 .given .1)), tt)
+
+-- the end
+
+all : tie.Need-returns-4 Inv-loop μ-loop
+all c =
+    let loop = c .before .loop in
+    (going-end _ (loop .n) (loop .at) (loop .inv .1) (c .loop-test .left), going-cut _ (loop .n) (loop .at) (loop .inv .1))
 
 pub tokenize-spec : {M : Type 1} → statement M
 tokenize-spec =
@@ -133,37 +151,23 @@ tokenize-spec =
     (tie.spec
     Inv-loop
     μ-loop
-    loop-holds
+    (λ c. (refl, going-start _))
     (λ c κs. search needs)
     (λ c. search needs)
-    loop-less
-    loop-again
+    blank-taken
+    blank
     (λ c. search needs)
     (λ c. search needs)
+    too-many
+    put-fits
+    counted
+    token-taken
+    stored
     (λ c. search needs)
     (λ c. search needs)
-    (λ c. search needs)
-    returns
-    store-token-requires
-    (λ c. search needs)
-    (λ c κs. search needs)
-    (λ c. search needs)
-    loop-less-2
-    loop-again-2
+    no-token
     (λ c. search needs)
     (λ c. search needs)
+    too-large
     (λ c. search needs)
-    (λ c. search needs)
-    (λ c. search needs)
-    returns-2
-    (λ c. search needs)
-    (λ c. search needs)
-    (λ c. search needs)
-    (λ c. search needs)
-    (λ c. search needs)
-    returns-3
-    (λ c. search needs)
-    (λ c. search needs)
-    (λ c. search needs)
-    (λ c. search needs)
-    returns-4)
+    all)

@@ -1,45 +1,63 @@
-use Prim.Native.Nat.{_+_}
-use mathlib.Core.Path.{refl, sym, _∙_}
-use mathlib.Core.List.{[]}
+-- `grammar::attribute` meets its contract: the name after "::" makes a node, or is missing.
+use Prim.Native.Nat.{ℕ, _+_}
 use native.Mathlib.Omega.{arith}
-use borrow.Author.Tests.{not-true, not-false}
-use Rattle.tokens.specs.Tokenized.{tape}
-use Rattle.paper.specs.Grammar as G
-use Rattle.grammar.specs.Places.{placeOn, wordOn}
-use Rattle.grammar.proofs.Outcomes.{stuck-as}
-use Rattle.grammar.proofs.Atoms.{took-leaf, named-yes, named-no, name-here, name-kind, word-end, word-spells}
+use mathlib.Core.Path.{_≡_, refl, sym, _∙_}
+use mathlib.Core.Bool.{true}
 use borrow.Author.Needs.{needs}
+use borrow.Author.Tests.{not-true, not-false}
+use Rattle.paper.specs.Grammar as G
+use Rattle.tokens.specs.Tape.{Tape, tapeOf}
+use Rattle.grammar.specs.Places.{placeOn, wordOn}
+use Rattle.grammar.specs.Reading.{isName}
+use Rattle.grammar.proofs.Outcomes.{stuck-as, has-row, in-text}
+use Rattle.grammar.proofs.Atoms.{took-leaf, named-yes, named-no, name-here, name-kind, word-end, word-spells}
 use Rattle.grammar.proofs.leaves.attribute.Statement.{statement}
 use Rattle.grammar.proofs.leaves.attribute.Tie as tie
 
-returns : tie.Need-returns
-returns c =
-    let a = c .before .before .before .before .before .before .before .before .args in
-    λ limbs.
-    let T = tape (a .text .now) (a .kinds .now) (a .starts .now) (a .ends .now) limbs in
-    stuck-as T (a .count) (a .at + 1) _ (c .place-at .result) (c .place-at .ensures)
-    (named-no T (a .count) (a .at + 1) (sym (c .before .before .is-name .ensures) ∙ not-true _ (c .before .if1 .taken)) _)
+-- where the name has been looked for; and from there what the function was given
+abbrev start : tie.After-is-name → tie.Start
+start c = c .before .before .before .before
 
-put-attribute-requires : tie.Need-put-attribute-requires
-put-attribute-requires c κs =
-    let a = c .before .before .before .before .before .before .before .before .args in
-    let p = c .before .before .before .before .before .before .before .before .pre in
-    let e = sym (c .before .before .is-name .ensures) ∙ not-false _ (c .before .if1 .left) in
-    let h = name-here (tape (a .text .now) (a .kinds .now) (a .starts .now) (a .ends .now) []) (a .count) (a .at + 1) e in
-    omega (arith, h, p .here, p .used, p .haveRoom, p .sound .haveStarts, p .sound .haveEnds)
+abbrev T : tie.After-is-name → Tape
+T c = tapeOf (start c .args .text .now) (start c .args .tape .now)
 
-returns-2 : tie.Need-returns-2
-returns-2 c =
-    let a = c .before .before .before .before .before .before .before .before .before .before .before .args in
-    let p = c .before .before .before .before .before .before .before .before .before .before .before .pre in
-    let e = sym (c .before .before .before .before .before .is-name .ensures) ∙ not-false _ (c .before .before .before .before .if1 .left) in
-    let i = a .at + 1 in
-    λ limbs.
-    let T = tape (a .text .now) (a .kinds .now) (a .starts .now) (a .ends .now) limbs in
-    let s = p .sound .spans i (name-here T (a .count) i e) in
-    took-leaf (G.attribute (placeOn T (a .at)) (placeOn T i) (wordOn T i)) (a .at + 2) (i + 1) (omega arith) (named-yes T (a .count) i e _) refl
-    (rw (word-end T (a .count) i (name-kind T (a .count) i e) s) (c .before .before .put-attribute .ensures))
-    (word-spells T (a .count) i (name-kind T (a .count) i e) s) (omega arith) (omega (arith, name-here T (a .count) i e))
+abbrev n : tie.After-is-name → ℕ
+n c = start c .args .from .count
+
+abbrev at : tie.After-is-name → ℕ
+at c = start c .args .from .token
+
+abbrev name : tie.After-is-name → ℕ
+name c = at c + 1
+
+no-name : tie.Need-returns
+no-name c =
+    let asked : tie.After-is-name = c .before .before in
+    stuck-as (T asked) (n asked) (name asked) _ (c .place-at .result) (c .place-at .ensures)
+    (named-no (T asked) (n asked) (name asked) (sym (asked .is-name .ensures) ∙ not-true _ (c .before .if1 .taken)) _)
+
+is-name : (c : tie.Else1) → let asked = c .before in isName (T asked) (n asked) (name asked) ≡ true
+is-name c = sym (c .before .is-name .ensures) ∙ not-false _ (c .if1 .left)
+
+node-fits : tie.Need-put-attribute-requires
+node-fits c κs =
+    let asked = c .before .before in
+    let p = start asked .pre in
+    let here = name-here (T asked) (n asked) (name asked) (is-name (c .before)) in
+    (omega (arith, p .some, p .ready), has-row (p .ready .sound) (at asked) (p .some), has-row (p .ready .sound) (name asked) here)
+
+named : tie.Need-returns-2
+named c =
+    let put-at : tie.After-put-attribute = c .before .before in
+    let else = put-at .before .before in
+    let asked = else .before in
+    let here = name-here (T asked) (n asked) (name asked) (is-name else) in
+    let kind = name-kind (T asked) (n asked) (name asked) (is-name else) in
+    let stands = in-text (start asked .pre .ready .sound) (name asked) here in
+    took-leaf (G.attribute (placeOn (T asked) (at asked)) (placeOn (T asked) (name asked)) (wordOn (T asked) (name asked))) (at asked + 2) (name asked + 1) (omega arith)
+    (named-yes (T asked) (n asked) (name asked) (is-name else) _) refl
+    (rw (word-end (T asked) (n asked) (name asked) kind stands) (put-at .put-attribute .ensures))
+    (word-spells (T asked) (n asked) (name asked) kind stands) (omega arith) (omega (arith, here))
 
 pub attribute-spec : {M : Type 1} → statement M
 attribute-spec =
@@ -49,10 +67,10 @@ attribute-spec =
     (λ c κs. search needs)
     (λ c. search needs)
     (λ c κs. search needs)
-    returns
+    no-name
     (λ c. search needs)
-    put-attribute-requires
+    node-fits
     (λ c. search needs)
     (λ c. search needs)
     (λ c. search needs)
-    returns-2)
+    named)

@@ -6,7 +6,7 @@ use Rattle.grammar.proofs.store.put_key.Tie as tie
 returns : tie.Need-returns
 returns c =
     let put-at : tie.After-put-key = c .before .before in
-    rw (← put-at .before .offset2 .ensures, ← put-at .before .before .offset .ensures) (put-at .put-key .ensures)
+    rw (← put-at .before .end-at .ensures, ← put-at .before .before .start-at .ensures) (put-at .put-key .ensures)
 
 pub put-key-spec : {M : Type 1} → statement M
 put-key-spec =

@@ -6,7 +6,7 @@ use Rattle.grammar.proofs.store.put_prefixed.Tie as tie
 returns : tie.Need-returns
 returns c =
     let put-at : tie.After-put-prefix = c .before .before in
-    rw (← put-at .before .prefix-of .ensures, ← put-at .before .before .offset .ensures) (put-at .put-prefix .ensures)
+    rw (← put-at .before .prefix-of .ensures, ← put-at .before .before .start-at .ensures) (put-at .put-prefix .ensures)
 
 pub put-prefixed-spec : {M : Type 1} → statement M
 put-prefixed-spec =

@@ -1,4 +1,4 @@
--- `keys::bytes::all_zero` meets its contract. The invariant of its loop: what was gathered is 0 exactly where all bytes passed are zero.
+-- `spelling::bytes::all_zero` meets its contract. The invariant of its loop: what was gathered is 0 exactly where all bytes passed are zero.
 -- A turn gathers one byte more. The measure is how many bytes are left.
 use Prim.Native.Nat.{ℕ, _≤_, _-_}
 use mathlib.Core.Path.{_≡_, refl, ap, _∙_}

@@ -1,25 +1,30 @@
+-- `tokens::string` meets its contract: the bytes up to a quote or the line's end, and the quote (`string-closed`).
 use borrow.Author.Needs.{needs}
 use Rattle.tokens.proofs.Quoting.{string-open, string-broken, string-closed}
 use Rattle.tokens.proofs.quotes.string.Statement.{statement}
 use Rattle.tokens.proofs.quotes.string.Tie as tie
 
-returns : tie.Need-returns
-returns c =
-    let a = c .before .before .before .args in
-    let e = c .before .run-end in
-    string-open (a .text .now) (a .at) (e .result) (e .ensures) (c .if1 .taken)
+-- where the end of the bytes is known; and from there what the function was given
+abbrev start : tie.After-run-end → tie.Start
+start c = c .before .before
 
-returns-2 : tie.Need-returns-2
-returns-2 c =
-    let a = c .before .before .before .before .before .args in
-    let e = c .before .before .before .run-end in
-    string-broken (a .text .now) (a .at) (e .result) (e .ensures) (search needs) (c .if2 .taken)
+unclosed : tie.Need-returns
+unclosed c =
+    let run = c .before in
+    let given = start run .args in
+    string-open (given .text .now) (given .at) (run .run-end .result) (run .run-end .ensures) (c .if1 .taken)
 
-returns-3 : tie.Need-returns-3
-returns-3 c =
-    let a = c .before .before .before .before .before .args in
-    let e = c .before .before .before .run-end in
-    string-closed (a .text .now) (a .at) (e .result) (e .ensures) (search needs) (c .if2 .left)
+broken : tie.Need-returns-2
+broken c =
+    let run = c .before .before .before in
+    let given = start run .args in
+    string-broken (given .text .now) (given .at) (run .run-end .result) (run .run-end .ensures) (search needs) (c .if2 .taken)
+
+closed : tie.Need-returns-3
+closed c =
+    let run = c .before .before .before in
+    let given = start run .args in
+    string-closed (given .text .now) (given .at) (run .run-end .result) (run .run-end .ensures) (search needs) (c .if2 .left)
 
 pub string-spec : {M : Type 1} → statement M
 string-spec =
@@ -27,8 +32,8 @@ string-spec =
     (tie.spec
     (λ c. search needs)
     (λ c κs. search needs)
-    returns
+    unclosed
     (λ c. search needs)
-    returns-2
+    broken
     (λ c. search needs)
-    returns-3)
+    closed)

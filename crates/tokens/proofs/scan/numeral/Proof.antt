@@ -1,31 +1,41 @@
-use borrow.Author.Needs.{needs}
+-- `tokens::numeral` meets its contract: the run of letters and digits is a numeral that fits, one that is too large, or none.
 use mathlib.Core.Path.{refl}
+use borrow.Author.Needs.{needs}
 use Rattle.tokens.proofs.Scans.{stands-as, numeral-fits, numeral-large, numeral-none}
 use Rattle.tokens.proofs.scan.numeral.Statement.{statement}
 use Rattle.tokens.proofs.scan.numeral.Tie as tie
 
-returns : tie.Need-returns
-returns c =
-    let a = c .before .before .before .before .before .before .before .args in
-    let e = c .before .before .before .before .before .run-end in
-    let r = c .before .before .before .read-numeral in
-    numeral-fits (a .text .now) (a .at) (e .result) (search needs) (e .ensures) (r .result .number) (rw (c .enum-told .given .1) at (r .ensures))
+-- where the run has been read; and from there its end, and what the function was given
+abbrev run : tie.After-read-numeral → tie.After-run-end
+run c = c .before .before
 
-returns-2 : tie.Need-returns-2
-returns-2 c =
-    let a = c .before .before .before .before .before .before .before .before .args in
-    let e = c .before .before .before .before .before .before .run-end in
-    let r = c .before .before .before .before .read-numeral in
+abbrev start : tie.After-read-numeral → tie.Start
+start c = run c .before .before
+
+fits : tie.Need-returns
+fits c =
+    let read : tie.After-read-numeral = c .before .before .before in
+    let end = run read .run-end in
+    let numeral = read .read-numeral in
+    numeral-fits (start read .args .text .now) (start read .args .at) (end .result) (search needs) (end .ensures) (numeral .result .number) (rw (c .enum-told .given .1) at (numeral .ensures))
+
+too-large : tie.Need-returns-2
+too-large c =
+    let told = c .before in
+    let read : tie.After-read-numeral = told .before .before .before in
+    let end = run read .run-end in
+    let numeral = read .read-numeral in
     stands-as (c .unnumbered .ensures .0) (c .unnumbered .ensures .1) refl
-    (numeral-large (a .text .now) (a .at) (e .result) (search needs) (e .ensures) (r .result .number) (rw (c .before .enum-told2 .given .1) at (r .ensures)))
+    (numeral-large (start read .args .text .now) (start read .args .at) (end .result) (search needs) (end .ensures) (numeral .result .number) (rw (told .enum-told2 .given .1) at (numeral .ensures)))
 
-returns-3 : tie.Need-returns-3
-returns-3 c =
-    let a = c .before .before .before .before .before .before .before .before .args in
-    let e = c .before .before .before .before .before .before .run-end in
-    let r = c .before .before .before .before .read-numeral in
+none : tie.Need-returns-3
+none c =
+    let told = c .before in
+    let read : tie.After-read-numeral = told .before .before .before in
+    let end = run read .run-end in
+    let numeral = read .read-numeral in
     stands-as (c .unnumbered2 .ensures .0) (c .unnumbered2 .ensures .1) refl
-    (numeral-none (a .text .now) (a .at) (e .result) (search needs) (e .ensures) (r .result .number) (rw (c .before .enum-told3 .given .1) at (r .ensures)))
+    (numeral-none (start read .args .text .now) (start read .args .at) (end .result) (search needs) (end .ensures) (numeral .result .number) (rw (told .enum-told3 .given .1) at (numeral .ensures)))
 
 pub numeral-spec : {M : Type 1} → statement M
 numeral-spec =
@@ -42,6 +52,6 @@ numeral-spec =
     (λ c κs. search needs)
     (λ c. search needs)
     (λ c κs. search needs)
-    returns
-    returns-2
-    returns-3)
+    fits
+    too-large
+    none)

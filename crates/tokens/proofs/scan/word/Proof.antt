@@ -1,3 +1,4 @@
+-- `tokens::word` meets its contract: the bytes that `word_more` counts follow the first (`word-stands`).
 use native.Mathlib.Omega.{arith}
 use borrow.Author.Needs.{needs}
 use Rattle.tokens.proofs.Scans.{word-inside, word-stands}

@@ -1,3 +1,4 @@
+-- `tokens::byte_or_zero` meets its contract: past the end there is no byte.
 use mathlib.Core.Path.{sym}
 use borrow.Author.Needs.{needs}
 use lib.ListN.{List·getD-eq-default}

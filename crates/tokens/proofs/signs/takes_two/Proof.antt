@@ -1,3 +1,4 @@
+-- `tokens::takes_two` meets its contract: each test is one of the two that the definition joins.
 use borrow.Author.Tests.{eq-eqb, ne-eqb}
 use Rattle.tokens.proofs.signs.takes_two.Statement.{statement}
 use Rattle.tokens.proofs.signs.takes_two.Tie as tie

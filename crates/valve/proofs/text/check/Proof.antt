@@ -1,4 +1,5 @@
 -- `valve::check` meets its contract: the answer of `restrict`, without its root.
+use native.Mathlib.Omega.{arith}
 use borrow.Author.Needs.{needs}
 use Rattle.valve.proofs.Texts.{not-checked, is-checked}
 use Rattle.valve.proofs.text.check.Statement.{statement}
@@ -17,4 +18,4 @@ passes c =
 pub check-spec : {M : Type 1} → statement M
 check-spec =
     tie.close
-    (tie.spec (λ c. search needs) (λ c κs. search needs) (λ c. search needs) (λ c. search needs) refuses passes)
+    (tie.spec (λ c. search needs) (λ c κs. λ n few short. omega arith) (λ c. search needs) (λ c. search needs) refuses passes)

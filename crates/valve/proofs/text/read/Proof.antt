@@ -1,4 +1,5 @@
 -- `valve::read` meets its contract: refusal 1 of a text that is too long, else the answer of `read_tree`.
+use native.Mathlib.Omega.{arith}
 use borrow.Author.Needs.{needs}
 use Rattle.valve.proofs.Texts.{too-long, not-read, is-read}
 use Rattle.valve.proofs.text.read.Statement.{statement}
@@ -22,7 +23,7 @@ read-spec =
     (tie.spec
     (λ c. too-long _ (c .if1 .taken))
     (λ c. search needs)
-    (λ c κs. (c .before .if1 .left, search needs))
+    (λ c κs. (c .before .if1 .left, λ n few short. omega arith))
     (λ c. search needs)
     (λ c. search needs)
     no-tree

@@ -1,4 +1,5 @@
 -- `valve::judge` meets its contract: the refusal of `restrict`, or the judgement by the root that it gives (`judge_by`).
+use native.Mathlib.Omega.{arith}
 use borrow.Author.Needs.{needs}
 use Rattle.reading.proofs.Stages.{rooted}
 use Rattle.valve.proofs.Verdicts.{not-passed}
@@ -21,7 +22,7 @@ judge-spec =
     tie.close
     (tie.spec
     (λ c. search needs)
-    (λ c κs. search needs)
+    (λ c κs. λ n few short. omega arith)
     (λ c. search needs)
     (λ c. search needs)
     (λ c. search needs)

@@ -10,7 +10,7 @@ use Rattle.paper.specs.Blocks.{checkOf, sealed}
 use Rattle.blocks.specs.Sealed.{sealedAt}
 use Rattle.blocks.specs.Written.{padded, codedBlock}
 use Rattle.blocks.proofs.Layouts.{check-due}
-use Rattle.blocks.proofs.Stores.{padded-length, stored, stored-behind}
+use Rattle.blocks.proofs.Stores.{padded-length, stored, stored-after}
 
 seal-last : (b : List ℕ) → length b ≡ 512 → sealedAt b ≡ sealed (take 508 b)
 seal-last b size =
@@ -55,11 +55,11 @@ module _ (b code : List ℕ) (k total keys : ℕ) (size : length b ≡ 512) (few
 
   filled-front : take 508 filled ≡ bigEndian 2 k ++ bigEndian 2 count ++ padded code ++ bigEndian 2 total ++ bigEndian 2 keys
   filled-front =
-      stored-behind totalled 506 2 (bigEndian 2 keys) refl (omega (arith, totalled-size)) _
-      (stored-behind coded 504 2 (bigEndian 2 total) refl (omega (arith, coded-size)) _
-      (stored-behind counted 4 500 (padded code) (padded-length code few) (omega (arith, counted-size)) _
-      (stored-behind numbered 2 2 (bigEndian 2 count) refl (omega (arith, numbered-size)) _
-      (stored-behind b 0 2 (bigEndian 2 k) refl (omega arith) _ refl))))
+      stored-after totalled 506 2 (bigEndian 2 keys) refl (omega (arith, totalled-size)) _
+      (stored-after coded 504 2 (bigEndian 2 total) refl (omega (arith, coded-size)) _
+      (stored-after counted 4 500 (padded code) (padded-length code few) (omega (arith, counted-size)) _
+      (stored-after numbered 2 2 (bigEndian 2 count) refl (omega (arith, numbered-size)) _
+      (stored-after b 0 2 (bigEndian 2 k) refl (omega arith) _ refl))))
 
   pub filled-sealed : sealedAt filled ≡ codedBlock total keys k code
   filled-sealed = seal-last filled filled-size ∙ ap sealed filled-front

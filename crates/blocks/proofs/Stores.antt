@@ -18,8 +18,8 @@ module _ (l : List ℕ) (i n : ℕ) (vs : List ℕ) (size : length vs ≡ n) (ro
   stored = sets-eq vs l i (omega arith) ∙ ap (λ (m : ℕ). take i l ++ vs ++ drop (i + m) l) size
 
   -- after what stood before it
-  pub stored-behind : (front : List ℕ) → take i l ≡ front → take (i + n) (sets l i vs) ≡ front ++ vs
-  stored-behind front e =
+  pub stored-after : (front : List ℕ) → take i l ≡ front → take (i + n) (sets l i vs) ≡ front ++ vs
+  stored-after front e =
       let long : length (take i l ++ vs) ≡ i + n = length-append (take i l) vs ∙ omega (arith, length-take-le i l (omega arith)) in
       ap (take (i + n)) stored ∙ take-at (take i l ++ vs) (drop (i + n) l) (i + n) long ∙ ap (λ (p : List ℕ). p ++ vs) e
 

@@ -11,7 +11,7 @@ use lib.Seq.{sets, length-sets}
 use lib.Dec.{eqb}
 use Rattle.paper.specs.Tokens.{Token}
 use Rattle.paper.specs.Grammar as G
-use Rattle.paper.specs.Grammar.{Tree, Out, got, Parser, _>>>_, onceMore, behind}
+use Rattle.paper.specs.Grammar.{Tree, Out, got, Parser, _>>>_, onceMore, afterOperator}
 use Rattle.tokens.specs.Tape.{Tape, tokensOn}
 use Rattle.trees.specs.Words.{words, operatorWords, Spelled}
 use Rattle.trees.proofs.Stored.{words-length}
@@ -100,10 +100,10 @@ more-stop top op p (suc m) t [] e = refl
 more-stop top op p (suc m) t (u ∷ us) e = rw e
 
 -- where the text does not end after the operator
-behind-on : (top : Bool) (T : Tape) (n i : ℕ) (t : Tree) (o : Out) → i ≤ n → (top && eqb i n) ≡ false
-    → behind top t (onward T n i) o ≡ o
-behind-on false T n i t o h e = refl
-behind-on true T n i t o h e = let d = eqb-false i n e in rw (tokens-here T n i (omega arith))
+operator-on : (top : Bool) (T : Tape) (n i : ℕ) (t : Tree) (o : Out) → i ≤ n → (top && eqb i n) ≡ false
+    → afterOperator top t (onward T n i) o ≡ o
+operator-on false T n i t o h e = refl
+operator-on true T n i t o h e = let d = eqb-false i n e in rw (tokens-here T n i (omega arith))
 
 both : (s t : Bool) → (s && t) ≡ true → (s ≡ true) × (t ≡ true)
 both true t e = (refl, e)
@@ -133,7 +133,7 @@ module _ {T : Tape} {n : ℕ} {top : Bool} {op : Operator} {p : Parser} {at b : 
       left = omega (arith, w .enough, J .here)
 
       turn : (m : ℕ) → w .turns ≡ suc m
-          → o ≡ behind top (w .tree) (past T n i) (p (past T n i) >>> λ r vs. G.more top op p m (J .make (w .tree) r) vs)
+          → o ≡ afterOperator top (w .tree) (past T n i) (p (past T n i) >>> λ r vs. G.more top op p m (J .make (w .tree) r) vs)
       unfolding G.more
       turn m e = w .out ∙ rw (e, tokens-here T n i (J .here), J .told)
 
@@ -157,7 +157,7 @@ module _ {T : Tape} {n : ℕ} {top : Bool} {op : Operator} {p : Parser} {at b : 
       module _ (on : (top && eqb (i + 1) n) ≡ false) where
         going-more : o ≡ (p (past T n i) >>> λ r vs. G.more top op p (w .turns - 1) (J .make (w .tree) r) vs)
         going-more =
-            turn _ left ∙ behind-on top T n (i + 1) (w .tree) _ (omega (arith, J .here)) on
+            turn _ left ∙ operator-on top T n (i + 1) (w .tree) _ (omega (arith, J .here)) on
 
         pub going-next : Up (length (T .text)) (p (past T n i)) o
         going-next = rw going-more (refuses (length (T .text)) (p (past T n i)) _)

@@ -31,8 +31,8 @@ abbrev Told : Bool → ℕ → ℕ → Type 0
 Told r m n = (r ≡ ltb m n) × (m ≡ n → ⊥)
 
 -- a digit after them does not change it
-behind : {a b m n : ℕ} {r : Bool} → Fits w32 a → Fits w32 b → Told r m n → Told r (a + 2 ^ 32 * m) (b + 2 ^ 32 * n)
-behind {a} {b} {m} {n} ha hb t =
+lower-digits : {a b m n : ℕ} {r : Bool} → Fits w32 a → Fits w32 b → Told r m n → Told r (a + 2 ^ 32 * m) (b + 2 ^ 32 * n)
+lower-digits {a} {b} {m} {n} ha hb t =
     (t .0 ∙ ltb-iff m n (a + 2 ^ 32 * m) (b + 2 ^ 32 * n) (λ h. omega arith) (λ h. omega arith), (λ e. t .1 (digit-same (ha .fits) (hb .fits) e .1)))
 
 -- digits after the same digits
@@ -45,15 +45,15 @@ differ {a} {b} ha hb e f = (after a b e, (λ q. f (digit-same (ha .fits) (hb .fi
 module _ (a b : Magnitude) (ha : Held a) (hb : Held b) where
   pub less3 : (limb a 3 ≡ limb b 3 → ⊥) → ltb (limb a 3) (limb b 3) ≡ ltb (value a) (value b)
   unfolding value
-  less3 n = behind (ha .l0) (hb .l0) (behind (ha .l1) (hb .l1) (behind (ha .l2) (hb .l2) (refl, n))) .0
+  less3 n = lower-digits (ha .l0) (hb .l0) (lower-digits (ha .l1) (hb .l1) (lower-digits (ha .l2) (hb .l2) (refl, n))) .0
 
   pub less2 : limb a 3 ≡ limb b 3 → (limb a 2 ≡ limb b 2 → ⊥) → ltb (limb a 2) (limb b 2) ≡ ltb (value a) (value b)
   unfolding value
-  less2 e n = behind (ha .l0) (hb .l0) (behind (ha .l1) (hb .l1) (differ (ha .l2) (hb .l2) e n)) .0
+  less2 e n = lower-digits (ha .l0) (hb .l0) (lower-digits (ha .l1) (hb .l1) (differ (ha .l2) (hb .l2) e n)) .0
 
   pub less1 : limb a 3 ≡ limb b 3 → limb a 2 ≡ limb b 2 → (limb a 1 ≡ limb b 1 → ⊥) → ltb (limb a 1) (limb b 1) ≡ ltb (value a) (value b)
   unfolding value
-  less1 e f n = behind (ha .l0) (hb .l0) (differ (ha .l1) (hb .l1) (same-digits f e) n) .0
+  less1 e f n = lower-digits (ha .l0) (hb .l0) (differ (ha .l1) (hb .l1) (same-digits f e) n) .0
 
   pub less0 : limb a 3 ≡ limb b 3 → limb a 2 ≡ limb b 2 → limb a 1 ≡ limb b 1 → ltb (limb a 0) (limb b 0) ≡ ltb (value a) (value b)
   unfolding value

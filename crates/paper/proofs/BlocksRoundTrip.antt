@@ -20,7 +20,7 @@ use Rattle.paper.specs.BlocksRoundTrip.{All, InRange, Written, BlocksBac
 use Rattle.paper.proofs.Basics.{all-at}
 use Rattle.paper.proofs.Digits.{number-back}
 use Rattle.paper.proofs.InstructionsRoundTrip.{bytes-back, row-there}
-use Rattle.paper.proofs.OneBlock.{body, behindCode, at-count, at-code, block-passes, taken, block-length, blocks-length, block-there}
+use Rattle.paper.proofs.OneBlock.{body, afterCode, at-count, at-code, block-passes, taken, block-length, blocks-length, block-there}
 use Rattle.paper.proofs.InTurn.{all-pass}
 
 module _ (keys : ℕ) (code : List Instruction) (keys-few : keys ≤ mostKeys) (nonempty : 1 ≤ length code) (few : length code ≤ mostBlocks * inBlock) where
@@ -56,14 +56,14 @@ module _ (keys : ℕ) (code : List Instruction) (keys-few : keys ≤ mostKeys) (
       (r .0, rw (at, r .1, zero-add k))
 
   -- the block after its body
-  behind : (k : ℕ) → k < many → (rest : List ℕ) × (drop (k * blockSize) blocks ≡ bodyOf k ++ rest)
-  behind k h =
+  rest-after : (k : ℕ) → k < many → (rest : List ℕ) × (drop (k * blockSize) blocks ≡ bodyOf k ++ rest)
+  rest-after k h =
       let r = here k h in
       (checkOf (bodyOf k) ++ r .0, r .1 ∙ append-assoc (bodyOf k) (checkOf (bodyOf k)) (r .0))
 
   count-there : (k : ℕ) → k < many → countAt blocks k ≡ length (part k)
   count-there k h =
-      let r = behind k h in
+      let r = rest-after k h in
       number-back blocks _ (k * blockSize + 2) 2 (length (part k)) (at-count total keys k (part k) (few-here k) blocks (r .0) (k * blockSize) (r .1))
       (omega (arith, few-here k))
 
@@ -114,9 +114,9 @@ module _ (keys : ℕ) (code : List Instruction) (keys-few : keys ≤ mostKeys) (
     instruction-back i h =
         let k = i / inBlock in
         let j = i % inBlock in
-        let r = behind k (omega arith) in
+        let r = rest-after k (omega arith) in
         let start = k * blockSize + 4 in
-        let row = row-there (part k) (behindCode total keys k (part k) (few-here k) (r .0)) j (omega (arith, part-length k)) in
+        let row = row-there (part k) (afterCode total keys k (part k) (few-here k) (r .0)) j (omega (arith, part-length k)) in
         let same : getD (part k) j pushPriority ≡ at i =
         getD-take inBlock (drop (inBlock * k) code) j pushPriority (omega arith) ∙ getD-drop (inBlock * k) code j pushPriority
         ∙ ap at (div-add-mod i inBlock)

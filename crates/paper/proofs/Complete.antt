@@ -8,7 +8,7 @@ use mathlib.Core.List.{List, [], _∷_, _++_, append-assoc, append-nil}
 use native.Mathlib.Omega.{arith}
 use Rattle.paper.specs.Tokens.{bytes, opening, closing, colons, Token}
 use Rattle.paper.specs.Addresses.{Scheme, schemeOf}
-use Rattle.paper.specs.Grammar.{Tree, key, field, got, stuck, Out, ends, _>>>_, Parser, Make, Reader, onceMore, once, behind, chain, isSign, closed, named, opensAddress, keyed, worded, operand}
+use Rattle.paper.specs.Grammar.{Tree, key, field, got, stuck, Out, ends, _>>>_, Parser, Make, Reader, onceMore, once, afterOperator, chain, isSign, closed, named, opensAddress, keyed, worded, operand}
 use Rattle.paper.specs.Sentences.{Phrases, signAt, Name, Operator, Once, none-of, one-of, Chain, first, further, Trailing, without, trailing, Operand, a-true, a-false, a-numeral, an-address, a-key, a-field, an-attribute, a-prefixed, a-parenthesis}
 use Rattle.paper.proofs.Words.{bytes-not}
 use Rattle.paper.proofs.Operators.{Finds}
@@ -56,7 +56,7 @@ module _ {fn : Token → Option Make} {op : Operator} (finds : Finds fn op) {p :
   once-complete = record { takes = once-takes; hungry = rw (complete .hungry) }
 
   module _ (last : Bool) (shrinks : Shrinks p) where
-    passes : (last : Bool) (t r : Tree) (us vs : List Token) (o : Out) → p us ≡ ends (got r) vs → behind last t us o ≡ o
+    passes : (last : Bool) (t r : Tree) (us vs : List Token) (o : Out) → p us ≡ ends (got r) vs → afterOperator last t us o ≡ o
     passes false t r us vs o h = refl
     passes true t r [] vs o h = absurd (got-not-stuck (sym h ∙ complete .hungry))
     passes true t r (u ∷ us) vs o h = refl

@@ -8,7 +8,7 @@ use lib.ListN.{length, length-append}
 use native.Mathlib.Nat.{le-refl}
 use native.Mathlib.Omega.{arith}
 use Rattle.paper.specs.Tokens.{Token}
-use Rattle.paper.specs.Grammar.{Tree, got, stuck, Out, ends, deep, bad, _>>>_, Parser, Make, onceWith, onceMore, once, behind, moreWith, chain}
+use Rattle.paper.specs.Grammar.{Tree, got, stuck, Out, ends, deep, bad, _>>>_, Parser, Make, onceWith, onceMore, once, afterOperator, moreWith, chain}
 use Rattle.paper.specs.Sentences.{Phrases, Operator, Once, none-of, one-of, Chain, first, further, Trailing, without, trailing}
 use Rattle.paper.proofs.ParserTakes.{of-end, of-next, Kind, Family, Says, Tells, stays, extend, bind}
 use Rattle.paper.proofs.Turns.{Leaves, Shrinks, turns, turns-end, turns-next}
@@ -33,11 +33,11 @@ tells-shrinks {p} {S} tells ts = leaves p S ts (p ts) (tells .says ts)
 
 -- where the text may end after an operator
 last-says : (last : Bool) (q : Parser) (R : Family) (t : Tree) (us : List Token) → (last ≡ true → (k : Kind) → R k t [])
-    → Says q R us (q us) → Says (λ ws. behind last t ws (q ws)) R us (behind last t us (q us))
+    → Says q R us (q us) → Says (λ ws. afterOperator last t ws (q ws)) R us (afterOperator last t us (q us))
 last-says false q R t us front h = h
 last-says true q R t [] front h = stays (of-end _ refl) (front refl)
 last-says true q R t (u ∷ us) front h =
-    extend (λ ws. behind true t ws (q ws)) q R (u ∷ us) [] (u ∷ us) refl (of-next _ λ ws. refl) h
+    extend (λ ws. afterOperator true t ws (q ws)) q R (u ∷ us) [] (u ∷ us) refl (of-next _ λ ws. refl) h
 
 module _ (fn : Token → Option Make) (op : Operator) (said : (u : Token) (make : Make) → fn u ≡ some make → op u make)
     {p : Parser} {S : Family} (tells : Tells p S) where
@@ -71,13 +71,13 @@ module _ (fn : Token → Option Make) (op : Operator) (said : (u : Token) (make 
     shrinks = tells-shrinks tells
 
     -- after an operator
-    behind-says : (t : Tree) (vs : List Token) (u : Token) (make : Make) → op u make → ((k : Kind) → Chain op (S k) t vs)
+    operator-says : (t : Tree) (vs : List Token) (u : Token) (make : Make) → op u make → ((k : Kind) → Chain op (S k) t vs)
         → (us : List Token)
         → ((r : Tree) (ws xs : List Token) → length xs ≤ length us → ((k : Kind) → Chain op (S k) r ws)
         → Says (turns last fn p r) (λ k s ys. Ended last op (S k) s (ws ++ ys)) xs (turns last fn p r xs))
         → Says (λ ws. p ws >>> λ r. turns last fn p (make t r)) (λ k r ws. Ended last op (S k) r (vs ++ (u ∷ ws))) us
         (p us >>> λ r. turns last fn p (make t r))
-    behind-says t vs u make o h us step =
+    operator-says t vs u make o h us step =
         bind p (λ r. turns last fn p (make t r)) S (λ k r ws. Ended last op (S k) r (vs ++ (u ∷ ws)))
         (λ k r ws g. (make t r, [], rw append-nil (ended last (further (h k) o g)))) us
         (λ r ws xs e g.
@@ -107,14 +107,14 @@ module _ (fn : Token → Option Make) (op : Operator) (said : (u : Token) (make 
         go : (o : Option Make) → fn u ≡ o
             → ((r : Tree) (ws xs : List Token) → length xs ≤ length us → ((k : Kind) → Chain op (S k) r ws)
             → Says (turns last fn p r) (λ k s ys. Ended last op (S k) s (ws ++ ys)) xs (turns last fn p r xs))
-            → Says (turns last fn p t) R (u ∷ us) (moreWith t u us o (λ make. behind last t us (after make us)))
+            → Says (turns last fn p t) R (u ∷ us) (moreWith t u us o (λ make. afterOperator last t us (after make us)))
         go none e step =
             stays (of-next _ λ ws. turns-next last fn p shrinks t u ws ∙ rw e) (λ k. rw append-nil (ended last (h k)))
         go (some make) e step =
-            extend (turns last fn p t) (λ ws. behind last t ws (after make ws)) R (u ∷ us) (u ∷ []) us refl
+            extend (turns last fn p t) (λ ws. afterOperator last t ws (after make ws)) R (u ∷ us) (u ∷ []) us refl
             (λ ws s. turns-next last fn p shrinks t u ws ∙ rw e)
             (last-says last (after make) (λ k r ws. R k r (u ∷ ws)) t us
-            (λ yes k. rw yes (trailing (h k) (said u make e))) (behind-says t vs u make (said u make e) h us step))
+            (λ yes k. rw yes (trailing (h k) (said u make e))) (operator-says t vs u make (said u make e) h us step))
 
     pub chain-tells : Tells (chain last fn p) (λ k. Ended last op (S k))
     unfolding chain turns

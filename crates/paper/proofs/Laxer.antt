@@ -9,7 +9,7 @@ use lib.ListN.{length}
 use native.Mathlib.Omega.{arith}
 use Rattle.paper.specs.Tokens.{plain, bytes, sameBytes, Sign, join, comparison, prefix, opening, closing, colons, Tok, word, numeral, string, sign, Token, sequel, implies, orElse, andAlso}
 use Rattle.paper.specs.Addresses.{Scheme, schemeOf}
-use Rattle.paper.specs.Grammar.{Tree, number, key, field, truth, attribute, got, stuck, Out, ends, deep, bad, _>>>_, Parser, Make, Reader, onceWith, onceMore, once, behind, moreWith, more, chain, joins, compares, implication, sequence, isSign, closed, named, addressWith, addressAt, addressed, opensAddress, keyed, worded, signed, operandAt, operand, prefixes, finished, whole}
+use Rattle.paper.specs.Grammar.{Tree, number, key, field, truth, attribute, got, stuck, Out, ends, deep, bad, _>>>_, Parser, Make, Reader, onceWith, onceMore, once, afterOperator, moreWith, more, chain, joins, compares, implication, sequence, isSign, closed, named, addressWith, addressAt, addressed, opensAddress, keyed, worded, signed, operandAt, operand, prefixes, finished, whole}
 
 -- what is kept: always trees and stuck answers, and the other two under two conditions
 abbrev pub Keeps : Type 0 → Type 0 → Out → Out → Type 0
@@ -48,11 +48,11 @@ module _ (Nine Ten : Type 0) where
     once-keeps = record { keeps = λ ts. keeps-then (p ts) (q ts) _ _ (kept .keeps ts) once-more }
 
     module _ (last : Bool) where
-      behind-keeps : (last : Bool) (t : Tree) (us : List Token) (o o′ : Out) → Keeps Nine Ten o o′
-          → Keeps Nine Ten (behind last t us o) (behind last t us o′)
-      behind-keeps false t us o o′ h = h
-      behind-keeps true t [] o o′ h = refl
-      behind-keeps true t (u ∷ us) o o′ h = h
+      operator-keeps : (last : Bool) (t : Tree) (us : List Token) (o o′ : Out) → Keeps Nine Ten o o′
+          → Keeps Nine Ten (afterOperator last t us o) (afterOperator last t us o′)
+      operator-keeps false t us o o′ h = h
+      operator-keeps true t [] o o′ h = refl
+      operator-keeps true t (u ∷ us) o o′ h = h
 
       more-with : (t : Tree) (u : Token) (us : List Token) (o : Option Make) (f g : Make → Out)
           → ((make : Make) → Keeps Nine Ten (f make) (g make)) → Keeps Nine Ten (moreWith t u us o f) (moreWith t u us o g)
@@ -65,7 +65,7 @@ module _ (Nine Ten : Type 0) where
       more-keeps (suc n) t [] = refl
       more-keeps (suc n) t (u ∷ us) =
           more-with t u us (op u) _ _
-          (λ make. behind-keeps last t us _ _
+          (λ make. operator-keeps last t us _ _
           (keeps-then (p us) (q us) _ _ (kept .keeps us) (λ r vs. more-keeps n (make t r) vs)))
 
       chain-keeps : Kept (chain last op p) (chain last op q)
@@ -85,22 +85,22 @@ module _ (Nine Ten : Type 0) where
       (none-kept : Ten → (s : Scheme) (q : List ℕ) → read s q ≡ none → read′ s q ≡ none) where
     addressed-keeps : (s : Scheme) (at : ℕ) (us : List Token) → Keeps Nine Ten (addressed read s at us) (addressed read′ s at us)
     addressed-keeps s at [] = refl
-    addressed-keeps s at (u ∷ us) = behind-opening (u .tok)
+    addressed-keeps s at (u ∷ us) = after-opening (u .tok)
       where
         string-keeps : (q : List ℕ) (o : Option ℕ) → read s q ≡ o
             → Keeps Nine Ten (addressWith o at u us) (addressWith (read′ s q) at u us)
         string-keeps q none e = λ c. rw (none-kept c s q e)
         string-keeps q (some n) e = rw (some-kept s q n e) (keeps-same (closed (number at (plain n)) us))
 
-        behind-opening : (x : Tok) → Keeps Nine Ten (addressAt read s at x u us) (addressAt read′ s at x u us)
-        behind-opening (word w) = refl
-        behind-opening (numeral n) = refl
-        behind-opening (string q) = string-keeps q (read s q) refl
-        behind-opening (sign g) = refl
+        after-opening : (x : Tok) → Keeps Nine Ten (addressAt read s at x u us) (addressAt read′ s at x u us)
+        after-opening (word w) = refl
+        after-opening (numeral n) = refl
+        after-opening (string q) = string-keeps q (read s q) refl
+        after-opening (sign g) = refl
 
     keyed-keeps : (at : ℕ) (w : List ℕ) (us : List Token) → Keeps Nine Ten (keyed read at w us) (keyed read′ at w us)
     keyed-keeps at w [] = refl
-    keyed-keeps at w (u ∷ us) = behind-word (isSign colons (u .tok)) (isSign opening (u .tok))
+    keyed-keeps at w (u ∷ us) = after-word (isSign colons (u .tok)) (isSign opening (u .tok))
       where
         opening-keeps : (o : Option Scheme) → Keeps Nine Ten (opensAddress read o at w u us) (opensAddress read′ o at w u us)
         opening-keeps none = refl
@@ -109,21 +109,21 @@ module _ (Nine Ten : Type 0) where
         tested : Reader → Bool → Bool → Out
         tested r c o = cond c (named (field at w) us) (cond o (opensAddress r (schemeOf w) at w u us) (ends (got (key at w)) (u ∷ us)))
 
-        behind-word : (c o : Bool) → Keeps Nine Ten (tested read c o) (tested read′ c o)
-        behind-word true o = keeps-same (named (field at w) us)
-        behind-word false true = opening-keeps (schemeOf w)
-        behind-word false false = refl
+        after-word : (c o : Bool) → Keeps Nine Ten (tested read c o) (tested read′ c o)
+        after-word true o = keeps-same (named (field at w) us)
+        after-word false true = opening-keeps (schemeOf w)
+        after-word false false = refl
 
     worded-keeps : (at : ℕ) (w : List ℕ) (us : List Token) → Keeps Nine Ten (worded read at w us) (worded read′ at w us)
-    worded-keeps at w us = behind-tests (sameBytes w (bytes "true")) (sameBytes w (bytes "false"))
+    worded-keeps at w us = after-tests (sameBytes w (bytes "true")) (sameBytes w (bytes "false"))
       where
         tested : Reader → Bool → Bool → Out
         tested r a b = cond a (ends (got (truth at true)) us) (cond b (ends (got (truth at false)) us) (keyed r at w us))
 
-        behind-tests : (a b : Bool) → Keeps Nine Ten (tested read a b) (tested read′ a b)
-        behind-tests true b = refl
-        behind-tests false true = refl
-        behind-tests false false = keyed-keeps at w us
+        after-tests : (a b : Bool) → Keeps Nine Ten (tested read a b) (tested read′ a b)
+        after-tests true b = refl
+        after-tests false true = refl
+        after-tests false false = keyed-keeps at w us
 
     module _ (inner inner′ outer outer′ : ℕ → Parser) (inner-kept : (at : ℕ) → Kept (inner at) (inner′ at))
         (outer-kept : (at : ℕ) → Kept (outer at) (outer′ at)) where

@@ -135,10 +135,10 @@ pub program-length : (blocks : List ℕ) (i n : ℕ) → length (instructionsFro
 program-length blocks i zero = refl
 program-length blocks i (suc n) = ap suc (program-length blocks (i + 1) n)
 
-held-behind : (ks : List Key) (e : Entry) (front rest : List (Option Instruction)) (held : List Value)
+held-after : (ks : List Key) (e : Entry) (front rest : List (Option Instruction)) (held : List Value)
     → valuesAlong ks e (front ++ rest) ≡ ends held → HeldBehind ks e front
 unfolding valuesAlong
-held-behind ks e front rest held h =
+held-after ks e front rest held h =
     let f = actionOf (valueAction ks e) in
     let u = walk-front (map f front) (map f rest) 0 [] held (rw (← map-append f front rest) h) in
     record { held = u .0; there = u .1; few = walk-few (map f front) 0 [] (u .0) (omega arith) (u .1) }
@@ -153,5 +153,5 @@ loaded-runs ks blocks n h e covers =
       count = program-length blocks 0 (totalOf blocks) ∙ (cc);
       bit = c .0;
       to = c .1;
-      along = λ front rest p. held-behind ks e front rest (truth (c .0) ∷ []) (rw p (c .1));
+      along = λ front rest p. held-after ks e front rest (truth (c .0) ∷ []) (rw p (c .1));
     }

@@ -45,32 +45,32 @@ module _ (total keys k : ℕ) (code : List Instruction) (few : length code ≤ i
   body =
       bigEndian 2 k ++ bigEndian 2 count ++ encodeAll code ++ zeros ++ bigEndian 2 total ++ bigEndian 2 keys
 
-  abbrev pub behindZeros : List ℕ → List ℕ
-  behindZeros rest = bigEndian 2 total ++ (bigEndian 2 keys ++ rest)
+  abbrev pub afterZeros : List ℕ → List ℕ
+  afterZeros rest = bigEndian 2 total ++ (bigEndian 2 keys ++ rest)
 
-  abbrev pub behindCode : List ℕ → List ℕ
-  behindCode rest = zeros ++ behindZeros rest
+  abbrev pub afterCode : List ℕ → List ℕ
+  afterCode rest = zeros ++ afterZeros rest
 
-  abbrev pub behindHead : List ℕ → List ℕ
-  behindHead rest = encodeAll code ++ behindCode rest
+  abbrev pub afterHead : List ℕ → List ℕ
+  afterHead rest = encodeAll code ++ afterCode rest
 
-  laid-out : (rest : List ℕ) → body ++ rest ≡ bigEndian 2 k ++ (bigEndian 2 count ++ behindHead rest)
+  laid-out : (rest : List ℕ) → body ++ rest ≡ bigEndian 2 k ++ (bigEndian 2 count ++ afterHead rest)
   laid-out rest = simp append-assoc
 
   zeros-length : length zeros ≡ 500 - instructionSize * count
   zeros-length = length-replicate (500 - instructionSize * count) 0
 
   module _ (s rest : List ℕ) (base : ℕ) (there : drop base s ≡ body ++ rest) where
-    pub at-count : drop (base + 2) s ≡ bigEndian 2 count ++ behindHead rest
+    pub at-count : drop (base + 2) s ≡ bigEndian 2 count ++ afterHead rest
     at-count = drop-on s (bigEndian 2 k) _ base (base + 2) (there ∙ laid-out rest) refl
 
-    pub at-code : drop (base + 4) s ≡ behindHead rest
+    pub at-code : drop (base + 4) s ≡ afterHead rest
     at-code = drop-on s (bigEndian 2 count) _ (base + 2) (base + 4) at-count (omega arith)
 
-    at-zeros : drop (base + 4 + instructionSize * count) s ≡ behindCode rest
+    at-zeros : drop (base + 4 + instructionSize * count) s ≡ afterCode rest
     at-zeros = drop-on s (encodeAll code) _ (base + 4) (base + 4 + instructionSize * count) at-code (rw row-length)
 
-    at-total : drop (base + 504) s ≡ behindZeros rest
+    at-total : drop (base + 504) s ≡ afterZeros rest
     at-total = drop-on s zeros _ (base + 4 + instructionSize * count) (base + 504) at-zeros (omega (arith, zeros-length))
 
     at-keys : drop (base + 506) s ≡ bigEndian 2 keys ++ rest

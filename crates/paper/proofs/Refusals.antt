@@ -122,8 +122,8 @@ module _ (ts : List Token) where
   valid-goes-on t (u ∷ us) n v s = refutes ts (s .taken) u us n (s .number) (t, us, rw append-assoc (rw (s .split) at v))
 
   -- tokens that one answer goes on with, no other stops at
-  not-behind : (us vs : List Token) (m n : ℕ) (s : Stops ts us m) (r : Stops ts vs n) → ¬ Further (s .taken) us (r .taken)
-  not-behind us vs m n s r (u, rest, more, e, d) =
+  not-after : (us vs : List Token) (m n : ℕ) (s : Stops ts us m) (r : Stops ts vs n) → ¬ Further (s .taken) us (r .taken)
+  not-after us vs m n s r (u, rest, more, e, d) =
       refutes ts (s .taken) u rest m (rw e at (s .number)) (continues-sooner Valid (s .taken) u more (rw d at (r .before)))
 
   one-stop : (us vs : List Token) (m n : ℕ) → Stops ts us m → Stops ts vs n → (us ≡ vs) × (m ≡ n)
@@ -131,7 +131,7 @@ module _ (ts : List Token) where
     where
       cut : (s .taken ≡ r .taken) × (us ≡ vs)
       cut =
-          sole-cut (s .taken) us (r .taken) vs (sym (s .split) ∙ r .split) (not-behind us vs m n s r) (not-behind vs us n m r s)
+          sole-cut (s .taken) us (r .taken) vs (sym (s .split) ∙ r .split) (not-after us vs m n s r) (not-after vs us n m r s)
 
   one-right : (size : ℕ) (a b : Answer Tree) → Right size ts a → Right size ts b → a ≡ b
   one-right size (ok t) (ok r) h g =

@@ -9,7 +9,7 @@ use lib.ListN.{length}
 use native.Mathlib.Nat.{le-refl}
 use native.Mathlib.Omega.{arith}
 use Rattle.paper.specs.Tokens.{Token}
-use Rattle.paper.specs.Grammar.{Tree, got, stuck, Out, ends, deep, bad, _>>>_, Parser, Make, behind, moreWith, more, chain}
+use Rattle.paper.specs.Grammar.{Tree, got, stuck, Out, ends, deep, bad, _>>>_, Parser, Make, afterOperator, moreWith, more, chain}
 
 -- a tree comes with at most so many tokens left
 abbrev pub Leaves : ℕ → Out → Type 0
@@ -54,15 +54,15 @@ module _ (last : Bool) (op : Token → Option Make) (p : Parser) where
     enough (suc n) zero t (u ∷ us) h k = absurd (omega arith)
     enough (suc n) (suc m) t (u ∷ us) h k =
         ap (moreWith t u us (op u))
-        (fun-ext λ make. ap (behind last t us)
+        (fun-ext λ make. ap (afterOperator last t us)
         (then-same (length us) (λ r vs. more last op p n (make t r) vs) (λ r vs. more last op p m (make t r) vs) (p us) (shrinks us)
         (λ r vs l. enough n m (make t r) vs (omega arith) (omega arith))))
 
     pub turns-next : (t : Tree) (u : Token) (us : List Token)
-        → turns t (u ∷ us) ≡ moreWith t u us (op u) (λ make. behind last t us (p us >>> λ r. turns (make t r)))
+        → turns t (u ∷ us) ≡ moreWith t u us (op u) (λ make. afterOperator last t us (p us >>> λ r. turns (make t r)))
     unfolding turns more
     turns-next t u us =
         ap (moreWith t u us (op u))
-        (fun-ext λ make. ap (behind last t us)
+        (fun-ext λ make. ap (afterOperator last t us)
         (then-same (length us) (λ r vs. more last op p (length us) (make t r) vs) (λ r. turns (make t r)) (p us) (shrinks us)
         (λ r vs l. enough (length us) (length vs) (make t r) vs l (le-refl _))))

@@ -48,33 +48,33 @@ abbrev Operator : ℕ → (Ty → Ty → Option Ty) → Answer Ty → Answer Ty 
 Operator at op x y n to = (a b : Ty) × (n ≡ 13) × (to ≡ at) × (x ≡ ok a) × (y ≡ ok b) × (op a b ≡ none)
 
 module _ (ks : List Key) where
-  abbrev Behind : Tree → ℕ → ℕ → Type 0
-  Behind (truth at b) n to = ⊥
-  Behind (number at m) n to = ⊥
-  Behind (key at w) n to = (n ≡ 11) × (to ≡ at) × (find ks w ≡ none)
-  Behind (field at w past f) n to =
+  abbrev FaultTells : Tree → ℕ → ℕ → Type 0
+  FaultTells (truth at b) n to = ⊥
+  FaultTells (number at m) n to = ⊥
+  FaultTells (key at w) n to = (n ≡ 11) × (to ≡ at) × (find ks w ≡ none)
+  FaultTells (field at w past f) n to =
       ((n ≡ 11) × (to ≡ at) × (find ks w ≡ none))
       ⊎ ((k : ℕ) × (n ≡ 12) × (to ≡ past) × (find ks w ≡ some k) × (andThen (fieldNamed f) (λ g. fieldType ks g k) ≡ none))
-  Behind (attribute at past f) n to = (n ≡ 12) × (to ≡ past) × (f ≢ bytes "priority")
-  Behind (prefixed at o t) n to =
+  FaultTells (attribute at past f) n to = (n ≡ 12) × (to ≡ past) × (f ≢ bytes "priority")
+  FaultTells (prefixed at o t) n to =
       ((a : Ty) × (n ≡ 13) × (to ≡ at) × (typeOf ks t ≡ ok a) × (prefixType o a ≡ none)) ⊎ TreeTypes ks t n to
-  Behind (joined at o l r) n to = Operator at joinType (typeOf ks l) (typeOf ks r) n to ⊎ (TreeTypes ks l n to ⊎ TreeTypes ks r n to)
-  Behind (compared at c l r) n to =
+  FaultTells (joined at o l r) n to = Operator at joinType (typeOf ks l) (typeOf ks r) n to ⊎ (TreeTypes ks l n to ⊎ TreeTypes ks r n to)
+  FaultTells (compared at c l r) n to =
       Operator at (comparisonType c) (typeOf ks l) (typeOf ks r) n to ⊎ (TreeTypes ks l n to ⊎ TreeTypes ks r n to)
 
-  behind : (t : Tree) (n to : ℕ) → TreeTypes ks t n to → Behind t n to
-  behind t n to (key-unknown at e) = (refl, refl, e)
-  behind t n to (key-of-field-unknown at past e) = inl (refl, refl, e)
-  behind t n to (field-unknown at past k e h) = inr (k, refl, refl, e, h)
-  behind t n to (attribute-unknown at past d) = (refl, refl, d)
-  behind t n to (prefix-wrong at o a e h) = inl (a, refl, refl, e, h)
-  behind t n to (join-wrong at o a b d e h) = inl (a, b, refl, refl, d, e, h)
-  behind t n to (comparison-wrong at c a b d e h) = inl (a, b, refl, refl, d, e, h)
-  behind t n to (in-operand at o h) = inr h
-  behind t n to (join-left at o h) = inr (inl h)
-  behind t n to (join-right at o h) = inr (inr h)
-  behind t n to (comparison-left at c h) = inr (inl h)
-  behind t n to (comparison-right at c h) = inr (inr h)
+  fault-tells : (t : Tree) (n to : ℕ) → TreeTypes ks t n to → FaultTells t n to
+  fault-tells t n to (key-unknown at e) = (refl, refl, e)
+  fault-tells t n to (key-of-field-unknown at past e) = inl (refl, refl, e)
+  fault-tells t n to (field-unknown at past k e h) = inr (k, refl, refl, e, h)
+  fault-tells t n to (attribute-unknown at past d) = (refl, refl, d)
+  fault-tells t n to (prefix-wrong at o a e h) = inl (a, refl, refl, e, h)
+  fault-tells t n to (join-wrong at o a b d e h) = inl (a, b, refl, refl, d, e, h)
+  fault-tells t n to (comparison-wrong at c a b d e h) = inl (a, b, refl, refl, d, e, h)
+  fault-tells t n to (in-operand at o h) = inr h
+  fault-tells t n to (join-left at o h) = inr (inl h)
+  fault-tells t n to (join-right at o h) = inr (inr h)
+  fault-tells t n to (comparison-left at c h) = inr (inl h)
+  fault-tells t n to (comparison-right at c h) = inr (inr h)
 
   -- a fault stands at one of the tree's places
   pub placed : (P : ℕ → Type 0) (t : Tree) (n to : ℕ) → TreeTypes ks t n to → Everywhere P t → P to
@@ -187,11 +187,11 @@ module _ (ks : List Key) where
   key-tells : (at : ℕ) (w : List ℕ) (o : Option ℕ) → find ks w ≡ o
       → Tells inText (TreeTypes ks (key at w)) (known at (andThen o (bareType ks)))
   key-tells at w none e =
-      (refl, only-wins (key-unknown at e) (λ m q f. let (d, h, _) = behind ks (key at w) m q f in (d, h)))
+      (refl, only-wins (key-unknown at e) (λ m q f. let (d, h, _) = fault-tells ks (key at w) m q f in (d, h)))
   key-tells at w (some k) e =
       let (a, there) = bare-found ks w k e in
       subst (λ o. Tells inText (TreeTypes ks (key at w)) (known at o)) (sym there)
-      (λ m q f. let (_, _, missing) = behind ks (key at w) m q f in Option·none-ne-some k (sym missing ∙ e))
+      (λ m q f. let (_, _, missing) = fault-tells ks (key at w) m q f in Option·none-ne-some k (sym missing ∙ e))
 
   module _ (at : ℕ) (w : List ℕ) (past : ℕ) (f : List ℕ) where
     abbrev F : Faults
@@ -200,15 +200,15 @@ module _ (ks : List Key) where
     abbrev fieldHas : ℕ → Option Ty
     fieldHas k = andThen (fieldNamed f) (λ g. fieldType ks g k)
 
-    unknown-only : find ks w ≡ none → (m q : ℕ) → Behind ks (field at w past f) m q → (m ≡ 11) × (q ≡ at)
+    unknown-only : find ks w ≡ none → (m q : ℕ) → FaultTells ks (field at w past f) m q → (m ≡ 11) × (q ≡ at)
     unknown-only e m q (inl (d, h, _)) = (d, h)
     unknown-only e m q (inr (k, _, _, found, _)) = absurd (Option·none-ne-some k (sym e ∙ found))
 
-    field-only : (k : ℕ) → find ks w ≡ some k → (m q : ℕ) → Behind ks (field at w past f) m q → (m ≡ 12) × (q ≡ past)
+    field-only : (k : ℕ) → find ks w ≡ some k → (m q : ℕ) → FaultTells ks (field at w past f) m q → (m ≡ 12) × (q ≡ past)
     field-only k e m q (inl (_, _, missing)) = absurd (Option·none-ne-some k (sym missing ∙ e))
     field-only k e m q (inr (j, d, h, _, _)) = (d, h)
 
-    field-free : (k : ℕ) (a : Ty) → find ks w ≡ some k → fieldHas k ≡ some a → (m q : ℕ) → Behind ks (field at w past f) m q → ⊥
+    field-free : (k : ℕ) (a : Ty) → find ks w ≡ some k → fieldHas k ≡ some a → (m q : ℕ) → FaultTells ks (field at w past f) m q → ⊥
     field-free k a e there m q (inl (_, _, missing)) = Option·none-ne-some k (sym missing ∙ e)
     field-free k a e there m q (inr (j, _, _, found, nothing)) =
         let same : j ≡ k = Option·some-injective j k (sym found ∙ e) in
@@ -216,38 +216,38 @@ module _ (ks : List Key) where
 
     field-tells : (o : Option ℕ) → find ks w ≡ o → Tells inText F (known at o >>= λ k. namedType past (fieldHas k))
     field-tells none e =
-        (refl, only-wins (key-of-field-unknown at past e) (λ m q h. unknown-only e m q (behind ks (field at w past f) m q h)))
+        (refl, only-wins (key-of-field-unknown at past e) (λ m q h. unknown-only e m q (fault-tells ks (field at w past f) m q h)))
     field-tells (some k) e = go (fieldHas k) refl
       where
         go : (o : Option Ty) → fieldHas k ≡ o → Tells inText F (namedType past o)
-        go none h = (refl, only-wins (field-unknown at past k e h) (λ m q g. field-only k e m q (behind ks (field at w past f) m q g)))
-        go (some a) h = λ m q g. field-free k a e h m q (behind ks (field at w past f) m q g)
+        go none h = (refl, only-wins (field-unknown at past k e h) (λ m q g. field-only k e m q (fault-tells ks (field at w past f) m q g)))
+        go (some a) h = λ m q g. field-free k a e h m q (fault-tells ks (field at w past f) m q g)
 
   attribute-tells : (at past : ℕ) (f : List ℕ) (b : Bool) → sameBytes f (bytes "priority") ≡ b
       → Tells inText (TreeTypes ks (attribute at past f)) (namedType past (when b int))
   attribute-tells at past f true e =
-      λ m q h. let (_, _, other) = behind ks (attribute at past f) m q h in other (same-bytes f (bytes "priority") e)
+      λ m q h. let (_, _, other) = fault-tells ks (attribute at past f) m q h in other (same-bytes f (bytes "priority") e)
   attribute-tells at past f false e =
       let other = attribute-unknown at past (not-bytes f (bytes "priority") e) in
-      (refl, only-wins other (λ m q h. let (d, g, _) = behind ks (attribute at past f) m q h in (d, g)))
+      (refl, only-wins other (λ m q h. let (d, g, _) = fault-tells ks (attribute at past f) m q h in (d, g)))
 
   types-tell : (t : Tree) → InOrder t → Tells inText (TreeTypes ks t) (typeOf ks t)
   unfolding typeOf
-  types-tell (truth at b) o = λ m q h. behind ks (truth at b) m q h
-  types-tell (number at n) o = λ m q h. behind ks (number at n) m q h
+  types-tell (truth at b) o = λ m q h. fault-tells ks (truth at b) m q h
+  types-tell (number at n) o = λ m q h. fault-tells ks (number at n) m q h
   types-tell (key at w) o = key-tells at w (find ks w) refl
   types-tell (field at w to f) o = field-tells at w to f (find ks w) refl
   types-tell (attribute at to f) o = attribute-tells at to f (sameBytes f (bytes "priority")) refl
   types-tell (prefixed at o t) h =
       prefix-tells (TreeTypes ks t) (TreeTypes ks (prefixed at o t)) at (prefixType o) (typeOf ks t)
-      (prefix-wrong at o) (λ n to. in-operand at o) (behind ks (prefixed at o t)) (types-tell t h)
+      (prefix-wrong at o) (λ n to. in-operand at o) (fault-tells ks (prefixed at o t)) (types-tell t h)
   types-tell (joined at o l r) h =
       operator-tells (TreeTypes ks l) (TreeTypes ks r) (TreeTypes ks (joined at o l r)) at joinType (typeOf ks l) (typeOf ks r)
-      (join-wrong at o) (λ n to. join-left at o) (λ n to. join-right at o) (behind ks (joined at o l r))
+      (join-wrong at o) (λ n to. join-left at o) (λ n to. join-right at o) (fault-tells ks (joined at o l r))
       (apart ks l r (h .0)) (types-tell l (h .1)) (types-tell r (h .2))
   types-tell (compared at c l r) h =
       operator-tells (TreeTypes ks l) (TreeTypes ks r) (TreeTypes ks (compared at c l r)) at (comparisonType c) (typeOf ks l) (typeOf ks r)
-      (comparison-wrong at c) (λ n to. comparison-left at c) (λ n to. comparison-right at c) (behind ks (compared at c l r))
+      (comparison-wrong at c) (λ n to. comparison-left at c) (λ n to. comparison-right at c) (fault-tells ks (compared at c l r))
       (apart ks l r (h .0)) (types-tell l (h .1)) (types-tell r (h .2))
 
   -- 14

@@ -7,7 +7,7 @@ use lib.ListN.{length}
 use lib.Dec.{eqb}
 use Rattle.paper.specs.Tokens.{Literal, plain, bytes, sameBytes, undotted, Prefix, Join, Comparison, Sign, join, comparison, prefix, opening, closing, colons, Tok, word, numeral, string, sign, Token}
 use Rattle.paper.specs.Addresses.{Scheme, schemeOf}
-use Rattle.paper.specs.Grammar.{Tree, truth, number, key, field, attribute, prefixed, joined, compared, got, stuck, Out, ends, deep, bad, _>>>_, Parser, Make, joinNo, signJoins, signCompares, bySign, onceWith, onceMore, once, behind, moreWith, more, chain, isSign, closed, nameAt, named, Reader, addressWith, addressAt, addressed, opensAddress, keyed, worded, signed, operandAt, operand}
+use Rattle.paper.specs.Grammar.{Tree, truth, number, key, field, attribute, prefixed, joined, compared, got, stuck, Out, ends, deep, bad, _>>>_, Parser, Make, joinNo, signJoins, signCompares, bySign, onceWith, onceMore, once, afterOperator, moreWith, more, chain, isSign, closed, nameAt, named, Reader, addressWith, addressAt, addressed, opensAddress, keyed, worded, signed, operandAt, operand}
 use Rattle.paper.proofs.Basics.{If}
 use Rattle.paper.proofs.TokenNumbers.{Good, AllGood}
 
@@ -83,10 +83,10 @@ module _ (P R : Tree → Type 0) (op : Token → Option Make) (p : Parser) (yiel
   unfolding once
   once-yields m ts gs = got-then P R (p ts) (onceMore op p) (yields ts gs) (once-more m)
 
-  behind-got : (last : Bool) (t : Tree) (us : List Token) (o : Out) → R t → AllGood us → Got R o → Got R (behind last t us o)
-  behind-got false t us o h gs k = k
-  behind-got true t [] o h gs k = (h, tt)
-  behind-got true t (u ∷ us) o h gs k = k
+  operator-got : (last : Bool) (t : Tree) (us : List Token) (o : Out) → R t → AllGood us → Got R o → Got R (afterOperator last t us o)
+  operator-got false t us o h gs k = k
+  operator-got true t [] o h gs k = (h, tt)
+  operator-got true t (u ∷ us) o h gs k = k
 
   more-with : (t : Tree) (u : Token) (us : List Token) (o : Option Make) (go : Make → Out) → R t → Good (u .tok) → AllGood us
       → If (Makes R P R) o → ((make : Make) → Makes R P R make → Got R (go make)) → Got R (moreWith t u us o go)
@@ -101,7 +101,7 @@ module _ (P R : Tree → Type 0) (op : Token → Option Make) (p : Parser) (yiel
   more-yields m last (suc n) t (u ∷ us) h gs =
       more-with t u us (op u) _ h (gs .0) (gs .1) (m u)
       (λ make makes.
-      behind-got last t us _ h (gs .1)
+      operator-got last t us _ h (gs .1)
       (got-then P R (p us) _ (yields us (gs .1)) (λ r vs k all. more-yields m last n (make t r) vs (makes t r h k) all)))
 
   pub chain-yields : ((u : Token) → If (Makes R P R) (op u)) → (last : Bool) → Yields R (chain last op p)

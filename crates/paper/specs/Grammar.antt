@@ -125,10 +125,10 @@ once op p ts = p ts >>> onceMore op p
 -- p, p operator p, p operator p operator p, .., joined from the left; `last` where the text may also end after an operator.
 -- At each turn p takes a token, so the tokens that are left bound the turns.
 
-abbrev pub behind : Bool → Tree → List Token → Out → Out
-behind false t us o = o
-behind true t [] o = ends (got t) []
-behind true t (u ∷ us) o = o
+abbrev pub afterOperator : Bool → Tree → List Token → Out → Out
+afterOperator false t us o = o
+afterOperator true t [] o = ends (got t) []
+afterOperator true t (u ∷ us) o = o
 
 abbrev pub moreWith : Tree → Token → List Token → Option Make → (Make → Out) → Out
 moreWith t u us none go = ends (got t) (u ∷ us)
@@ -138,7 +138,7 @@ unfoldable pub more : Bool → (Token → Option Make) → Parser → ℕ → Tr
 more last op p zero t us = ends (got t) us
 more last op p (suc n) t [] = ends (got t) []
 more last op p (suc n) t (u ∷ us) =
-    moreWith t u us (op u) (λ make. behind last t us (p us >>> λ r vs. more last op p n (make t r) vs))
+    moreWith t u us (op u) (λ make. afterOperator last t us (p us >>> λ r vs. more last op p n (make t r) vs))
 
 unfoldable pub chain : Bool → (Token → Option Make) → Parser → Parser
 unfolding more

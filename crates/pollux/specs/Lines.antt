@@ -30,14 +30,14 @@ pub record LineOf (text : List ℕ) (at : ℕ) (line : Line) : Type 0 where
   pub starts : (line .from ≡ 0) ⊎ (getD text (line .from - 1) 0 ≡ 10)
   pub ends : EndsAt text (line .from) (span (inRun LineRun) (drop (line .from) text)) (line .to)
   pub before : line .from ≤ at
-  pub behind : at ≤ line .to
+  pub past : at ≤ line .to
   pub counted : line .number ≡ suc (breaks (take (line .from) text))
 
 -- at most 100 columns of a line, the place among them or directly after them
 pub record Window (line : Line) (at : ℕ) (shown : Stretch) : Type 0 where
   pub inside : line .from ≤ shown .from
   pub before : shown .from ≤ at
-  pub behind : at ≤ shown .to
+  pub past : at ≤ shown .to
   pub within : shown .to ≤ line .to
   pub narrow : shown .to ≤ shown .from + 100
 

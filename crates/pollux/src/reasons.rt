@@ -6,7 +6,7 @@ use spelling::runs::Run;
 use spelling::runs::run_end;
 
 // The offset after the line that starts at an offset, and after its line feed.
-fn behind_line(s: &[u8], at: usize) -> usize
+fn after_line(s: &[u8], at: usize) -> usize
     requires { ⌜ at ≤ length (now s) ⌝ }
     ensures { λ r. ⌜ (at ≤ r) × (r ≤ length (now (s .entry))) ⌝ }
 {
@@ -19,10 +19,10 @@ fn say_line(table: &[u8], n: u8) {
     let mut from = 0;
     let mut left = n;
     while 1 < left {
-        from = behind_line(table, from);
+        from = after_line(table, from);
         left -= 1;
     }
-    let to = behind_line(table, from);
+    let to = after_line(table, from);
     say(&table[from..to])
 }
 

@@ -14,7 +14,7 @@ use Rattle.tokens.specs.Tape.{Tape, tapeOf, Room, rowAt, Has, rowOf, tok
 use Rattle.tokens.specs.Tokenized.{Cut, SpansOn}
 use Rattle.tokens.specs.declared.found.Found.{Found}
 use Rattle.tokens.specs.declared.found.Found.the-variants as F
-use Rattle.tokens.proofs.Steps.{behind, behind-one, blank-step, token-step, full-step, no-step, large-step, end-step}
+use Rattle.tokens.proofs.Steps.{following, following-one, blank-step, token-step, full-step, no-step, large-step, end-step}
 use Rattle.tokens.proofs.Storing.{tokens-stored, spans-stored}
 
 -- what the paper scans at a byte
@@ -26,12 +26,12 @@ pub record Going (T : Tape) (n at : ℕ) : Type 0 where
   pub few : n ≤ mostTokens
   pub taken : n ≤ at
   pub inside : at ≤ length (T .text)
-  pub says : behind (tokensOn T 0 n) (tokensFrom 0 at (mostTokens - n) (drop at (T .text))) ≡ tokens (T .text)
+  pub says : following (tokensOn T 0 n) (tokensFrom 0 at (mostTokens - n) (drop at (T .text))) ≡ tokens (T .text)
   pub placed : (i : ℕ) → i < n → SpansOn T i
 
-behind-none : (a : Answer (List Token)) → behind [] a ≡ a
-behind-none (ok ts) = refl
-behind-none (refused k i at) = refl
+following-none : (a : Answer (List Token)) → following [] a ≡ a
+following-none (ok ts) = refl
+following-none (refused k i at) = refl
 
 pub going-start : (T : Tape) → Going T 0 0
 unfolding tokensOn tokens
@@ -40,13 +40,13 @@ going-start T =
       few = omega arith;
       taken = omega arith;
       inside = omega arith;
-      says = behind-none (tokensFrom 0 0 mostTokens (T .text));
+      says = following-none (tokensFrom 0 0 mostTokens (T .text));
       placed = λ i h. absurd (omega arith);
     }
 
 module _ (text rows : List ℕ) (n at : ℕ) (g : Going (tapeOf text rows) n at) (h : at < length text) where
-  from-here : (a : Answer (List Token)) → tokensFrom 0 at (mostTokens - n) (drop at text) ≡ a → behind (tokensOn (tapeOf text rows) 0 n) a ≡ tokens text
-  from-here a e = ap (behind (tokensOn (tapeOf text rows) 0 n)) (sym e) ∙ g .says
+  from-here : (a : Answer (List Token)) → tokensFrom 0 at (mostTokens - n) (drop at text) ≡ a → following (tokensOn (tapeOf text rows) 0 n) a ≡ tokens text
+  from-here a e = ap (following (tokensOn (tapeOf text rows) 0 n)) (sym e) ∙ g .says
 
   pub going-blank : (v end : ℕ) → Here text at v (F.Blank end) → Going (tapeOf text rows) n end
   going-blank v end w =
@@ -74,8 +74,8 @@ module _ (text rows : List ℕ) (n at : ℕ) (g : Going (tapeOf text rows) n at)
         taken = omega (arith, g .taken, w .ends .taken);
         inside = w .ends .inside;
         says =
-            ap (λ (ts : List Token). behind ts rest) (tokens-stored text rows after n kind at end m room put)
-            ∙ sym (behind-one (tokensOn (tapeOf text rows) 0 n) _ rest)
+            ap (λ (ts : List Token). following ts rest) (tokens-stored text rows after n kind at end m room put)
+            ∙ sym (following-one (tokensOn (tapeOf text rows) 0 n) _ rest)
             ∙ from-here _ (ap (λ k. tokensFrom 0 at k (drop at text)) e ∙ step);
         placed = spans-stored text rows after n kind at end m room put (w .ends) (g .placed);
       }
@@ -98,7 +98,7 @@ module _ (T : Tape) (n at : ℕ) (g : Going T n at) where
   pub going-end : length (T .text) ≤ at → ok (tokensOn T 0 n) ≡ tokens (T .text)
   going-end h =
       ap ok (sym (append-nil (tokensOn T 0 n)))
-      ∙ ap (behind (tokensOn T 0 n)) (sym (end-step (T .text) at (mostTokens - n) h)) ∙ g .says
+      ∙ ap (following (tokensOn T 0 n)) (sym (end-step (T .text) at (mostTokens - n) h)) ∙ g .says
 
   pub going-cut : Cut T n
   going-cut = record { few = g .few; short = omega (arith, g .taken, g .inside); spans = g .placed }

@@ -29,14 +29,14 @@ module _ (s : List ℕ) (at : ℕ) where
       record { says = rw (cut s (at + 1) h, eq-eqb _ _ e, m); ends = omega arith }
 
 module _ (s : List ℕ) (at end : ℕ) (f : EndsAt s (at + 1) (span (inRun Quoted) (drop (at + 1) s)) end) where
-  behind : drop (span (inRun Quoted) (drop (at + 1) s)) (drop (at + 1) s) ≡ drop end s
-  behind = drop-drop (span (inRun Quoted) (drop (at + 1) s)) (at + 1) s ∙ ap (λ k. drop k s) (sym (f .far))
+  after-run : drop (span (inRun Quoted) (drop (at + 1) s)) (drop (at + 1) s) ≡ drop end s
+  after-run = drop-drop (span (inRun Quoted) (drop (at + 1) s)) (at + 1) s ∙ ap (λ k. drop k s) (sym (f .far))
 
   pub string-open : length s ≤ end → Stands s at 0 (scanString (drop (at + 1) s)) NoToken
-  string-open h = record { says = rw (behind, drop-of-length-le s h); ends = tt }
+  string-open h = record { says = rw (after-run, drop-of-length-le s h); ends = tt }
 
   pub string-broken : end < length s → (getD s end 0 ≡ 39 → ⊥) → Stands s at 0 (scanString (drop (at + 1) s)) NoToken
-  string-broken h e = record { says = rw (behind, cut s end h, ne-eqb _ _ e); ends = tt }
+  string-broken h e = record { says = rw (after-run, cut s end h, ne-eqb _ _ e); ends = tt }
 
   pub string-closed : end < length s → getD s end 0 ≡ 39 → Stands s at 0 (scanString (drop (at + 1) s)) (Token 2 (end + 1))
   string-closed h e =
@@ -44,4 +44,4 @@ module _ (s : List ℕ) (at end : ℕ) (f : EndsAt s (at + 1) (span (inRun Quote
       let m : end + 1 - (at + 1) ≡ suc n = omega arith in
       let k : end + 1 - 1 - (at + 1) ≡ n = omega arith in
       let p : slice (at + 1) (end + 1 - 1) s ≡ take n (drop (at + 1) s) = sym (part-slice (at + 1) (end + 1 - 1) s (omega arith)) ∙ ap (λ i. take i (drop (at + 1) s)) k in
-      record { says = rw (behind, cut s end h, eq-eqb _ _ e) (ap₂ (λ l i. token (string l) i) p m); ends = omega arith }
+      record { says = rw (after-run, cut s end h, eq-eqb _ _ e) (ap₂ (λ l i. token (string l) i) p m); ends = omega arith }

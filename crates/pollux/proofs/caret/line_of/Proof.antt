@@ -51,7 +51,7 @@ returns c =
       starts = i .1;
       ends = i .2;
       before = i .0;
-      behind = search needs;
+      past = search needs;
       counted = omega (arith, breaks-split (l .from) text, i .4);
     }
 

@@ -1,8 +1,8 @@
--- Levels of the ladder: "p, or p operator p", and "p, p operator p, ..". One law for each outcome.
+-- Rungs of the ladder: "p, or p operator p", and "p, p operator p, ..", as one form. One law for each outcome.
 use Prim.Native.Nat.{ℕ, zero, suc, _+_, _-_, _≤_, _<_}
-use mathlib.Core.Path.{_≡_, refl, sym, ap, _∙_}
+use mathlib.Core.Path.{_≡_, refl, sym, ap, _∙_, subst}
 use mathlib.Core.Bool.{Bool, true, false, _&&_, true≢false}
-use mathlib.Core.Option.{none}
+use mathlib.Core.Option.{Option, none, some}
 use mathlib.Core.List.{List, [], _∷_, _++_}
 use native.Mathlib.Omega.{arith}
 use borrow.Author.Tests.{eqb-true, eqb-false}
@@ -11,10 +11,13 @@ use lib.Seq.{sets, length-sets}
 use lib.Dec.{eqb}
 use Rattle.paper.specs.Tokens.{Token}
 use Rattle.paper.specs.Grammar as G
-use Rattle.paper.specs.Grammar.{Tree, Out, got, Parser, _>>>_, onceMore, afterOperator}
+use Rattle.paper.specs.Grammar.{Tree, Out, got, stuck, deep, bad, Parser, Make, _>>>_, onceWith, onceMore, afterOperator}
 use Rattle.tokens.specs.Tape.{Tape, tokensOn}
 use Rattle.trees.specs.Words.{words, operatorWords, Spelled}
 use Rattle.trees.proofs.Stored.{words-length}
+use Rattle.grammar.specs.declared.steps.Rung.{Rung}
+use Rattle.grammar.specs.declared.steps.Rung.the-variants as R
+use Rattle.grammar.specs.Ladder as L
 use Rattle.grammar.specs.Places.{placeOn, onward, past, nodeAt, joinedKind}
 use Rattle.grammar.specs.Reading.{Built, Took}
 use Rattle.grammar.proofs.Tapes.{tokens-here, tokens-none, length-tokens}
@@ -42,52 +45,65 @@ built-joined {b = b} {f = f} {g = g} {before = before} {mid = mid} {after = afte
       inside = r .inside;
     }
 
--- p, or p operator p
+-- a rung as one form: its first operand, and so many turns of an operator and an operand, one or as many as there are tokens
 
-module _ (op : Operator) (p : Parser) (ts : List Token) {T : Tape} {n at b : ℕ} {before mid : List ℕ} {f i : ℕ} where
-  pub once-stop : Took T n at b (p ts) before mid f i → Apart T n i op → Took T n at b (G.once op p ts) before mid f i
-  unfolding G.once
-  once-stop h e = record { tree = h .tree; out = stop (onward T n i) (h .out) e; spelled = h .spelled; built = h .built }
-    where
-      stop : (us : List Token) → p ts ≡ G.ends (got (h .tree)) us → first op us ≡ none
-          → (p ts >>> onceMore op p) ≡ G.ends (got (h .tree)) us
-      stop [] h e = rw h
-      stop (u ∷ us) h e = rw (h, e)
+abbrev pub turnsOf : Bool → List Token → ℕ
+turnsOf true us = 1
+turnsOf false us = length us
 
-  module _ (h : Took T n at b (p ts) before mid f i) {k : ℕ} (J : Joining T n i op k) where
-    once-more : G.once op p ts ≡ (p (past T n i) >>> λ r vs. G.ends (got (J .make (h .tree) r)) vs)
-    unfolding G.once
-    once-more = rw (h .out, tokens-here T n i (J .here), J .told)
+abbrev pub Runs : Bool → Bool → Operator → Parser → List Token → Out → Type 0
+Runs once top op p ts o = o ≡ (p ts >>> λ t us. G.more top op p (turnsOf once us) t us)
 
-    pub once-second : Up (length (T .text)) (p (past T n i)) (G.once op p ts)
-    once-second = rw once-more (refuses (length (T .text)) (p (past T n i)) _)
+once-more : (op : Operator) (p : Parser) (t : Tree) (us : List Token) → onceMore op p t us ≡ G.more false op p 1 t us
+unfolding G.more
+once-more op p t [] = refl
+once-more op p t (u ∷ us) = go (op u)
+  where
+    go : (m : Option Make) → onceWith p t u us m ≡ G.moreWith t u us m (λ make. p us >>> λ r vs. G.ends (got (make t r)) vs)
+    go none = refl
+    go (some make) = refl
 
-    pub once-both : {after last : List ℕ} {g j : ℕ} → Took T n (i + 1) f (p (past T n i)) mid after g j
-        → last ≡ sets after (nodeAt g) (operatorWords (joinedKind k) (placeOn T i) (f - 1)) → Took T n at b (G.once op p ts) before last (g + 1) j
-    once-both r put =
-        record {
-          tree = J .make (h .tree) (r .tree);
-          out = once-more ∙ rw (r .out);
-          spelled = J .spelled (h .tree) (r .tree) (h .spelled) (r .spelled);
-          built = built-joined (h .built) J (r .built) put;
-        }
+then-same : (o : Out) (f g : Tree → List Token → Out) → ((t : Tree) (us : List Token) → f t us ≡ g t us) → (o >>> f) ≡ (o >>> g)
+then-same (G.ends (got t) us) f g e = e t us
+then-same (G.ends stuck us) f g e = refl
+then-same (deep at) f g e = refl
+then-same (bad at) f g e = refl
 
-pub once-first : (size : ℕ) (op : Operator) (p : Parser) (ts : List Token) → Up size (p ts) (G.once op p ts)
+once-runs : (op : Operator) (p : Parser) (ts : List Token) → Runs true false op p ts (G.once op p ts)
 unfolding G.once
-once-first size op p ts = refuses size (p ts) (onceMore op p)
+once-runs op p ts = then-same (p ts) (onceMore op p) _ (once-more op p)
 
--- p, p operator p, p operator p operator p, ..
-
-pub chain-first : (size : ℕ) (top : Bool) (op : Operator) (p : Parser) (ts : List Token) → Up size (p ts) (G.chain top op p ts)
+chain-runs : (top : Bool) (op : Operator) (p : Parser) (ts : List Token) → Runs false top op p ts (G.chain top op p ts)
 unfolding G.chain
-chain-first size top op p ts = refuses size (p ts) (λ t us. G.more top op p (length us) t us)
+chain-runs top op p ts = refl
 
--- what is left of a chain once its tokens up to i are read; at each turn a token goes, and as many turns are left as tokens
-pub record Going (T : Tape) (n : ℕ) (top : Bool) (op : Operator) (p : Parser) (at b : ℕ) (o : Out) (before after : List ℕ) (f i : ℕ)
+pub rung-runs : (rung : Rung) (levels : ℕ) (ts : List Token)
+    → Runs (L.atMostOnce rung) (L.mayEnd rung) (L.operators rung) (L.operandOf rung levels) ts (L.rungOf rung levels ts)
+rung-runs R.Whole levels ts = chain-runs _ _ _ ts
+rung-runs R.Sequence levels ts = chain-runs _ _ _ ts
+rung-runs R.Implication levels ts = once-runs _ _ ts
+rung-runs R.Disjunction levels ts = chain-runs _ _ _ ts
+rung-runs R.Conjunction levels ts = chain-runs _ _ _ ts
+rung-runs R.Comparison levels ts = once-runs _ _ ts
+
+pub rung-first : (size : ℕ) (rung : Rung) (levels : ℕ) (ts : List Token) → Up size (L.operandOf rung levels ts) (L.rungOf rung levels ts)
+rung-first size rung levels ts = rw (rung-runs rung levels ts) (refuses size (L.operandOf rung levels ts) _)
+
+-- the turns that are left after the tokens up to i are read
+abbrev pub Left : Bool → ℕ → ℕ → ℕ → Type 0
+Left true n i turns = turns ≡ 1
+Left false n i turns = n ≤ i + turns
+
+some-left : (once : Bool) {n i turns : ℕ} → Left once n i turns → i < n → turns ≡ suc (turns - 1)
+some-left true e h = omega arith
+some-left false e h = omega arith
+
+-- what is left of a rung once its tokens up to i are read
+pub record Going (T : Tape) (n : ℕ) (once top : Bool) (op : Operator) (p : Parser) (at b : ℕ) (o : Out) (before after : List ℕ) (f i : ℕ)
     : Type 0 where
   pub tree : Tree
   pub turns : ℕ
-  pub enough : n ≤ i + turns
+  pub enough : Left once n i turns
   pub out : o ≡ G.more top op p turns tree (onward T n i)
   pub spelled : Spelled (T .text) tree
   pub built : Built n at b before after tree f i
@@ -99,6 +115,10 @@ more-stop top op p zero t us e = refl
 more-stop top op p (suc m) t [] e = refl
 more-stop top op p (suc m) t (u ∷ us) e = rw e
 
+more-none : (top : Bool) (op : Operator) (p : Parser) (m : ℕ) (t : Tree) (us : List Token) → m ≡ 0 → G.more top op p m t us ≡ G.ends (got t) us
+unfolding G.more
+more-none top op p m t us e = rw e
+
 -- where the text does not end after the operator
 operator-on : (top : Bool) (T : Tape) (n i : ℕ) (t : Tree) (o : Out) → i ≤ n → (top && eqb i n) ≡ false
     → afterOperator top t (onward T n i) o ≡ o
@@ -109,28 +129,31 @@ both : (s t : Bool) → (s && t) ≡ true → (s ≡ true) × (t ≡ true)
 both true t e = (refl, e)
 both false t e = absurd (true≢false (sym e))
 
-module _ {T : Tape} {n : ℕ} {top : Bool} {op : Operator} {p : Parser} {at b : ℕ} where
-  pub going-start : (ts : List Token) {before after : List ℕ} {f i : ℕ} → Took T n at b (p ts) before after f i
-      → Going T n top op p at b (G.chain top op p ts) before after f i
-  unfolding G.chain
-  going-start ts {i = i} h =
+module _ {T : Tape} {n : ℕ} {once top : Bool} {op : Operator} {p : Parser} {at b : ℕ} where
+  pub going-start : (ts : List Token) {o : Out} {before after : List ℕ} {f i : ℕ} → Runs once top op p ts o → Took T n at b (p ts) before after f i
+      → Going T n once top op p at b o before after f i
+  going-start ts {i = i} e h =
       record {
         tree = h .tree;
         spelled = h .spelled;
-        turns = length (onward T n i);
-        enough = omega (arith, length-tokens T i (n - i));
-        out = rw (h .out);
+        turns = turnsOf once (onward T n i);
+        enough = start once;
+        out = e ∙ rw (h .out);
         built = h .built;
       }
+    where
+      start : (once : Bool) → Left once n i (turnsOf once (onward T n i))
+      start true = refl
+      start false = omega (arith, length-tokens T i (n - i))
 
-  module _ {o : Out} {before after : List ℕ} {f i : ℕ} (w : Going T n top op p at b o before after f i) where
+  module _ {o : Out} {before after : List ℕ} {f i : ℕ} (w : Going T n once top op p at b o before after f i) where
     pub going-stop : Apart T n i op → Took T n at b o before after f i
     going-stop e =
         record { tree = w .tree; spelled = w .spelled; out = w .out ∙ more-stop top op p (w .turns) _ _ e; built = w .built }
 
     module _ {k : ℕ} (J : Joining T n i op k) where
       left : w .turns ≡ suc (w .turns - 1)
-      left = omega (arith, w .enough, J .here)
+      left = some-left once (w .enough) (J .here)
 
       turn : (m : ℕ) → w .turns ≡ suc m
           → o ≡ afterOperator top (w .tree) (past T n i) (p (past T n i) >>> λ r vs. G.more top op p m (J .make (w .tree) r) vs)
@@ -162,29 +185,49 @@ module _ {T : Tape} {n : ℕ} {top : Bool} {op : Operator} {p : Parser} {at b : 
         pub going-next : Up (length (T .text)) (p (past T n i)) o
         going-next = rw going-more (refuses (length (T .text)) (p (past T n i)) _)
 
-        pub going-on : {mid last : List ℕ} {g j : ℕ} → Took T n (i + 1) f (p (past T n i)) after mid g j
-            → last ≡ sets mid (nodeAt g) (operatorWords (joinedKind k) (placeOn T i) (f - 1)) → Going T n top op p at b o before last (g + 1) j
-        going-on r put =
-            record {
-              tree = J .make (w .tree) (r .tree);
-              spelled = J .spelled (w .tree) (r .tree) (w .spelled) (r .spelled);
-              turns = w .turns - 1;
-              enough = omega (arith, w .enough, w .built, r .built, J .here);
-              out = going-more ∙ rw (r .out);
-              built = built-joined (w .built) J (r .built) put;
-            }
+        module _ {mid last : List ℕ} {g j : ℕ} (r : Took T n (i + 1) f (p (past T n i)) after mid g j)
+            (put : last ≡ sets mid (nodeAt g) (operatorWords (joinedKind k) (placeOn T i) (f - 1)))
+          where
+            joined-out : o ≡ G.more top op p (w .turns - 1) (J .make (w .tree) (r .tree)) (onward T n j)
+            joined-out = going-more ∙ rw (r .out)
 
--- what a loop over a chain keeps, from where it begins: the nodes' number, how far it is, and whatever the chain comes to
-pub record Turned (T : Tape) (n : ℕ) (top : Bool) (op : Operator) (p : Parser) (at b : ℕ) (start : List ℕ) (f₀ i₀ : ℕ) (nodes : List ℕ) (f i : ℕ)
+            joined-spelled : Spelled (T .text) (J .make (w .tree) (r .tree))
+            joined-spelled = J .spelled (w .tree) (r .tree) (w .spelled) (r .spelled)
+
+            -- the only turn
+            pub going-last : once ≡ true → Took T n at b o before last (g + 1) j
+            going-last e =
+                let one : w .turns ≡ 1 = subst (λ (s : Bool). Left s n i (w .turns)) e (w .enough) in
+                record {
+                  tree = J .make (w .tree) (r .tree);
+                  spelled = joined-spelled;
+                  out = joined-out ∙ more-none top op p (w .turns - 1) _ _ (omega arith);
+                  built = built-joined (w .built) J (r .built) put;
+                }
+
+            pub going-on : once ≡ false → Going T n once top op p at b o before last (g + 1) j
+            going-on e =
+                let enough : n ≤ i + w .turns = subst (λ (s : Bool). Left s n i (w .turns)) e (w .enough) in
+                record {
+                  tree = J .make (w .tree) (r .tree);
+                  spelled = joined-spelled;
+                  turns = w .turns - 1;
+                  enough = subst (λ (s : Bool). Left s n j (w .turns - 1)) (sym e) (omega (arith, w .built, r .built, J .here));
+                  out = joined-out;
+                  built = built-joined (w .built) J (r .built) put;
+                }
+
+-- what the loop over a rung keeps, from where it begins: the nodes' number, how far it is, and whatever the rung comes to
+pub record Turned (T : Tape) (n : ℕ) (once top : Bool) (op : Operator) (p : Parser) (at b : ℕ) (start : List ℕ) (f₀ i₀ : ℕ) (nodes : List ℕ) (f i : ℕ)
     : Type 0 where
   pub kept : length nodes ≡ length start
   pub grown : b < f
   pub moved : f + at ≤ i + b
   pub inside : i ≤ n
-  pub going : (o : Out) (before : List ℕ) → Going T n top op p at b o before start f₀ i₀ → Going T n top op p at b o before nodes f i
+  pub going : (o : Out) (before : List ℕ) → Going T n once top op p at b o before start f₀ i₀ → Going T n once top op p at b o before nodes f i
 
-module _ {T : Tape} {n : ℕ} {top : Bool} {op : Operator} {p : Parser} {at b : ℕ} where
-  pub turned-start : {o : Out} {before nodes : List ℕ} {f i : ℕ} → Took T n at b o before nodes f i → Turned T n top op p at b nodes f i nodes f i
+module _ {T : Tape} {n : ℕ} {once top : Bool} {op : Operator} {p : Parser} {at b : ℕ} where
+  pub turned-start : {o : Out} {before nodes : List ℕ} {f i : ℕ} → Took T n at b o before nodes f i → Turned T n once top op p at b nodes f i nodes f i
   turned-start h =
       record {
         kept = refl;
@@ -194,15 +237,16 @@ module _ {T : Tape} {n : ℕ} {top : Bool} {op : Operator} {p : Parser} {at b : 
         going = λ o before w. w;
       }
 
-  module _ {start nodes : List ℕ} {f₀ i₀ f i : ℕ} (w : Turned T n top op p at b start f₀ i₀ nodes f i) where
-    pub turned-on : {k : ℕ} → Joining T n i op k → (top && eqb (i + 1) n) ≡ false → {mid last : List ℕ} {g j : ℕ} → Took T n (i + 1) f (p (past T n i)) nodes mid g j
-        → last ≡ sets mid (nodeAt g) (operatorWords (joinedKind k) (placeOn T i) (f - 1)) → Turned T n top op p at b start f₀ i₀ last (g + 1) j
-    turned-on J on {mid} {last} {g} r put =
+  module _ {start nodes : List ℕ} {f₀ i₀ f i : ℕ} (w : Turned T n once top op p at b start f₀ i₀ nodes f i) where
+    pub turned-on : {k : ℕ} → Joining T n i op k → (top && eqb (i + 1) n) ≡ false → once ≡ false → {mid last : List ℕ} {g j : ℕ}
+        → Took T n (i + 1) f (p (past T n i)) nodes mid g j → last ≡ sets mid (nodeAt g) (operatorWords (joinedKind k) (placeOn T i) (f - 1))
+        → Turned T n once top op p at b start f₀ i₀ last (g + 1) j
+    turned-on J on many {mid} {last} {g} r put =
         record {
           kept =
               (ap length put ∙ simp length-sets) ∙ (ap length (r .built .stored) ∙ simp length-sets) ∙ w .kept;
           grown = omega (arith, w .grown, r .built);
           moved = omega (arith, w .moved, r .built);
           inside = r .built .inside;
-          going = λ o before v. going-on (w .going o before v) J on r put;
+          going = λ o before v. going-on (w .going o before v) J on r put many;
         }

@@ -1,7 +1,6 @@
 // The ladder, from the loosest level to the tightest. A rung reads its first operand by the next tighter one, goes on
-// while its operator is the next token, and passes every refusal up. It has one of two forms: a chain of any number of
-// operators, or one operator at most. An atom starts the ladder again inside parentheses, after a token and with a level
-// less.
+// while its operator is the next token, and passes every refusal up: any number of operators, or one at most. An atom
+// starts the ladder again inside parentheses, after a token and with a level less.
 //
 // All of them take the tape, where to start, and the nodes.
 ghost use mathlib.Core.Path.{_≡_};
@@ -17,6 +16,7 @@ use crate::leaves::leaf;
 use crate::steps::Rung;
 use crate::steps::Start;
 use crate::steps::Taken;
+use crate::steps::Tighter;
 use crate::store::put_joined;
 use crate::store::put_prefixed;
 use crate::tape::Next;
@@ -71,25 +71,49 @@ fn ends_after(rung: Rung, at: usize, count: usize) -> bool
     }
 }
 
-// An operand of a rung, which the next tighter rung reads.
+// Whether a rung has one operator at most.
+fn at_most_once(rung: Rung) -> bool
+    ensures { λ r. ⌜ r ≡ L.atMostOnce rung ⌝ }
+{
+    match rung {
+        Rung::Whole => false,
+        Rung::Sequence => false,
+        Rung::Implication => true,
+        Rung::Disjunction => false,
+        Rung::Conjunction => false,
+        Rung::Comparison => true,
+    }
+}
+
+// What reads the operands of a rung: the next tighter one, and prefix operators at last.
+fn tighter(rung: Rung) -> Tighter
+    ensures { λ r. ⌜ r ≡ L.tighter rung ⌝ }
+{
+    match rung {
+        Rung::Whole => Tighter::Rung(Rung::Implication),
+        Rung::Sequence => Tighter::Rung(Rung::Implication),
+        Rung::Implication => Tighter::Rung(Rung::Disjunction),
+        Rung::Disjunction => Tighter::Rung(Rung::Conjunction),
+        Rung::Conjunction => Tighter::Rung(Rung::Comparison),
+        Rung::Comparison => Tighter::Prefix,
+    }
+}
+
+// An operand of a rung.
 fn operand(text: &[u8], tape: &[u32], rung: Rung, from: Start, nodes: &mut [u32]) -> Taken
     requires { ⌜ Ready (tapeOf (now text) (now tape)) (length (now nodes)) from ⌝ }
     ensures { λ r. ⌜ Reads (L.operandOf rung) (tapeOf (now (text .entry)) (now (tape .entry))) from (now (nodes .entry)) (now (nodes .exit)) r ⌝ }
 {
-    match rung {
-        Rung::Whole => once(text, tape, Rung::Implication, from, nodes),
-        Rung::Sequence => once(text, tape, Rung::Implication, from, nodes),
-        Rung::Implication => chain(text, tape, Rung::Disjunction, from, nodes),
-        Rung::Disjunction => chain(text, tape, Rung::Conjunction, from, nodes),
-        Rung::Conjunction => once(text, tape, Rung::Comparison, from, nodes),
-        Rung::Comparison => prefix(text, tape, from, nodes),
-    }
+    let Tighter::Rung(next) = tighter(rung) else {
+        return prefix(text, tape, from, nodes);
+    };
+    chain(text, tape, next, from, nodes)
 }
 
-// Operands with operators between them, joined from the left.
+// Operands with operators of a rung between them, joined from the left.
 pub(crate) fn chain(text: &[u8], tape: &[u32], rung: Rung, from: Start, nodes: &mut [u32]) -> Taken
     requires { ⌜ Ready (tapeOf (now text) (now tape)) (length (now nodes)) from ⌝ }
-    ensures { λ r. ⌜ Reads (L.chainOf rung) (tapeOf (now (text .entry)) (now (tape .entry))) from (now (nodes .entry)) (now (nodes .exit)) r ⌝ }
+    ensures { λ r. ⌜ Reads (L.rungOf rung) (tapeOf (now (text .entry)) (now (tape .entry))) from (now (nodes .entry)) (now (nodes .exit)) r ⌝ }
 {
     let first = operand(text, tape, rung, from, nodes);
     let Taken::Tree(f, i) = first else {
@@ -110,30 +134,12 @@ pub(crate) fn chain(text: &[u8], tape: &[u32], rung: Rung, from: Start, nodes: &
             return more;
         };
         put_joined(tape, nodes, end, sign, next, past - 1);
+        if at_most_once(rung) {
+            return Taken::Tree(end + 1, rest);
+        }
         past = end + 1;
         next = rest;
     }
-}
-
-// One operand, or two with an operator between them.
-fn once(text: &[u8], tape: &[u32], rung: Rung, from: Start, nodes: &mut [u32]) -> Taken
-    requires { ⌜ Ready (tapeOf (now text) (now tape)) (length (now nodes)) from ⌝ }
-    ensures { λ r. ⌜ Reads (L.onceOf rung) (tapeOf (now (text .entry)) (now (tape .entry))) from (now (nodes .entry)) (now (nodes .exit)) r ⌝ }
-{
-    let first = operand(text, tape, rung, from, nodes);
-    let Taken::Tree(past, next) = first else {
-        return first;
-    };
-    let Next::Is(sign) = operator_at(tape, rung, from.count, next) else {
-        return first;
-    };
-    let onward = from.moved(next + 1, past);
-    let second = operand(text, tape, rung, onward, nodes);
-    let Taken::Tree(end, rest) = second else {
-        return second;
-    };
-    put_joined(tape, nodes, end, sign, next, past - 1);
-    Taken::Tree(end + 1, rest)
 }
 
 // An operand after any number of "!" and "-". With no level left, only a leaf.

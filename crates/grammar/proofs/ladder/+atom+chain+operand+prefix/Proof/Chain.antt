@@ -1,20 +1,20 @@
--- The answers of `chain`. The invariant of its loop (`Turned`): whatever the chain comes to from the first operand on, it comes to from
--- the tree of all operands that are read. At each turn an operator of the rung is the next token, which goes, or the chain ends.
-use Prim.Native.Nat.{ℕ}
+-- The answers of `chain`. The invariant of its loop (`Turned`): whatever the rung comes to from the first operand on, it comes to from
+-- the tree of all operands that are read. At each turn an operator of the rung is the next token, which goes, or the chain ends; of
+-- a rung with one operator at most the first turn is the last.
+use Prim.Native.Nat.{ℕ, _+_, _^_, _<_}
 use native.Mathlib.Omega.{arith}
 use mathlib.Core.Path.{_≡_, sym, _∙_}
 use mathlib.Core.Bool.{false, _&&_}
 use borrow.Author.Needs.{needs}
 use lib.Dec.{eqb}
-use Prim.Native.Nat.{_+_}
 use Rattle.grammar.specs.declared.steps.Rung.{Rung}
 use Rattle.grammar.specs.Ladder as L
 use Rattle.grammar.proofs.Outcomes.{took, found, absent, pass-up, ready-on, started, has-row}
 use Rattle.grammar.proofs.Operators.{operating, no-operator, operators-low, operators-high}
-use Rattle.grammar.proofs.Levels.{chain-first, going-start, going-stop, going-end, going-next, turned-start, turned-on}
+use Rattle.grammar.proofs.Levels.{rung-runs, rung-first, going-start, going-stop, going-end, going-next, going-last, turned-start, turned-on}
 use Rattle.grammar.proofs.ladder.chain.Reads as chain
-use Rattle.grammar.proofs.ladder.+atom+chain+once+operand+prefix.Lts-chain as lts
-use Rattle.grammar.proofs.ladder.+atom+chain+once+operand+prefix.Proof.Common.{chain-at, chain-calls, chain-Inv-loop, chain-μ-loop}
+use Rattle.grammar.proofs.ladder.+atom+chain+operand+prefix.Lts-chain as lts
+use Rattle.grammar.proofs.ladder.+atom+chain+operand+prefix.Proof.Common.{chain-at, chain-calls, chain-Inv-loop, chain-μ-loop}
 
 module _ (t : ℕ) where
   -- where the first operand has been read; and from there what the function was given
@@ -33,7 +33,7 @@ module _ (t : ℕ) where
   first-refused : lts.Need-returns (chain-calls t) (chain-at t) chain.Post chain-Inv-loop chain-μ-loop
   first-refused c =
       let first : First = c .before .before .before .before in
-      pass-up _ _ _ _ _ _ _ _ _ _ _ _ (chain-first _ _ _ _ _) (first .operand .result) (c .enum-told .given .1) (first .operand .ensures)
+      pass-up _ _ _ _ _ _ _ _ _ _ _ _ (rung-first _ (rung first) _ _) (first .operand .result) (c .enum-told .given .1) (first .operand .ensures)
 
   -- where it is a tree
   abbrev Read : Type 0
@@ -61,7 +61,7 @@ module _ (t : ℕ) where
       let turn : Turn = looked .before in
       let first = turn-first turn in
       let h = took (first .operand .ensures) (turn .before .before .first .given .1) in
-      let w = turn .loop .inv .going _ _ (going-start _ h) in
+      let w = turn .loop .inv .going _ _ (going-start _ (rung-runs (rung first) _ _) h) in
       going-stop w (no-operator _ _ _ (rung first) (absent _ _ _ _ _ (looked .operator-at .ensures) (c .enum-told2 .given .1)))
 
   stopped-kept : lts.Need-same-length-2 (chain-calls t) (chain-at t) chain.Post chain-Inv-loop chain-μ-loop
@@ -99,7 +99,7 @@ module _ (t : ℕ) where
       let turn = operator-turn at-operator in
       let first = turn-first turn in
       let h = took (first .operand .ensures) (turn .before .before .first .given .1) in
-      let w = turn .loop .inv .going _ _ (going-start _ h) in
+      let w = turn .loop .inv .going _ _ (going-start _ (rung-runs (rung first) _ _) h) in
       let f = found (at-operator .before .before .before .operator-at .ensures) (at-operator .before .sign .given .1) in
       going-end w (operating _ _ _ (rung first) f) (sym (c .before .ends-after .ensures) ∙ c .if1 .taken)
 
@@ -139,7 +139,7 @@ module _ (t : ℕ) where
       let turn = operator-turn at-operator in
       let first = turn-first turn in
       let h = took (first .operand .ensures) (turn .before .before .first .given .1) in
-      let w = turn .loop .inv .going _ _ (going-start _ h) in
+      let w = turn .loop .inv .going _ _ (going-start _ (rung-runs (rung first) _ _) h) in
       let f = found (at-operator .before .before .before .operator-at .ensures) (at-operator .before .sign .given .1) in
       pass-up _ _ _ _ _ _ _ _ _ _ _ _ (going-next w (operating _ _ _ (rung first) f) (goes-on onward)) (more .operand2 .result) (c .enum-told3 .given .1)
       (started (L.operandOf (rung first)) _ _ _ (more .operand2 .result) (more .before .before .moved .ensures) (more .operand2 .ensures))
@@ -182,18 +182,52 @@ module _ (t : ℕ) where
   abbrev joined-both : Joined → Both
   joined-both c = c .before .before
 
-  end-fits : lts.Need-add-past (chain-calls t) (chain-at t) chain.Post chain-Inv-loop chain-μ-loop
+  abbrev joined-more : Joined → More
+  joined-more c = both-more (joined-both c)
+
+  abbrev joined-turn : Joined → Turn
+  joined-turn c = operator-turn (onward-operator (more-onward (joined-more c)))
+
+  -- where it is asked whether that was the only turn
+  abbrev Asked : Type 0
+  Asked = lts.After-at-most-once (chain-calls t) (chain-at t) chain.Post chain-Inv-loop chain-μ-loop
+
+  abbrev asked-joined : Asked → Joined
+  asked-joined c = c .before .before .before
+
+  end-fits : (c : Joined) → let both = joined-both c in both .before .more .given .0 .0 + 1 < 2 ^ 64
   end-fits c =
-      let both = joined-both (c .before .before) in
+      let both = joined-both c in
       let more = both-more both in
-      let turn = operator-turn (onward-operator (more-onward more)) in
+      let turn = joined-turn c in
       let first = turn-first turn in
       let k = took (started (L.operandOf (rung first)) _ _ _ (more .operand2 .result) (more .before .before .moved .ensures) (more .operand2 .ensures)) (both .before .more .given .1) in
       omega (arith, turn .loop .inv .moved, k .built, start first .pre .1 .used, start first .pre .1 .sound .cut .few)
 
+  last-kept : lts.Need-same-length-5 (chain-calls t) (chain-at t) chain.Post chain-Inv-loop chain-μ-loop
+  last-kept c =
+      let joined = asked-joined (c .before) in
+      let turn = joined-turn joined in
+      omega (arith, turn-first turn .operand .kept, turn .loop .inv .kept, joined-more joined .operand2 .kept, joined .put-joined .kept)
+
+  only-turn : lts.Need-returns-5 (chain-calls t) (chain-at t) chain.Post chain-Inv-loop chain-μ-loop
+  only-turn c =
+      let joined = asked-joined (c .before) in
+      let both = joined-both joined in
+      let more = both-more both in
+      let onward = more-onward more in
+      let at-operator = onward-operator onward in
+      let turn = operator-turn at-operator in
+      let first = turn-first turn in
+      let h = took (first .operand .ensures) (turn .before .before .first .given .1) in
+      let w = turn .loop .inv .going _ _ (going-start _ (rung-runs (rung first) _ _) h) in
+      let f = found (at-operator .before .before .before .operator-at .ensures) (at-operator .before .sign .given .1) in
+      let k = took (started (L.operandOf (rung first)) _ _ _ (more .operand2 .result) (more .before .before .moved .ensures) (more .operand2 .ensures)) (both .before .more .given .1) in
+      going-last w (operating _ _ _ (rung first) f) (goes-on onward) k (joined .put-joined .ensures) (sym (c .before .at-most-once .ensures) ∙ c .if2 .taken)
+
   turn-takes : lts.Need-loop-less (chain-calls t) (chain-at t) chain.Post chain-Inv-loop chain-μ-loop
   turn-takes c =
-      let both = joined-both (c .before .before) in
+      let both = joined-both (asked-joined (c .before)) in
       let more = both-more both in
       let at-operator = onward-operator (more-onward more) in
       let first = operator-first at-operator in
@@ -203,7 +237,7 @@ module _ (t : ℕ) where
 
   turned : lts.Need-loop-again (chain-calls t) (chain-at t) chain.Post chain-Inv-loop chain-μ-loop
   turned c =
-      let joined : Joined = c .before .before in
+      let joined = asked-joined (c .before) in
       let both = joined-both joined in
       let more = both-more both in
       let onward = more-onward more in
@@ -212,7 +246,7 @@ module _ (t : ℕ) where
       let first = turn-first turn in
       let f = found (at-operator .before .before .before .operator-at .ensures) (at-operator .before .sign .given .1) in
       let k = took (started (L.operandOf (rung first)) _ _ _ (more .operand2 .result) (more .before .before .moved .ensures) (more .operand2 .ensures)) (both .before .more .given .1) in
-      turned-on (turn .loop .inv) (operating _ _ _ (rung first) f) (goes-on onward) k (joined .put-joined .ensures)
+      turned-on (turn .loop .inv) (operating _ _ _ (rung first) f) (goes-on onward) (sym (c .before .at-most-once .ensures) ∙ c .if2 .left) k (joined .put-joined .ensures)
 
 pub chain-closed : {M : Type 1} (t : ℕ) → lts.Closed (chain-calls t) (chain-at t) chain.Post M
 chain-closed t =
@@ -246,6 +280,10 @@ chain-closed t =
     (more-refused t)
     (some-node t)
     (node-fits t)
-    (end-fits t)
+    (λ c κs. search needs)
+    (λ c. let f = end-fits t (asked-joined t (c .before)) in search needs)
+    (last-kept t)
+    (only-turn t)
+    (λ c. let f = end-fits t (asked-joined t (c .before)) in search needs)
     (turn-takes t)
     (turned t)

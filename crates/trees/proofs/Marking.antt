@@ -85,7 +85,7 @@ module _ (nodes : List ℕ) (i key name : ℕ) where
 
   pub same-node : Names (leafAt nodes i) → (j : ℕ) → nodeAt after j ≡ nodeAt nodes j
   unfolding leafAt nodeAt
-  same-node h j = rw (kind-word j) (elim (decLt j i) [ | yes l ↦ elsewhere (λ e. omega arith) | no m ↦ elim (decLt i j) [ | yes l ↦ elsewhere (λ e. omega arith) | no l ↦ here (omega arith) ] ])
+  same-node h j = rw (kind-word j) (elim (decLt j i) [ yes l ↦ elsewhere (λ e. omega arith) | no m ↦ elim (decLt i j) [ yes l ↦ elsewhere (λ e. omega arith) | no l ↦ here (omega arith) ] ])
     where
       elsewhere : (j ≡ i → ⊥) → nodeOf (getD nodes (j * 8) 0) j (getD after (j * 8 + 2) 0) ≡ nodeOf (getD nodes (j * 8) 0) j (getD nodes (j * 8 + 2) 0)
       elsewhere d = rw (other-word (j * 8 + 2) (λ e. d (omega arith)) (λ e. omega arith))
@@ -96,9 +96,11 @@ module _ (nodes : List ℕ) (i key name : ℕ) where
   pub marked : i * 8 + 8 ≤ length nodes → operandAt after i ≡ operandOf (leafAt nodes i) key name
   unfolding operandAt
   marked room =
-      rw (same-leaf i,
-      getD-set-other (set nodes (i * 8 + 2) key) (i * 8 + 7) (i * 8 + 2) name 0 (λ e. omega arith) ∙ getD-set-same nodes (i * 8 + 2) key 0 (omega arith),
-      getD-set-same (set nodes (i * 8 + 2) key) (i * 8 + 7) name 0 (omega (arith, length-set nodes (i * 8 + 2) key)))
+      rw (
+        same-leaf i,
+        getD-set-other (set nodes (i * 8 + 2) key) (i * 8 + 7) (i * 8 + 2) name 0 (λ e. omega arith) ∙ getD-set-same nodes (i * 8 + 2) key 0 (omega arith),
+        getD-set-same (set nodes (i * 8 + 2) key) (i * 8 + 7) name 0 (omega (arith, length-set nodes (i * 8 + 2) key)),
+      )
 
   pub unmarked : (j : ℕ) → (j ≡ i → ⊥) → operandAt after j ≡ operandAt nodes j
   unfolding operandAt

@@ -3,7 +3,7 @@ use Prim.Native.Nat.{ℕ, zero, suc, _+_, _*_, _-_, _≤_, _<_}
 use native.Mathlib.Omega.{arith}
 use native.Mathlib.Decide.{decLt}
 use mathlib.Core.Path.{_≡_, refl, sym, _∙_, ap, ap₂}
-use mathlib.Core.Bool.{Bool, true, false}
+use mathlib.Core.Bool.{Bool, true, false, cond}
 use mathlib.Core.Option.{Option, none, some}
 use mathlib.Core.List.{List}
 use lib.ListN.{length, getD, set, length-set}
@@ -12,6 +12,7 @@ use lib.Dec.{eqb, ltb}
 use borrow.Author.Tests.{ne-eqb, lt-ltb}
 use Rattle.paper.specs.Code.{bit}
 use Rattle.paper.specs.Types as T
+use Rattle.paper.specs.Keys as P
 use Rattle.paper.specs.Grammar.{Tree}
 use Rattle.trees.specs.declared.node.Leaf.{Leaf}
 use Rattle.trees.specs.declared.node.Leaf.the-variants as L
@@ -20,7 +21,7 @@ use Rattle.trees.specs.declared.marks.Operand.{Operand}
 use Rattle.trees.specs.declared.marks.Operand.the-variants.{Key, Field}
 use Rattle.trees.specs.Nodes.{leafOf, leafAt, nodeOf, nodeAt, placeAt, leftOf}
 use Rattle.trees.specs.Standing.{treeOn, treeTo, treeAt}
-use Rattle.trees.specs.Marks.{operandOf, operandAt, keyMarked, fieldMarked, keyFound, fieldFound, keyMark, fieldMark, marking, Names}
+use Rattle.trees.specs.Marks.{operandOf, operandAt, keyMarked, fieldMarked, keyFound, fieldFound, keyMark, fieldMark, marking, Names, nameAt, NamedAt, Marked}
 
 -- the mark of a name is read as what it names
 
@@ -120,3 +121,25 @@ module _ (text before after : List ℕ) (nodes : (i : ℕ) → nodeAt after i �
     pub same-tree : (i : ℕ) → treeAt text after i ≡ treeAt text before i
     unfolding treeAt
     same-tree i = same-to (suc i) i
+
+-- a leaf's name stands where its sixth word says
+
+named-of : (a b c d : ℕ) (t n k f x : Bool) → NamedAt c
+    (cond t (L.Truth (eqb a 1)) (cond n (L.Number a b c d) (cond k (L.Key (record { from = a; to = b }))
+    (cond f (L.Field (record { from = a; to = b }) (record { from = c; to = d })) (cond x (L.Attribute (record { from = c; to = d })) (L.Truth false))))))
+named-of a b c d true n k f x = tt
+named-of a b c d false true k f x = tt
+named-of a b c d false false true f x = tt
+named-of a b c d false false false true x = refl
+named-of a b c d false false false false true = refl
+named-of a b c d false false false false false = tt
+
+pub named-at : (nodes : List ℕ) (i : ℕ) → NamedAt (nameAt nodes i) (leafAt nodes i)
+unfolding leafAt
+named-at nodes i =
+    let kind = getD nodes (i * 8) 0 in
+    named-of (getD nodes (i * 8 + 3) 0) (getD nodes (i * 8 + 4) 0) (nameAt nodes i) (getD nodes (i * 8 + 6) 0) (eqb kind 0) (eqb kind 1) (eqb kind 2) (eqb kind 3) (eqb kind 4)
+
+-- what holds of nodes below one number holds of those below a smaller one
+pub marked-below : (ks : List P.Key) (text nodes : List ℕ) {m n : ℕ} → m ≤ n → Marked ks text nodes n → Marked ks text nodes m
+marked-below ks text nodes l marked i h = marked i (omega arith)

@@ -13,7 +13,7 @@ use Rattle.paper.specs.Keys as P
 use Rattle.paper.specs.Keys.{find}
 use Rattle.paper.specs.Types as T
 use Rattle.paper.specs.Types.{fieldNamed}
-use Rattle.paper.specs.Code.{bit, fieldNo}
+use Rattle.paper.specs.Code.{fieldNo}
 use Rattle.trees.specs.declared.node.Leaf.{Leaf}
 use Rattle.trees.specs.declared.node.Leaf.the-variants as L
 use Rattle.trees.specs.declared.marks.Operand.{Operand}
@@ -89,3 +89,11 @@ Names (L.Number a b c d) = ⊥
 Names (L.Key w) = Unit {0}
 Names (L.Field w f) = Unit {0}
 Names (L.Attribute f) = Unit {0}
+
+-- the name of a leaf after "::" begins at a place
+abbrev pub NamedAt : ℕ → Leaf → Type 0
+NamedAt to (L.Truth b) = Unit {0}
+NamedAt to (L.Number a b c d) = Unit {0}
+NamedAt to (L.Key w) = Unit {0}
+NamedAt to (L.Field w f) = f .from ≡ to
+NamedAt to (L.Attribute f) = f .from ≡ to

@@ -9,7 +9,7 @@ use mathlib.Core.List.{List}
 use lib.ListN.{length, getD, set, length-set}
 use lib.Seq.{getD-set-same, getD-set-other}
 use lib.Dec.{eqb, ltb}
-use borrow.Author.Tests.{ne-eqb, lt-ltb}
+use borrow.Author.Tests.{ne-eqb, lt-ltb, ltb-false}
 use Rattle.paper.specs.Code.{bit}
 use Rattle.paper.specs.Types as T
 use Rattle.paper.specs.Keys as P
@@ -18,7 +18,7 @@ use Rattle.trees.specs.declared.node.Leaf.{Leaf}
 use Rattle.trees.specs.declared.node.Leaf.the-variants as L
 use Rattle.trees.specs.declared.node.Node.{Node}
 use Rattle.trees.specs.declared.marks.Operand.{Operand}
-use Rattle.trees.specs.declared.marks.Operand.the-variants.{Key, Field}
+use Rattle.trees.specs.declared.marks.Operand.the-variants as O
 use Rattle.trees.specs.Nodes.{leafOf, leafAt, nodeOf, nodeAt, placeAt, leftOf}
 use Rattle.trees.specs.Standing.{treeOn, treeTo, treeAt}
 use Rattle.trees.specs.Marks.{operandOf, operandAt, keyMarked, fieldMarked, keyFound, fieldFound, keyMark, fieldMark, marking, Names, nameAt, NamedAt, Marked}
@@ -143,3 +143,32 @@ named-at nodes i =
 -- what holds of nodes below one number holds of those below a smaller one
 pub marked-below : (ks : List P.Key) (text nodes : List ℕ) {m n : ℕ} → m ≤ n → Marked ks text nodes n → Marked ks text nodes m
 marked-below ks text nodes l marked i h = marked i (omega arith)
+
+-- there are five fields
+
+abbrev pub AField : Operand → Type 0
+AField (O.Truth b) = Unit {0}
+AField (O.Number a b c d) = Unit {0}
+AField (O.Key k) = Unit {0}
+AField (O.Field k f) = f < 5
+AField (O.Attribute b) = Unit {0}
+AField O.UnknownKey = Unit {0}
+AField O.UnknownField = Unit {0}
+
+either : (t : Bool) (x y : Operand) → AField x → (t ≡ false → AField y) → AField (cond t x y)
+either true x y h k = h
+either false x y h k = k refl
+
+field-of : (leaf : Leaf) (key name : ℕ) → AField (operandOf leaf key name)
+field-of (L.Truth b) key name = tt
+field-of (L.Number a b c d) key name = tt
+field-of (L.Key w) key name = either (eqb key 0) _ _ tt (λ h. tt)
+field-of (L.Field w f) key name =
+    either (eqb key 0) _ _ tt
+    (λ _. either (eqb name 0) _ _ tt
+    (λ _. either (ltb 5 name) _ (O.Field (key - 1) (name - 1)) tt (λ few. omega (arith, ltb-false 5 name few))))
+field-of (L.Attribute f) key name = tt
+
+pub a-field : (nodes : List ℕ) (i : ℕ) → AField (operandAt nodes i)
+unfolding operandAt
+a-field nodes i = field-of (leafAt nodes i) (getD nodes (i * 8 + 2) 0) (getD nodes (i * 8 + 7) 0)

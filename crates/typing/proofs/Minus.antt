@@ -1,7 +1,7 @@
 -- A node that is "-": its operand stands below it, and has its type.
 use Prim.Native.Nat.{ℕ, _-_, _<_}
 use mathlib.Core.Path.{_≡_, refl, sym, _∙_, ap}
-use mathlib.Core.Bool.{Bool, true, false}
+use mathlib.Core.Bool.{true, false≢true}
 use mathlib.Core.List.{List}
 use Rattle.paper.specs.Answers.{ok}
 use Rattle.paper.specs.Keys.{Key}
@@ -13,13 +13,13 @@ use Rattle.trees.specs.Nodes.{nodeAt, leafAt, placeAt}
 use Rattle.trees.specs.Standing.{treeAt}
 use Rattle.trees.proofs.Walks.{below, tree-at}
 use Rattle.typing.specs.Says.{isMinus}
-use Rattle.typing.proofs.Typable.{false-not-true, minus-typed}
+use Rattle.typing.proofs.Typable.{minus-typed}
 
 minus-is : (n : Node) → isMinus n ≡ true → n ≡ Before Minus
-minus-is Without h = absurd (false-not-true h)
-minus-is (Before Not) h = absurd (false-not-true h)
+minus-is Without h = absurd (false≢true h)
+minus-is (Before Not) h = absurd (false≢true h)
 minus-is (Before Minus) h = refl
-minus-is (Between o l) h = absurd (false-not-true h)
+minus-is (Between o l) h = absurd (false≢true h)
 
 pub minus-below : (nodes : List ℕ) (i : ℕ) → isMinus (nodeAt nodes i) ≡ true → 0 < i
 minus-below nodes i h = below nodes i (Before Minus) (sym (minus-is (nodeAt nodes i) h))

@@ -1,8 +1,7 @@
 -- What is known of a tree that has a type: its operands have types too, "-" has its operand's, and any other operator's is bool.
 use Prim.Native.Nat.{ℕ}
-use native.Mathlib.Omega.{arith}
 use mathlib.Core.Path.{_≡_, refl, sym, _∙_, ap}
-use mathlib.Core.Bool.{Bool, true, false, _&&_}
+use mathlib.Core.Bool.{Bool, true, false, _&&_, false≢true}
 use mathlib.Core.List.{List}
 use Rattle.paper.specs.Answers.{Answer, ok, _>>=_}
 use Rattle.paper.specs.Tokens.{Prefix, notSign, minusSign}
@@ -18,9 +17,6 @@ use Rattle.trees.specs.declared.node.Prefix.the-variants.{Not, Minus}
 use Rattle.trees.specs.Standing.{operatorOn, prefixMeant, comparisonMeant}
 use Rattle.typing.specs.Says.{operatorMade, isMinus}
 use Rattle.typing.proofs.Walked.{between}
-
-pub false-not-true : false ≡ true → ⊥
-false-not-true e = let z : _≡_ {A = ℕ} 0 1 = cc in omega arith
 
 -- a test that passes gives what it guards
 pub passed : (at : ℕ) (t : Bool) (x a : Ty) → operatorType at (when t x) ≡ ok a → (t ≡ true) × (x ≡ a)
@@ -45,7 +41,7 @@ module _ (ks : List Key) (at : ℕ) (a : Ty) where
   -- a prefix that is no "-"
   pub not-bool : (o : N.Prefix) (t : Tree) → isMinus (Before o) ≡ false → typeOf ks (prefixed at (prefixMeant o) t) ≡ ok a → bool ≡ a
   not-bool Not t h e = not-typed t e
-  not-bool Minus t h e = absurd (false-not-true (sym h))
+  not-bool Minus t h e = absurd (false≢true (sym h))
 
   -- both operands, and what the operator makes of their types
   pub operands-typed : (o : Operator) (l r : Tree) → typeOf ks (operatorOn at o l r) ≡ ok a

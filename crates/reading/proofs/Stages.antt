@@ -1,5 +1,5 @@
 -- From the answer of each stage to that of all.
-use Prim.Native.Nat.{ℕ, _-_, _≤_, _<_}
+use Prim.Native.Nat.{ℕ, _+_, _-_, _≤_, _<_}
 use native.Mathlib.Omega.{arith}
 use mathlib.Core.Path.{_≡_, sym, _∙_, ap, subst}
 use mathlib.Core.List.{List}
@@ -19,6 +19,9 @@ use Rattle.paper.specs.Calls.{tree, restriction}
 use Rattle.keys.specs.Says.{keysIn, keyCount}
 use Rattle.keys.proofs.Checked as K
 use Rattle.trees.specs.Standing.{treeAt}
+use Rattle.trees.specs.Marks.{Marked}
+use Rattle.trees.proofs.Marking.{same-tree}
+use Rattle.resolving.specs.Resolved.{Resolves}
 use Rattle.reading.specs.Grown.{Planted, Grows}
 use Rattle.reading.specs.Restricted.{Typed, Rooted, Types, Restricts}
 
@@ -40,22 +43,28 @@ module _ (text nodes : List ℕ) (r : Counted) (grows : Grows text nodes r) wher
     not-grown e =
         subst (Types text list nodes) (sym e) (ap (λ (x : Answer G.Tree). x >>= typed (keysIn list)) (subst (Grows text nodes) e grows))
 
-    module _ {m : ℕ} (e : r ≡ Count m) (c : Checking)
-        (says : checkingSays c ≡ typed (keysIn list) (treeAt text nodes (m - 1)))
-      where
-        pub not-typed : {n : ℕ} {p : Place} → c ≡ C.Refused n p → (tree text >>= typed (keysIn list)) ≡ refused n (inputOf p) (offsetOf p)
-        not-typed f = ap (λ (x : Answer G.Tree). x >>= typed (keysIn list)) (planted e .read) ∙ sym says ∙ ap checkingSays f
+-- marks change no tree
+pub still-planted : (text list before nodes : List ℕ) (m : ℕ) → Resolves (keysIn list) text before nodes m → Planted text before m → Planted text nodes m
+still-planted text list before nodes m marks p =
+    let same = same-tree text before nodes (marks .keeps .nodes) (marks .keeps .leaves) (marks .keeps .places) (m - 1) in
+    record { read = rw same (p .read); count = rw same (p .count); some = p .some; few = p .few; short = p .short }
 
-        pub right-types : c ≡ C.Passed → Typed text list nodes (m - 1)
-        right-types f =
-            let p = planted e in
-            record {
-              read = p .read;
-              checked = sym says ∙ ap checkingSays f;
-              count = omega (arith, p .count, p .some);
-              few = omega (arith, p .few, p .some);
-              short = omega (arith, p .short, p .some);
-            }
+module _ (text list nodes : List ℕ) (m : ℕ) (p : Planted text nodes m) (c : Checking)
+    (says : checkingSays c ≡ typed (keysIn list) (treeAt text nodes (m - 1)))
+  where
+    pub not-typed : {n : ℕ} {q : Place} → c ≡ C.Refused n q → (tree text >>= typed (keysIn list)) ≡ refused n (inputOf q) (offsetOf q)
+    not-typed f = ap (λ (x : Answer G.Tree). x >>= typed (keysIn list)) (p .read) ∙ sym says ∙ ap checkingSays f
+
+    pub right-types : Marked (keysIn list) text nodes (m - 1 + 1) → c ≡ C.Passed → Typed text list nodes (m - 1)
+    right-types marked f =
+        record {
+          read = p .read;
+          checked = sym says ∙ ap checkingSays f;
+          count = omega (arith, p .count, p .some);
+          few = omega (arith, p .few, p .some);
+          short = omega (arith, p .short, p .some);
+          marked = marked;
+        }
 
 -- 1; 2; 3 and 4; then these
 
@@ -75,7 +84,7 @@ module _ (text list : List ℕ) where
       not-listed nodes e = subst (Restricts text list nodes) (sym e) (short ∙ rw (K.not-listed list (sym says ∙ ap countedSays e)))
 
       module _ {n : ℕ} (e : l ≡ Count n) where
-        good : keys list ≡ ok (keysIn list)
+        pub good : keys list ≡ ok (keysIn list)
         good = K.listed list (sym says ∙ ap countedSays e) .0
 
         pub restricts : (nodes : List ℕ) (r : Counted) → Types text list nodes r

@@ -13,14 +13,16 @@ use Rattle.paper.specs.Types.{typed}
 use Rattle.paper.specs.Calls.{tree, restriction}
 use Rattle.keys.specs.Says.{keysIn}
 use Rattle.trees.specs.Standing.{treeAt}
+use Rattle.trees.specs.Marks.{Marked}
 
--- the tree at node k is the text's, and has the right types by the list's keys
+-- the tree at node k is the text's, has the right types by the list's keys, and the marks of its names
 pub record Typed (text list nodes : List ℕ) (k : ℕ) : Type 0 where
   pub read : tree text ≡ ok (treeAt text nodes k)
   pub checked : typed (keysIn list) (treeAt text nodes k) ≡ ok tt
   pub count : G.nodes (treeAt text nodes k) ≡ k + 1
   pub few : k < mostTokens
   pub short : k < length text
+  pub marked : Marked (keysIn list) text nodes (k + 1)
 
 -- and text and list pass
 pub record Rooted (text list nodes : List ℕ) (k : ℕ) : Type 0 where

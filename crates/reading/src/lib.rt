@@ -5,7 +5,8 @@
 // the one that the definition `tree` reads.
 //
 // `restrict` takes a key list too. It gives the first refusal that document 01 gives the two (1; 2; 3 and 4; 5 to 10; 11 to 14), or
-// how many nodes stand before the root, which is its number. What it promises is the definition `restriction`.
+// how many nodes stand before the root, which is its number. What it promises is the definition `restriction`. The names of the tree that
+// it leaves in `nodes` are resolved: each has its mark, for the walks that judge and translate it.
 ghost use mathlib.Core.Path.{_≡_};
 ghost use Prim.Native.Nat.{_≤_};
 ghost use lib.ListN.{length};
@@ -73,9 +74,10 @@ pub fn read_tree(text: &[u8], nodes: &mut [u32]) -> Counted
     read_long(text, nodes)
 }
 
-// Of a text that is not too long and a list that is good: 5 to 10; 11 to 14.
+// Of a text that is not too long and a list that is good: 5 to 10; 11 to 14. Names are resolved in between.
 fn typed_root(text: &[u8], list: &[u8], nodes: &mut [u32]) -> Counted
     requires { ⌜ length (now text) ≤ mostText ⌝ }
+    requires { ⌜ length (now list) ≤ 2560 ⌝ }
     requires { ⌜ Room (now text) (now nodes) ⌝ }
     ensures { λ r. ⌜ Types (now (text .entry)) (now (list .entry)) (now (nodes .exit)) r ⌝ }
 {
@@ -83,8 +85,9 @@ fn typed_root(text: &[u8], list: &[u8], nodes: &mut [u32]) -> Counted
     let Counted::Count(size) = grown else {
         return grown;
     };
+    resolving::resolve(text, list, nodes, size);
     let root = size - 1;
-    let checked = typing::check_types(text, list, nodes, root);
+    let checked = typing::check_types(list, nodes, root);
     match checked {
         Checking::Refused(number, place) => Counted::Refused(number, place),
         Checking::Passed => Counted::Count(root),

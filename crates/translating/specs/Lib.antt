@@ -1,2 +1,3 @@
+pub mod Known
+pub mod Own
 pub mod Writing
-pub mod Operators

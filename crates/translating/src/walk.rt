@@ -1,43 +1,40 @@
-// The walk: the left operand's code, its conversion, the right one's, its conversion, the operator.
-ghost use Prim.Native.Nat.{_+_, _*_, _≤_};
+// The walk: the left operand's code, its conversion, the right one's, its conversion, the node's own.
+ghost use mathlib.Core.List.{List};
+ghost use Prim.Native.Nat.{ℕ, _+_, _*_, _≤_};
 ghost use lib.ListN.{length};
 ghost use Rattle.paper.specs.Translating.{codeOf};
 ghost use Rattle.keys.specs.Says.{keysIn};
 ghost use Rattle.trees.specs.Standing.{treeAt};
-ghost use Rattle.translating.specs.Writing.{Room, Wrote};
+ghost use Rattle.translating.specs.Writing.{Wrote};
+ghost use Rattle.translating.specs.Known.{Writes};
 use crate::change;
-use crate::leaf;
-use crate::operator;
+use crate::own;
 use trees::Node;
 
-// Writes the code of the tree at node `at` from instruction number `i` on, and gives the number after it.
-pub fn write_code(
-    text: &[u8],
-    list: &[u8],
-    nodes: &[u32],
-    at: usize,
-    i: usize,
-    code: &mut [u8],
-) -> usize
-    requires { ⌜ (at * 8 + 8 ≤ length (now nodes)) × Room (now code) i (codeOf (keysIn (now list)) (treeAt (now text) (now nodes) at)) ⌝ }
-    ensures { λ r. ⌜ Wrote (now (code .entry)) i (codeOf (keysIn (now (list .entry))) (treeAt (now (text .entry)) (now (nodes .entry)) at)) (now (code .exit)) r ⌝ }
+// Writes the code of the tree at node `at` from instruction number `i` on, and gives the number after it. The tree must have a type, by
+// the marks of its names. What the operands change to is asked for twice, since the frame of a walk holds what it keeps at each level.
+pub fn write_code(list: &[u8], nodes: &[u32], at: usize, i: usize, code: &mut [u8]) -> usize
+    requires { ⌜ (at * 8 + 8 ≤ length (now nodes)) × ((text : List ℕ) × Writes (now list) (now nodes) (now code) at i text) ⌝ }
+    ensures { λ r. ⌜ ((text : List ℕ) → Writes (now (list .entry)) (now (nodes .entry)) (now (code .entry)) at i text
+        → Wrote (now (code .entry)) i (codeOf (keysIn (now (list .entry))) (treeAt text (now (nodes .entry)) at)) (now (code .exit)) r) ⌝ }
 {
     let n = Node::read(nodes, at);
     match n {
-        Node::Without => leaf::write_leaf(text, list, nodes, at, i, code),
-        Node::Before(o) => {
-            let after = write_code(text, list, nodes, at - 1, i, code);
-            operator::write_prefix(o, after, code)
+        Node::Without => own::write_own(nodes, at, i, code),
+        Node::Before(_) => {
+            let after = write_code(list, nodes, at - 1, i, code);
+            own::write_own(nodes, at, after, code)
         }
-        Node::Between(o, left) => {
-            let after_left = write_code(text, list, nodes, left, i, code);
-            let changes = change::changes_at(text, list, nodes, o, left, at - 1);
+        Node::Between(_, left) => {
+            let after_left = write_code(list, nodes, left, i, code);
+            let changes = change::changes_at(list, nodes, left, at - 1);
             let change_left = changes.left;
-            let change_right = changes.right;
             let before_right = change::write_change(change_left, after_left, code);
-            let after_right = write_code(text, list, nodes, at - 1, before_right, code);
-            let before_operator = change::write_change(change_right, after_right, code);
-            operator::write_operator(o, before_operator, code)
+            let after_right = write_code(list, nodes, at - 1, before_right, code);
+            let again = change::changes_at(list, nodes, left, at - 1);
+            let change_right = again.right;
+            let before_own = change::write_change(change_right, after_right, code);
+            own::write_own(nodes, at, before_own, code)
         }
     }
 }

@@ -1,3 +1,4 @@
+pub mod Marking
 pub mod Stretches
 pub mod Walks
 pub mod Stored

@@ -4,10 +4,14 @@
 // node; the walks above (types, values, code) are described by it, and proofs/Stored.antt shows that it is the tree whose
 // words were written.
 mod kinds;
+mod marks;
 mod names;
 mod node;
 mod store;
 
+pub use marks::Operand;
+pub use marks::mark;
+pub use marks::name_at;
 pub use names::spelled;
 pub use node::Comparison;
 pub use node::Join;

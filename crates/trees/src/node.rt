@@ -75,7 +75,7 @@ pub enum Node {
     Between(Operator, usize),
 }
 
-fn wide(x: u32) -> usize
+pub(crate) fn wide(x: u32) -> usize
     ensures { λ r. ⌜ r ≡ x ⌝ }
 {
     x as usize

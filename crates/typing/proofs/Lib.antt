@@ -1,3 +1,5 @@
 pub mod Leaves
+pub mod Minus
 pub mod Rooted
+pub mod Typable
 pub mod Walked

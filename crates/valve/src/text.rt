@@ -4,13 +4,14 @@ use paper::Checking;
 use paper::Counted;
 use paper::Place;
 use paper::Reading;
+use paper::refused;
 
 // How many nodes the text's tree has.
 pub fn read(text: &[u8]) -> Reading
     ensures { λ r. ⌜ ReadPromised (now (text .entry)) r ⌝ }
 {
     if reading::MOST_TEXT < text.len() {
-        return Reading::Refused(1, Place::Text(reading::MOST_TEXT));
+        return Reading::Refused(refused::TEXT_TOO_LONG, Place::Text(reading::MOST_TEXT));
     }
     let mut nodes = [0u32; reading::NODE_WORDS];
     let grown = reading::read_tree(text, &mut nodes);

@@ -1,5 +1,7 @@
 // An entry against a text.
 ghost use mathlib.Core.Path.{_≡_};
+ghost use mathlib.Core.List.{List};
+ghost use Prim.Native.Nat.{ℕ, _+_, _*_, _≤_};
 ghost use lib.ListN.{length};
 ghost use Rattle.paper.specs.Answers.{ok, judgementSays};
 ghost use Rattle.paper.specs.Promised.{JudgePromised};
@@ -18,16 +20,16 @@ pub(crate) fn verdict(accepted: bool) -> Judgement
 }
 
 // By the tree at node `root`, of a text that passed: 19; 20; and what it is worth on the entry.
-fn judge_by(text: &[u8], list: &[u8], entry: &[u8], nodes: &[u32], root: usize) -> Judgement
-    requires { ⌜ length (now nodes) ≡ 8192 ⌝ }
-    requires { ⌜ Rooted (now text) (now list) (now nodes) root ⌝ }
-    ensures { λ r. ⌜ JudgePromised (now (text .entry)) (now (list .entry)) (now (entry .entry)) r ⌝ }
+fn judge_by(list: &[u8], entry: &[u8], nodes: &[u32], root: usize) -> Judgement
+    requires { ⌜ root * 8 + 8 ≤ length (now nodes) ⌝ }
+    requires { ⌜ ((text : List ℕ) × Rooted text (now list) (now nodes) root) ⌝ }
+    ensures { λ r. ⌜ ((text : List ℕ) → Rooted text (now (list .entry)) (now (nodes .entry)) root → JudgePromised text (now (list .entry)) (now (entry .entry)) r) ⌝ }
 {
     let entered = keys::check_entry(list, entry);
     match entered {
         Checking::Refused(number, place) => Judgement::Refused(number, place),
         Checking::Passed => {
-            let worth = judging::value_at(text, list, entry, nodes, root);
+            let worth = judging::value_at(list, entry, nodes, root);
             verdict(worth.is_true())
         }
     }
@@ -41,6 +43,6 @@ pub fn judge(text: &[u8], list: &[u8], entry: &[u8]) -> Judgement
     let restricted = reading::restrict(text, list, &mut nodes);
     match restricted {
         Counted::Refused(number, place) => Judgement::Refused(number, place),
-        Counted::Count(root) => judge_by(text, list, entry, &nodes, root),
+        Counted::Count(root) => judge_by(list, entry, &nodes, root),
     }
 }

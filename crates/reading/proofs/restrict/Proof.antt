@@ -1,7 +1,8 @@
--- `reading::restrict` meets its contract: refusal 1 of a text that is too long (`too-long`), those of its list passed up (`not-listed`), then
--- the answer of `typed_root`, which is that of the whole (`restricts`).
+-- `reading::restrict` meets its contract: refusal 1 of a text that is too long (`too-long`), those of its list passed up (`not-listed`), then,
+-- since a good list is short (`most-bytes`), the answer of `typed_root`, which is that of the whole (`restricts`).
 use borrow.Author.Needs.{needs}
-use Rattle.reading.proofs.Stages.{too-long, not-listed, restricts}
+use Rattle.keys.proofs.Checked.{most-bytes}
+use Rattle.reading.proofs.Stages.{too-long, not-listed, good, restricts}
 use Rattle.reading.proofs.restrict.Statement.{statement}
 use Rattle.reading.proofs.restrict.Tie as tie
 
@@ -9,6 +10,18 @@ no-list : tie.Need-returns-2
 no-list c =
     let at-list : tie.After-check-list = c .before .before in
     not-listed _ _ (at-list .before .if1 .left) (at-list .check-list .result) (at-list .check-list .ensures) _ (c .enum-told2 .given .1)
+
+good-list : tie.Need-typed-root-requires
+good-list c κs =
+    let told = c .before in
+    let at-list : tie.After-check-list = told .before .before in
+    let start = at-list .before .before .before .before .before in (
+      at-list .before .if1 .left,
+      (
+        most-bytes (start .args .list .now) (good (start .args .text .now) (start .args .list .now) (at-list .before .if1 .left) (at-list .check-list .result) (at-list .check-list .ensures) (told .enum-told .given .1)),
+        start .pre,
+      ),
+    )
 
 typed : tie.Need-returns-3
 typed c =
@@ -27,6 +40,6 @@ restrict-spec =
     (λ c. search needs)
     (λ c. search needs)
     no-list
-    (λ c κs. search needs)
+    good-list
     (λ c. c .before .before .typed-root .kept .1 .1 .0)
     typed)

@@ -6,11 +6,19 @@ use Rattle.valve.proofs.Verdicts.{not-passed}
 use Rattle.valve.proofs.verdict.judge.Statement.{statement}
 use Rattle.valve.proofs.verdict.judge.Tie as tie
 
+-- the root that `restrict` gave
 root-stands : tie.Need-judge-by-requires
 root-stands c κs =
     let at-root : tie.After-restricted2 = c .before .before in
     let t = at-root .before .before .before .restrict in
-    (t .kept .1 .1 .0, rooted _ _ _ (t .result) (t .ensures) (at-root .restricted2 .given .1))
+    let r = rooted _ _ _ (t .result) (t .ensures) (at-root .restricted2 .given .1) in
+    (omega (arith, t .kept, r .typed .few), (_, r))
+
+judges : tie.Need-returns-2
+judges c =
+    let at-root : tie.After-restricted2 = c .before .before .before in
+    let t = at-root .before .before .before .restrict in
+    c .judge-by .ensures _ (rooted _ _ _ (t .result) (t .ensures) (at-root .restricted2 .given .1))
 
 refuses : tie.Need-returns
 refuses c =
@@ -28,4 +36,4 @@ judge-spec =
     (λ c. search needs)
     root-stands
     refuses
-    (λ c. search needs))
+    judges)

@@ -1,5 +1,4 @@
 -- `valve::judge_by` meets its contract: the refusal of the entry, or what the tree is worth on it (`judged-by`).
-use native.Mathlib.Omega.{arith}
 use mathlib.Core.Path.{_∙_}
 use borrow.Author.Needs.{needs}
 use Rattle.valve.proofs.Verdicts.{conforming, not-entered, judged-by}
@@ -8,28 +7,26 @@ use Rattle.valve.proofs.verdict.judge_by.Tie as tie
 
 -- where the entry has been checked; and from there what the function was given
 abbrev start : tie.After-check-entry → tie.Start
-start c = c .before .before .before .before .before
+start c = c .before .before .before .before
 
 entry-conforms : tie.Need-value-at-requires
 entry-conforms c κs =
     let at-entry = c .before .before in
     let asked = start at-entry .pre in
     let x = at-entry .check-entry in
-    (omega (arith, asked .0, asked .1 .typed .few), conforming _ _ _ _ _ (asked .1) (x .result) (x .ensures) (c .enum-told .given .1))
+    (asked .0, conforming _ _ _ _ _ (asked .1 .1) (x .result) (x .ensures) (c .enum-told .given .1))
 
 entry-refused : tie.Need-returns
-entry-refused c =
-    let at-entry = c .before .before .before in
-    let x = at-entry .check-entry in
-    not-entered _ _ _ _ _ (start at-entry .pre .1) (x .result) (x .ensures) (c .before .entered .given .1)
+entry-refused c text passed =
+    let x = c .before .before .before .check-entry in
+    not-entered _ _ _ _ _ passed (x .result) (x .ensures) (c .before .entered .given .1)
 
 by-worth : tie.Need-returns-2
-by-worth c =
+by-worth c text passed =
     let told = c .before .before .before in
-    let at-entry = told .before .before in
-    let x = at-entry .check-entry in
+    let x = told .before .before .check-entry in
     c .verdict .ensures
-    ∙ judged-by _ _ _ _ _ (start at-entry .pre .1) (x .result) (x .ensures) (told .enum-told .given .1) _ _ (c .before .before .value-at .ensures) (c .before .is-true .ensures)
+    ∙ judged-by _ _ _ _ _ passed (x .result) (x .ensures) (told .enum-told .given .1) _ _ (c .before .before .value-at .ensures text (passed .typed .marked)) (c .before .is-true .ensures)
 
 pub judge-by-spec : {M : Type 1} → statement M
 judge-by-spec =

@@ -1,39 +1,40 @@
--- `valve::translate_by` meets its contract: the code fits its scratch (`few`), a buffer below the blocks needed is refused and kept
+-- `valve::translate_by` meets its contract: the code fits its scratch (`writes`), a buffer below the blocks needed is refused and kept
 -- (`refusing`), a larger one is filled with them (`filling`).
 use Prim.Native.Nat.{ℕ, _*_, _<_, _≤_}
 use native.Mathlib.Omega.{arith}
 use mathlib.Core.Path.{refl, subst}
+use mathlib.Core.List.{List}
 use lib.ListN.{length}
 use borrow.Author.Needs.{needs}
-use Rattle.valve.proofs.Translates.{few, count-few, refusing, filling}
+use Rattle.valve.proofs.Translates.{count-few, writes, refusing, filling}
 use Rattle.valve.proofs.writing.translate_by.Statement.{statement}
 use Rattle.valve.proofs.writing.translate_by.Tie as tie
 
-code-fits : tie.Need-write-code-requires
-code-fits c κs =
-    let s : tie.Start = c .before .before .before .before .before in
-    let asked = s .pre in
-    let f = few (s .args .text .now) (s .args .list .now) (s .args .nodes .now) (s .args .buffer .now) (s .args .root) (asked .1) in
-    (omega (arith, asked .0, asked .1 .typed .few), omega (arith, f))
-
 -- where the code has been written; and from there what the function was given
 abbrev start : tie.After-write-code → tie.Start
-start c = c .before .before .before .before .before .before
+start c = c .before .before .before .before .before
+
+code-fits : tie.Need-write-code-requires
+code-fits c κs =
+    let s : tie.Start = c .before .before .before .before in
+    (s .pre .0, (s .pre .1 .0, writes (s .pre .1 .0) (s .args .list .now) (s .args .nodes .now) (s .args .buffer .now) (s .args .root) (s .pre .1 .1) _ refl))
 
 written-few : (c : tie.After-write-code) → c .write-code .result ≤ 2050
 written-few c =
     let s = start c in
-    count-few (s .args .text .now) (s .args .list .now) (s .args .nodes .now) (s .args .buffer .now) (s .args .root) (s .pre .1) _ _ (c .write-code .result) (c .write-code .ensures)
+    count-few (s .pre .1 .0) (s .args .list .now) (s .args .nodes .now) (s .args .buffer .now) (s .args .root) (s .pre .1 .1) _ _ (c .write-code .result)
+    (c .write-code .ensures (s .pre .1 .0) (writes (s .pre .1 .0) (s .args .list .now) (s .args .nodes .now) (s .args .buffer .now) (s .args .root) (s .pre .1 .1) _ refl))
 
 bytes-needed : tie.Need-mul-if1
 bytes-needed c = omega (arith, written-few (c .before .before), c .needed .ensures)
 
 too-small : tie.Need-returns
-too-small c =
+too-small c text passed =
     let at-code = c .before .before .before in
     let s = start at-code in
     let w = at-code .write-code in
-    refusing (s .args .text .now) (s .args .list .now) (s .args .nodes .now) (s .args .buffer .now) (s .args .root) (s .pre .1) _ _ (w .result) (w .ensures)
+    refusing text (s .args .list .now) (s .args .nodes .now) (s .args .buffer .now) (s .args .root) passed _ _ (w .result)
+    (w .ensures text (writes text (s .args .list .now) (s .args .nodes .now) (s .args .buffer .now) (s .args .root) passed _ refl))
     (subst (λ (m : ℕ). length (s .args .buffer .now) < 512 * m) (c .before .needed .ensures) (c .if1 .taken))
 
 large-enough : tie.Need-write-first-requires
@@ -42,14 +43,20 @@ large-enough c κs =
     let s = start at-code in
     (omega (arith, written-few at-code, at-code .write-code .kept), subst (λ (m : ℕ). 512 * m ≤ length (s .args .buffer .now)) (c .before .before .before .needed .ensures) (search needs))
 
+-- where the blocks have been written, what was known before
+abbrev fits-at : tie.After-write-first → tie.After-needed
+fits-at c = c .before .before .before .before
+
 fills : tie.Need-returns-2
-fills c =
-    let at-code = c .before .before .before .before .before .before .before .before in
+fills c text passed =
+    let filled : tie.After-write-first = c .before .before in
+    let at-code = fits-at filled .before .before in
     let s = start at-code in
     let w = at-code .write-code in
-    filling (s .args .text .now) (s .args .list .now) (s .args .nodes .now) (s .args .buffer .now) (s .args .root) (s .pre .1) _ _ (w .result) (w .ensures) refl
-    (subst (λ (m : ℕ). 512 * m ≤ length (s .args .buffer .now)) (c .before .before .before .before .before .before .needed .ensures) (search needs))
-    _ (c .before .before .write-first .ensures)
+    filling text (s .args .list .now) (s .args .nodes .now) (s .args .buffer .now) (s .args .root) passed _ _ (w .result)
+    (w .ensures text (writes text (s .args .list .now) (s .args .nodes .now) (s .args .buffer .now) (s .args .root) passed _ refl)) refl
+    (subst (λ (m : ℕ). 512 * m ≤ length (s .args .buffer .now)) (fits-at filled .needed .ensures) (search needs))
+    _ (filled .write-first .ensures)
 
 pub translate-by-spec : {M : Type 1} → statement M
 translate-by-spec =

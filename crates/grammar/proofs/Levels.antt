@@ -12,7 +12,7 @@ use lib.Dec.{eqb}
 use Rattle.paper.specs.Tokens.{Token}
 use Rattle.paper.specs.Grammar as G
 use Rattle.paper.specs.Grammar.{Tree, Out, got, stuck, deep, bad, Parser, Make, _>>>_, onceWith, onceMore, behind}
-use Rattle.tokens.specs.Tape.{Tape, tokensOn}
+use Rattle.tokens.specs.Tape.{Tape}
 use Rattle.trees.specs.Words.{words, operatorWords, Spelled}
 use Rattle.trees.proofs.Stored.{words-length}
 use Rattle.grammar.specs.declared.steps.Rung.{Rung}

@@ -6,7 +6,6 @@
 //
 // `restrict` takes a key list too. It gives the first refusal that document 01 gives the two (1; 2; 3 and 4; 5 to 10; 11 to 14), or
 // how many nodes stand before the root, which is its number. What it promises is the definition `restriction`.
-ghost use mathlib.Core.Path.{_≡_};
 ghost use Prim.Native.Nat.{_≤_};
 ghost use lib.ListN.{length};
 ghost use Rattle.paper.specs.Tokens.{mostText};

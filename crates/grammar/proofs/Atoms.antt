@@ -15,7 +15,7 @@ use Rattle.paper.specs.Tokens.{Sign, join, comparison, prefix, opening, closing
 use Rattle.paper.specs.Addresses.{Scheme, schemeOf, address}
 use Rattle.paper.specs.Grammar as G
 use Rattle.paper.specs.Grammar.{Tree, Out, got, stuck, deep, Reader, named, nameAt, keyed, isSign, opensAddress, addressed, addressAt, addressWith, worded, operandAt, signed, prefixes}
-use Rattle.tokens.specs.Tape.{Tape, kindAt, startAt, endAt, numberAt, wordNo, numeralNo, stringNo, lastSign, firstPrefix, lastPrefix, tokenOn, signNo}
+use Rattle.tokens.specs.Tape.{Tape, kindAt, startAt, endAt, numberAt, wordNo, numeralNo, stringNo, lastSign, firstPrefix, tokenOn, signNo}
 use Rattle.grammar.specs.declared.tape.Next.the-variants.{Other}
 use Rattle.grammar.specs.Ladder as L
 use Rattle.tokens.specs.Tokenized.{SpansOn}

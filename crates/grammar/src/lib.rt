@@ -10,7 +10,6 @@ mod steps;
 mod store;
 mod tape;
 
-ghost use mathlib.Core.Path.{_≡_};
 ghost use Prim.Native.Nat.{_*_, _≤_};
 ghost use lib.ListN.{length};
 ghost use Rattle.tokens.specs.Tape.{tapeOf};

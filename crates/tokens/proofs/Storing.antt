@@ -1,5 +1,5 @@
 -- One token more on a tape: its row comes after the rows that were there, and those stay.
-use Prim.Native.Nat.{ℕ, zero, suc, _+_, _*_, _≤_, _<_}
+use Prim.Native.Nat.{ℕ, zero, suc, _+_, _≤_, _<_}
 use mathlib.Core.Path.{_≡_, refl, sym, _∙_}
 use mathlib.Core.List.{List, [], _∷_, _++_}
 use native.Mathlib.Nat.{add-zero, zero-add}
@@ -12,7 +12,7 @@ use Rattle.paper.specs.Tokens.{Token}
 use Rattle.number.specs.Values.{value, nested}
 use Rattle.number.specs.declared.magnitude.Magnitude.{Magnitude}
 use Rattle.tokens.specs.Scanned.{Spans}
-use Rattle.tokens.specs.Tape.{Tape, tapeOf, rowWords, rowAt, Has, wordAt, numberAt, rowOf, tokOf, tokenOn, tokensOn}
+use Rattle.tokens.specs.Tape.{tapeOf, rowWords, rowAt, Has, wordAt, numberAt, rowOf, tokOf, tokenOn, tokensOn}
 use Rattle.tokens.specs.Tokenized.{SpansOn}
 use Rattle.tokens.proofs.Tapes.{tape-snoc, tape-same}
 

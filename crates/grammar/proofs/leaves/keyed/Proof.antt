@@ -3,11 +3,11 @@
 use Prim.Native.Nat.{ℕ, _+_}
 use native.Mathlib.Omega.{arith}
 use mathlib.Core.Path.{_≡_, sym, ap, _∙_}
-use mathlib.Core.Option.{Option, none, some}
+use mathlib.Core.Option.{none, some}
 use borrow.Author.Needs.{needs}
 use lib.ListN.{length}
 use Rattle.paper.specs.Tokens.{opening, colons}
-use Rattle.paper.specs.Addresses.{Scheme, schemeOf, address}
+use Rattle.paper.specs.Addresses.{schemeOf, address}
 use Rattle.paper.specs.Grammar.{named, addressed}
 use Rattle.addresses.specs.Reads.{scheme}
 use Rattle.addresses.specs.Reads as reads

@@ -1,7 +1,7 @@
 -- The answers of `atom`: a leaf, or a sequence in parentheses, with a level less and after a token.
 use Prim.Native.Nat.{ℕ}
 use native.Mathlib.Omega.{arith}
-use mathlib.Core.Path.{_≡_, refl}
+use mathlib.Core.Path.{refl}
 use mathlib.Core.Bool.{false}
 use borrow.Author.Needs.{needs}
 use Rattle.grammar.specs.Ladder as L

@@ -1,7 +1,7 @@
 -- The answers of `prefix`: with no level left a leaf; an operator and what it stands before, with a level less; or an atom.
 use Prim.Native.Nat.{ℕ}
 use native.Mathlib.Omega.{arith}
-use mathlib.Core.Path.{_≡_, refl}
+use mathlib.Core.Path.{refl}
 use borrow.Author.Needs.{needs}
 use Rattle.grammar.specs.Ladder as L
 use Rattle.grammar.proofs.Outcomes.{took, found, absent, pass-up, same-out, ready-on, started, has-row}
@@ -20,11 +20,14 @@ module _ (t : ℕ) where
   abbrev Looked : Type 0
   Looked = lts.After-next-in (prefix-calls t) (prefix-at t) prefix.Post
 
+  abbrev begin : lts.Else1 (prefix-calls t) (prefix-at t) prefix.Post → lts.Start (prefix-calls t) (prefix-at t) prefix.Post
+  begin c = c .before .before .before .before .before
+
   abbrev start : Looked → lts.Start (prefix-calls t) (prefix-at t) prefix.Post
-  start c = let else = c .before in else .before .before .before .before .before
+  start c = begin (c .before)
 
   look-fits : lts.Need-next-in-requires (prefix-calls t) (prefix-at t) prefix.Post
-  look-fits c κs = let given = c .before .before .before .before .before in given .pre .1 .sound .has
+  look-fits c κs = begin c .pre .1 .sound .has
 
   -- no operator
 

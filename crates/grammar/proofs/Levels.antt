@@ -11,13 +11,8 @@ use lib.Seq.{sets, length-sets}
 use lib.Dec.{eqb}
 use Rattle.paper.specs.Tokens.{Token}
 use Rattle.paper.specs.Grammar as G
-<<<<<<< HEAD
 use Rattle.paper.specs.Grammar.{Tree, Out, got, stuck, deep, bad, Parser, Make, _>>>_, onceWith, onceMore, afterOperator}
-use Rattle.tokens.specs.Tape.{Tape, tokensOn}
-=======
-use Rattle.paper.specs.Grammar.{Tree, Out, got, stuck, deep, bad, Parser, Make, _>>>_, onceWith, onceMore, behind}
 use Rattle.tokens.specs.Tape.{Tape}
->>>>>>> tape
 use Rattle.trees.specs.Words.{words, operatorWords, Spelled}
 use Rattle.trees.proofs.Stored.{words-length}
 use Rattle.grammar.specs.declared.steps.Rung.{Rung}

@@ -5,13 +5,8 @@
 // the one that the definition `tree` reads.
 //
 // `restrict` takes a key list too. It gives the first refusal that document 01 gives the two (1; 2; 3 and 4; 5 to 10; 11 to 14), or
-<<<<<<< HEAD
 // how many nodes stand before the root, which is its number. What it promises is the definition `restriction`. The names of the tree that
 // it leaves in `nodes` are resolved: each has its mark, for the walks that judge and translate it.
-ghost use mathlib.Core.Path.{_≡_};
-=======
-// how many nodes stand before the root, which is its number. What it promises is the definition `restriction`.
->>>>>>> tape
 ghost use Prim.Native.Nat.{_≤_};
 ghost use lib.ListN.{length};
 ghost use Rattle.paper.specs.Tokens.{mostText};

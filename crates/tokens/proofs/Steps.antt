@@ -18,7 +18,7 @@ passed (suc n) at room (b ∷ s) =
     let e : suc at + n ≡ at + suc n = omega arith in
     passed n (suc at) room s ∙ ap (λ i. tokensFrom 0 i room (drop n s)) e
 
--- what is left of a text behind a number of bytes more
+-- what is left of a text after a number of bytes more
 abbrev pub left : List ℕ → ℕ → ℕ → ℕ → Answer (List Token)
 left s at n room = tokensFrom 0 (at + 1 + n) room (drop (at + 1 + n) s)
 
@@ -60,7 +60,7 @@ pub end-step : (s : List ℕ) (at room : ℕ) → length s ≤ at → tokensFrom
 unfolding tokensFrom
 end-step s at room h = rw (drop-of-length-le s h)
 
--- tokens behind others
+-- tokens after others
 abbrev pub behind : List Token → Answer (List Token) → Answer (List Token)
 behind ts a = a >>= λ us. ok (ts ++ us)
 

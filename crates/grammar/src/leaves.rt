@@ -16,9 +16,7 @@ use crate::steps::Start;
 use crate::steps::Taken;
 use crate::store::put_attribute;
 use crate::store::put_field;
-use crate::store::put_key;
 use crate::store::put_number;
-use crate::store::put_truth;
 use crate::tape::Next;
 use crate::tape::next_in;
 use crate::tape::place_at;
@@ -38,8 +36,10 @@ use tokens::kinds::NUMERAL;
 use tokens::kinds::OPENING;
 use tokens::kinds::STRING;
 use tokens::kinds::WORD;
+use tokens::rows::end_at;
 use tokens::rows::kind_at;
 use tokens::rows::number_at;
+use tokens::rows::start_at;
 
 // A leaf. What would open a level is refused.
 pub(crate) fn leaf(text: &[u8], tape: &[u32], from: Start, nodes: &mut [u32]) -> Taken
@@ -80,7 +80,7 @@ fn truth_node(tape: &[u32], at: usize, free: usize, truth: bool, nodes: &mut [u3
     ensures { λ r. ⌜ (r ≡ Taken.Tree (free + 1) (at + 1))
         × (now (nodes .exit) ≡ sets (now (nodes .entry)) (nodeAt free) (words free (G.truth (startAt (now (tape .entry)) at) truth))) ⌝ }
 {
-    put_truth(tape, nodes, free, at, truth);
+    trees::put_truth(nodes, free, start_at(tape, at), truth);
     Taken::Tree(free + 1, at + 1)
 }
 
@@ -90,7 +90,7 @@ fn key_node(tape: &[u32], at: usize, free: usize, nodes: &mut [u32]) -> Taken
         × (now (nodes .exit) ≡ sets (now (nodes .entry)) (nodeAt free)
         (leafWords 2 (startAt (now (tape .entry)) at) (startAt (now (tape .entry)) at) (endAt (now (tape .entry)) at) 0 0)) ⌝ }
 {
-    put_key(tape, nodes, free, at);
+    trees::put_key(nodes, free, start_at(tape, at), end_at(tape, at));
     Taken::Tree(free + 1, at + 1)
 }
 

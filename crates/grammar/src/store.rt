@@ -26,21 +26,6 @@ use trees::Join;
 use trees::Operator;
 use trees::Prefix;
 
-pub(crate) fn put_truth(tape: &[u32], nodes: &mut [u32], node: usize, token: usize, truth: bool)
-    requires { ⌜ Fits (now nodes) node × Has (now tape) token ⌝ }
-    ensures { λ _. ⌜ now (nodes .exit) ≡ sets (now (nodes .entry)) (nodeAt node) (words node (G.truth (startAt (now (tape .entry)) token) truth)) ⌝ }
-{
-    trees::put_truth(nodes, node, start_at(tape, token), truth);
-}
-
-pub(crate) fn put_key(tape: &[u32], nodes: &mut [u32], node: usize, token: usize)
-    requires { ⌜ Fits (now nodes) node × Has (now tape) token ⌝ }
-    ensures { λ _. ⌜ now (nodes .exit) ≡ sets (now (nodes .entry)) (nodeAt node)
-        (leafWords 2 (startAt (now (tape .entry)) token) (startAt (now (tape .entry)) token) (endAt (now (tape .entry)) token) 0 0) ⌝ }
-{
-    trees::put_key(nodes, node, start_at(tape, token), end_at(tape, token));
-}
-
 pub(crate) fn put_field(tape: &[u32], nodes: &mut [u32], node: usize, token: usize, name: usize)
     requires { ⌜ Fits (now nodes) node × Has (now tape) token × Has (now tape) name ⌝ }
     ensures { λ _. ⌜ now (nodes .exit) ≡ sets (now (nodes .entry)) (nodeAt node)

@@ -5,7 +5,7 @@ use mathlib.Core.Path.{refl}
 use mathlib.Core.Bool.{false}
 use borrow.Author.Needs.{needs}
 use Rattle.grammar.specs.Ladder as L
-use Rattle.grammar.proofs.Outcomes.{took, found, absent, pass-up, same-out, ready-on, started}
+use Rattle.grammar.proofs.Outcomes.{took-on, found, absent, pass-up, same-out, ready-on, started}
 use Rattle.grammar.proofs.Operands.{paren-up, paren-close, leaf-only}
 use Rattle.grammar.proofs.ladder.atom.Reads as atom
 use Rattle.grammar.proofs.ladder.+atom+chain+operand+prefix.Lts-atom as lts
@@ -91,7 +91,7 @@ module _ (t : ℕ) where
       let tree : Tree = c .before in
       let read = tree-read tree in
       let f = found (read-looked read .next-in .ensures) (read-opened read .enum-told .given .1) in
-      let h = took (started (L.sequence false) _ _ _ (read .chain .result) (read .before .before .inside .ensures) (read .chain .ensures)) (tree .before .inner .given .1) in
+      let h = took-on (L.sequence false) (read .before .before .inside .ensures) (read .chain .ensures) (tree .before .inner .given .1) in
       paren-close _ _ _ _ _ _ f h (c .close .result) (c .close .ensures)
 
 pub atom-closed : {M : Type 1} (t : ℕ) → lts.Closed (atom-calls t) (atom-at t) atom.Post M

@@ -9,7 +9,8 @@ use borrow.Author.Needs.{needs}
 use lib.Dec.{eqb}
 use Rattle.grammar.specs.declared.steps.Rung.{Rung}
 use Rattle.grammar.specs.Ladder as L
-use Rattle.grammar.proofs.Outcomes.{took, found, absent, pass-up, ready-on, started, has-row}
+use Rattle.grammar.specs.Reading.{Found}
+use Rattle.grammar.proofs.Outcomes.{took, took-on, found, absent, pass-up, ready-on, started, has-row}
 use Rattle.grammar.proofs.Operators.{operating, no-operator, operators-low, operators-high}
 use Rattle.grammar.proofs.Levels.{rung-runs, rung-first, going-start, going-stop, going-end, going-next, going-last, turned-start, turned-on}
 use Rattle.grammar.proofs.ladder.chain.Reads as chain
@@ -79,6 +80,9 @@ module _ (t : ℕ) where
   abbrev operator-first : Operator → First
   operator-first c = turn-first (operator-turn c)
 
+  sign-found : (c : Operator) → let first = operator-first c in Found (start first .args .tape .now) (start first .args .from .count) (operator-turn c .loop .next) (L.lowest (rung first)) (L.highest (rung first)) (c .before .sign .given .0 .0)
+  sign-found c = found (c .before .before .before .operator-at .ensures) (c .before .sign .given .1)
+
   next-fits : lts.Need-add-ends-after (chain-calls t) (chain-at t) chain.Post chain-Inv-loop chain-μ-loop
   next-fits c = omega (arith, operator-turn c .loop .inv .inside, start (operator-first c) .pre .1 .sound .cut .few)
 
@@ -100,7 +104,7 @@ module _ (t : ℕ) where
       let first = turn-first turn in
       let h = took (first .operand .ensures) (turn .before .before .first .given .1) in
       let w = turn .loop .inv .going _ _ (going-start _ (rung-runs (rung first) _ _) h) in
-      let f = found (at-operator .before .before .before .operator-at .ensures) (at-operator .before .sign .given .1) in
+      let f = sign-found at-operator in
       going-end w (operating _ _ _ (rung first) f) (sym (c .before .ends-after .ensures) ∙ c .if1 .taken)
 
   -- and the text does not end after it
@@ -120,7 +124,7 @@ module _ (t : ℕ) where
       let first = turn-first turn in
       let given = start first .pre in
       let v = turn .loop .inv in
-      let f = found (at-operator .before .before .before .operator-at .ensures) (at-operator .before .sign .given .1) in
+      let f = sign-found at-operator in
       rw (c .before .moved .ensures)
       (omega (arith, v .grown, v .moved, v .inside, f .here, given .0, given .1 .here), ready-on (given .1) _ _ _ _ (omega (arith, first .operand .kept, v .kept)) (omega (arith, v .grown, v .moved, given .1 .used)) (omega (arith, f .here)))
 
@@ -140,7 +144,7 @@ module _ (t : ℕ) where
       let first = turn-first turn in
       let h = took (first .operand .ensures) (turn .before .before .first .given .1) in
       let w = turn .loop .inv .going _ _ (going-start _ (rung-runs (rung first) _ _) h) in
-      let f = found (at-operator .before .before .before .operator-at .ensures) (at-operator .before .sign .given .1) in
+      let f = sign-found at-operator in
       pass-up _ _ _ _ _ _ _ _ _ _ _ _ (going-next w (operating _ _ _ (rung first) f) (goes-on onward)) (more .operand2 .result) (c .enum-told3 .given .1)
       (started (L.operandOf (rung first)) _ _ _ (more .operand2 .result) (more .before .before .moved .ensures) (more .operand2 .ensures))
 
@@ -171,8 +175,8 @@ module _ (t : ℕ) where
       let first = turn-first turn in
       let p = start first .pre .1 in
       let v = turn .loop .inv in
-      let f = found (at-operator .before .before .before .operator-at .ensures) (at-operator .before .sign .given .1) in
-      let k = took (started (L.operandOf (rung first)) _ _ _ (more .operand2 .result) (more .before .before .moved .ensures) (more .operand2 .ensures)) (both .before .more .given .1) in
+      let f = sign-found at-operator in
+      let k = took-on (L.operandOf (rung first)) (more .before .before .moved .ensures) (more .operand2 .ensures) (both .before .more .given .1) in
       ((omega (arith, v .moved, v .kept, k .built, f .here, first .operand .kept, more .operand2 .kept, p .haveRoom, p .used), has-row (p .sound) _ (f .here), omega (arith, v .moved, p .used, p .sound .cut .few, f .here)), omega (arith, f, operators-low (rung first), operators-high (rung first)))
 
   -- where the node of both is stored
@@ -201,7 +205,7 @@ module _ (t : ℕ) where
       let more = both-more both in
       let turn = joined-turn c in
       let first = turn-first turn in
-      let k = took (started (L.operandOf (rung first)) _ _ _ (more .operand2 .result) (more .before .before .moved .ensures) (more .operand2 .ensures)) (both .before .more .given .1) in
+      let k = took-on (L.operandOf (rung first)) (more .before .before .moved .ensures) (more .operand2 .ensures) (both .before .more .given .1) in
       omega (arith, turn .loop .inv .moved, k .built, start first .pre .1 .used, start first .pre .1 .sound .cut .few)
 
   last-kept : lts.Need-same-length-5 (chain-calls t) (chain-at t) chain.Post chain-Inv-loop chain-μ-loop
@@ -221,8 +225,8 @@ module _ (t : ℕ) where
       let first = turn-first turn in
       let h = took (first .operand .ensures) (turn .before .before .first .given .1) in
       let w = turn .loop .inv .going _ _ (going-start _ (rung-runs (rung first) _ _) h) in
-      let f = found (at-operator .before .before .before .operator-at .ensures) (at-operator .before .sign .given .1) in
-      let k = took (started (L.operandOf (rung first)) _ _ _ (more .operand2 .result) (more .before .before .moved .ensures) (more .operand2 .ensures)) (both .before .more .given .1) in
+      let f = sign-found at-operator in
+      let k = took-on (L.operandOf (rung first)) (more .before .before .moved .ensures) (more .operand2 .ensures) (both .before .more .given .1) in
       going-last w (operating _ _ _ (rung first) f) (goes-on onward) k (joined .put-joined .ensures) (sym (c .before .at-most-once .ensures) ∙ c .if2 .taken)
 
   turn-takes : lts.Need-loop-less (chain-calls t) (chain-at t) chain.Post chain-Inv-loop chain-μ-loop
@@ -231,8 +235,8 @@ module _ (t : ℕ) where
       let more = both-more both in
       let at-operator = onward-operator (more-onward more) in
       let first = operator-first at-operator in
-      let f = found (at-operator .before .before .before .operator-at .ensures) (at-operator .before .sign .given .1) in
-      let k = took (started (L.operandOf (rung first)) _ _ _ (more .operand2 .result) (more .before .before .moved .ensures) (more .operand2 .ensures)) (both .before .more .given .1) in
+      let f = sign-found at-operator in
+      let k = took-on (L.operandOf (rung first)) (more .before .before .moved .ensures) (more .operand2 .ensures) (both .before .more .given .1) in
       omega (arith, k .built, f .here)
 
   turned : lts.Need-loop-again (chain-calls t) (chain-at t) chain.Post chain-Inv-loop chain-μ-loop
@@ -244,8 +248,8 @@ module _ (t : ℕ) where
       let at-operator = onward-operator onward in
       let turn = operator-turn at-operator in
       let first = turn-first turn in
-      let f = found (at-operator .before .before .before .operator-at .ensures) (at-operator .before .sign .given .1) in
-      let k = took (started (L.operandOf (rung first)) _ _ _ (more .operand2 .result) (more .before .before .moved .ensures) (more .operand2 .ensures)) (both .before .more .given .1) in
+      let f = sign-found at-operator in
+      let k = took-on (L.operandOf (rung first)) (more .before .before .moved .ensures) (more .operand2 .ensures) (both .before .more .given .1) in
       turned-on (turn .loop .inv) (operating _ _ _ (rung first) f) (goes-on onward) (sym (c .before .at-most-once .ensures) ∙ c .if2 .left) k (joined .put-joined .ensures)
 
 pub chain-closed : {M : Type 1} (t : ℕ) → lts.Closed (chain-calls t) (chain-at t) chain.Post M

@@ -4,7 +4,7 @@ use native.Mathlib.Omega.{arith}
 use mathlib.Core.Path.{refl}
 use borrow.Author.Needs.{needs}
 use Rattle.grammar.specs.Ladder as L
-use Rattle.grammar.proofs.Outcomes.{took, found, absent, pass-up, same-out, ready-on, started, has-row}
+use Rattle.grammar.proofs.Outcomes.{took-on, found, absent, pass-up, same-out, ready-on, started, has-row}
 use Rattle.grammar.proofs.Operands.{level-up, level-took, level-not}
 use Rattle.grammar.proofs.ladder.prefix.Reads as prefix
 use Rattle.grammar.proofs.ladder.+atom+chain+operand+prefix.Lts-prefix as lts
@@ -100,7 +100,7 @@ module _ (t : ℕ) where
       let looked = read-looked read in
       let p = start looked .pre .1 in
       let f = found (looked .next-in .ensures) (read-operator read .before .sign .given .1) in
-      let h = took (started L.prefix _ _ _ (read .prefix .result) (read .before .before .inside .ensures) (read .prefix .ensures)) (tree .before .operand .given .1) in
+      let h = took-on L.prefix (read .before .before .inside .ensures) (read .prefix .ensures) (tree .before .operand .given .1) in
       ((omega (arith, h .built, f .here, read .prefix .kept, p .haveRoom, p .used), has-row (p .sound) _ (f .here)), omega (arith, f))
 
   -- where the node of both is stored
@@ -115,7 +115,7 @@ module _ (t : ℕ) where
       let tree = stored-tree (c .before .before) in
       let read = tree-read tree in
       let p = start (read-looked read) .pre .1 in
-      let h = took (started L.prefix _ _ _ (read .prefix .result) (read .before .before .inside .ensures) (read .prefix .ensures)) (tree .before .operand .given .1) in
+      let h = took-on L.prefix (read .before .before .inside .ensures) (read .prefix .ensures) (tree .before .operand .given .1) in
       omega (arith, h .built, p .used, p .sound .cut .few)
 
   both-kept : lts.Need-same-length-4 (prefix-calls t) (prefix-at t) prefix.Post
@@ -130,7 +130,7 @@ module _ (t : ℕ) where
       let read = tree-read tree in
       let looked = read-looked read in
       let f = found (looked .next-in .ensures) (read-operator read .before .sign .given .1) in
-      let h = took (started L.prefix _ _ _ (read .prefix .result) (read .before .before .inside .ensures) (read .prefix .ensures)) (tree .before .operand .given .1) in
+      let h = took-on L.prefix (read .before .before .inside .ensures) (read .prefix .ensures) (tree .before .operand .given .1) in
       level-took _ (looked .before .if1 .left) _ _ _ f h (stored .put-prefixed .ensures)
 
 pub prefix-closed : {M : Type 1} (t : ℕ) → lts.Closed (prefix-calls t) (prefix-at t) prefix.Post M

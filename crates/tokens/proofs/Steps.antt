@@ -61,13 +61,8 @@ unfolding tokensFrom
 end-step s at room h = rw (drop-of-length-le s h)
 
 -- tokens after others
-<<<<<<< HEAD
 abbrev pub following : List Token → Answer (List Token) → Answer (List Token)
 following ts a = a >>= λ us. ok (ts ++ us)
-=======
-abbrev pub behind : List Token → Answer (List Token) → Answer (List Token)
-behind ts a = a >>= λ us. ok (ts ++ us)
->>>>>>> tape
 
 pub following-one : (ts : List Token) (t : Token) (a : Answer (List Token))
     → following ts (a >>= λ us. ok (t ∷ us)) ≡ following (ts ++ (t ∷ [])) a

@@ -26,8 +26,11 @@ pub const MOST_TEXT: usize = 4096;
 // The words of a text's nodes: a tree has at most one node for each token.
 pub const NODE_WORDS: usize = Node::WORDS * MOST_TOKENS;
 
-// A text of at most so many bytes is short. It has no more tokens than bytes, so that it is read with a small tape.
+// A text of at most so many bytes is short. It has no more tokens than bytes, so that small scratch is enough for it.
 pub const SHORT_TEXT: usize = 256;
+
+// The words of its nodes.
+pub const SHORT_NODE_WORDS: usize = Node::WORDS * SHORT_TEXT;
 
 // The number of nodes, of which the last is the root; or a refusal. The tokens stand on a tape that is lent.
 fn read_on(text: &[u8], tape: &mut [u32], nodes: &mut [u32]) -> Counted

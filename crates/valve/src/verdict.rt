@@ -5,6 +5,7 @@ ghost use Prim.Native.Nat.{ℕ, _+_, _*_, _≤_};
 ghost use lib.ListN.{length};
 ghost use Rattle.paper.specs.Answers.{ok, judgementSays};
 ghost use Rattle.paper.specs.Promised.{JudgePromised};
+ghost use Rattle.reading.specs.Grown.{Room, Short};
 ghost use Rattle.reading.specs.Restricted.{Rooted};
 use paper::Checking;
 use paper::Counted;
@@ -35,14 +36,39 @@ fn judge_by(list: &[u8], entry: &[u8], nodes: &[u32], root: usize) -> Judgement
     }
 }
 
+// By nodes that are lent.
+fn judge_in(text: &[u8], list: &[u8], entry: &[u8], nodes: &mut [u32]) -> Judgement
+    requires { ⌜ Room (now text) (now nodes) ⌝ }
+    ensures { λ r. ⌜ JudgePromised (now (text .entry)) (now (list .entry)) (now (entry .entry)) r ⌝ }
+{
+    let restricted = reading::restrict(text, list, nodes);
+    match restricted {
+        Counted::Refused(number, place) => Judgement::Refused(number, place),
+        Counted::Count(root) => judge_by(list, entry, nodes, root),
+    }
+}
+
+fn judge_short(text: &[u8], list: &[u8], entry: &[u8]) -> Judgement
+    requires { ⌜ Short (now text) ⌝ }
+    ensures { λ r. ⌜ JudgePromised (now (text .entry)) (now (list .entry)) (now (entry .entry)) r ⌝ }
+{
+    let mut nodes = [0u32; reading::SHORT_NODE_WORDS];
+    judge_in(text, list, entry, &mut nodes)
+}
+
+fn judge_long(text: &[u8], list: &[u8], entry: &[u8]) -> Judgement
+    ensures { λ r. ⌜ JudgePromised (now (text .entry)) (now (list .entry)) (now (entry .entry)) r ⌝ }
+{
+    let mut nodes = [0u32; reading::NODE_WORDS];
+    judge_in(text, list, entry, &mut nodes)
+}
+
 // What the text says of an entry.
 pub fn judge(text: &[u8], list: &[u8], entry: &[u8]) -> Judgement
     ensures { λ r. ⌜ JudgePromised (now (text .entry)) (now (list .entry)) (now (entry .entry)) r ⌝ }
 {
-    let mut nodes = [0u32; reading::NODE_WORDS];
-    let restricted = reading::restrict(text, list, &mut nodes);
-    match restricted {
-        Counted::Refused(number, place) => Judgement::Refused(number, place),
-        Counted::Count(root) => judge_by(list, entry, &nodes, root),
+    if text.len() <= reading::SHORT_TEXT {
+        return judge_short(text, list, entry);
     }
+    judge_long(text, list, entry)
 }

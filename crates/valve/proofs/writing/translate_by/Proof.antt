@@ -1,47 +1,54 @@
 -- `valve::translate_by` meets its contract: the code fits its scratch (`writes`), a buffer below the blocks needed is refused and kept
 -- (`refusing`), a larger one is filled with them (`filling`).
-use Prim.Native.Nat.{ℕ, _*_, _<_, _≤_}
+use Prim.Native.Nat.{ℕ, _+_, _*_, _<_, _≤_}
 use native.Mathlib.Omega.{arith}
 use mathlib.Core.Path.{refl, subst}
 use mathlib.Core.List.{List}
 use lib.ListN.{length}
 use borrow.Author.Needs.{needs}
-use Rattle.valve.proofs.Translates.{count-few, writes, refusing, filling}
+use Rattle.valve.proofs.Translates.{count-few, count-by-nodes, writes, refusing, filling}
 use Rattle.valve.proofs.writing.translate_by.Statement.{statement}
 use Rattle.valve.proofs.writing.translate_by.Tie as tie
 
 -- where the code has been written; and from there what the function was given
 abbrev start : tie.After-write-code → tie.Start
-start c = c .before .before .before .before .before
+start c = c .before .before .before .before .before .before
+
+abbrev code-at : tie.After-needed → tie.After-write-code
+code-at c = c .before .before .before
 
 code-fits : tie.Need-write-code-requires
 code-fits c κs =
-    let s : tie.Start = c .before .before .before .before in
-    (s .pre .0, (s .pre .1 .0, writes (s .pre .1 .0) (s .args .list .now) (s .args .nodes .now) (s .args .buffer .now) (s .args .root) (s .pre .1 .1) _ refl))
+    let s : tie.Start = c .before .before .before .before .before in
+    (s .pre .0 .0, (s .pre .1 .0, writes (s .pre .1 .0) (s .args .list .now) (s .args .nodes .now) (s .args .buffer .now) (s .args .root) (s .pre .1 .1) _ (s .pre .0 .1)))
 
-written-few : (c : tie.After-write-code) → c .write-code .result ≤ 2050
+-- what was written: at most 2,050 instructions, and at most two for each node
+written-few : (c : tie.After-write-code) → (c .write-code .result ≤ 2050) × (c .write-code .result ≤ 2 * (start c .args .root + 1))
 written-few c =
     let s = start c in
-    count-few (s .pre .1 .0) (s .args .list .now) (s .args .nodes .now) (s .args .buffer .now) (s .args .root) (s .pre .1 .1) _ _ (c .write-code .result)
-    (c .write-code .ensures (s .pre .1 .0) (writes (s .pre .1 .0) (s .args .list .now) (s .args .nodes .now) (s .args .buffer .now) (s .args .root) (s .pre .1 .1) _ refl))
+    let w = c .write-code .ensures (s .pre .1 .0) (writes (s .pre .1 .0) (s .args .list .now) (s .args .nodes .now) (s .args .buffer .now) (s .args .root) (s .pre .1 .1) _ (s .pre .0 .1)) in (
+      count-few (s .pre .1 .0) (s .args .list .now) (s .args .nodes .now) (s .args .buffer .now) (s .args .root) (s .pre .1 .1) _ _ (c .write-code .result) w,
+      count-by-nodes (s .pre .1 .0) (s .args .list .now) (s .args .nodes .now) (s .args .buffer .now) (s .args .root) (s .pre .1 .1) _ _ (c .write-code .result) w,
+    )
 
 bytes-needed : tie.Need-mul-if1
-bytes-needed c = omega (arith, written-few (c .before .before), c .needed .ensures)
+bytes-needed c = omega (arith, written-few (code-at c), c .needed .ensures)
 
 too-small : tie.Need-returns
 too-small c text passed =
-    let at-code = c .before .before .before in
+    let at-code = code-at (c .before) in
     let s = start at-code in
     let w = at-code .write-code in
     refusing text (s .args .list .now) (s .args .nodes .now) (s .args .buffer .now) (s .args .root) passed _ _ (w .result)
-    (w .ensures text (writes text (s .args .list .now) (s .args .nodes .now) (s .args .buffer .now) (s .args .root) passed _ refl))
+    (w .ensures text (writes text (s .args .list .now) (s .args .nodes .now) (s .args .buffer .now) (s .args .root) passed _ (s .pre .0 .1)))
     (subst (λ (m : ℕ). length (s .args .buffer .now) < 512 * m) (c .before .needed .ensures) (c .if1 .taken))
 
 large-enough : tie.Need-write-first-requires
 large-enough c κs =
-    let at-code = c .before .before .before .before .before in
+    let fits : tie.After-needed = c .before .before .before in
+    let at-code = code-at fits in
     let s = start at-code in
-    (omega (arith, written-few at-code, at-code .write-code .kept), subst (λ (m : ℕ). 512 * m ≤ length (s .args .buffer .now)) (c .before .before .before .needed .ensures) (search needs))
+    (omega (arith, written-few at-code, at-code .write-code .kept, s .pre .0 .1), subst (λ (m : ℕ). 512 * m ≤ length (s .args .buffer .now)) (fits .needed .ensures) (search needs))
 
 -- where the blocks have been written, what was known before
 abbrev fits-at : tie.After-write-first → tie.After-needed
@@ -50,11 +57,11 @@ fits-at c = c .before .before .before .before
 fills : tie.Need-returns-2
 fills c text passed =
     let filled : tie.After-write-first = c .before .before in
-    let at-code = fits-at filled .before .before in
+    let at-code = code-at (fits-at filled) in
     let s = start at-code in
     let w = at-code .write-code in
     filling text (s .args .list .now) (s .args .nodes .now) (s .args .buffer .now) (s .args .root) passed _ _ (w .result)
-    (w .ensures text (writes text (s .args .list .now) (s .args .nodes .now) (s .args .buffer .now) (s .args .root) passed _ refl)) refl
+    (w .ensures text (writes text (s .args .list .now) (s .args .nodes .now) (s .args .buffer .now) (s .args .root) passed _ (s .pre .0 .1))) (s .pre .0 .1)
     (subst (λ (m : ℕ). 512 * m ≤ length (s .args .buffer .now)) (fits-at filled .needed .ensures) (search needs))
     _ (filled .write-first .ensures)
 
@@ -62,12 +69,12 @@ pub translate-by-spec : {M : Type 1} → statement M
 translate-by-spec =
     tie.close
     (tie.spec
-    (λ c. search needs)
     code-fits
     (λ c κs. search needs)
     bytes-needed
-    too-small
     (λ c. search needs)
+    too-small
     large-enough
+    (λ c. search needs)
     (λ c. search needs)
     fills)

@@ -1,0 +1,48 @@
+-- `valve::judge_in` meets its contract: the refusal of `restrict`, or the judgement by the root that it gives (`judge_by`).
+use native.Mathlib.Omega.{arith}
+use borrow.Author.Needs.{needs}
+use Rattle.reading.proofs.Stages.{rooted}
+use Rattle.reading.specs.Restricted.{Rooted}
+use Rattle.valve.proofs.Verdicts.{not-passed}
+use Rattle.valve.proofs.verdict.judge_in.Statement.{statement}
+use Rattle.valve.proofs.verdict.judge_in.Tie as tie
+
+-- where text and list have been looked at; and from there what the function was given
+abbrev restricted-at : tie.After-slice-known2 → tie.After-restrict
+restricted-at c = c .before .before
+
+abbrev start : tie.After-restrict → tie.Start
+start c = c .before .before .before .before .before .before
+
+-- the root that `restrict` gave
+root-stands : tie.Need-judge-by-requires
+root-stands c κs =
+    let at-root : tie.After-restricted2 = c .before .before in
+    let at-list = restricted-at (at-root .before .before) in
+    let t = at-list .restrict in
+    let r = rooted _ _ _ (t .result) (t .ensures) (at-root .restricted2 .given .1) in
+    (omega (arith, t .kept, start at-list .pre _ (r .typed .few) (r .typed .short)), (_, r))
+
+judges : tie.Need-returns-2
+judges c =
+    let at-root : tie.After-restricted2 = c .before .before .before in
+    let t = restricted-at (at-root .before .before) .restrict in
+    c .judge-by .ensures _ (rooted _ _ _ (t .result) (t .ensures) (at-root .restricted2 .given .1))
+
+refuses : tie.Need-returns
+refuses c =
+    let t = restricted-at (c .before .before .before) .restrict in
+    not-passed _ _ _ _ (t .result) (t .ensures) (c .before .restricted .given .1)
+
+pub judge-in-spec : {M : Type 1} → statement M
+judge-in-spec =
+    tie.close
+    (tie.spec
+    (λ c κs. search needs)
+    (λ c. search needs)
+    (λ c. search needs)
+    root-stands
+    (λ c. search needs)
+    refuses
+    (λ c. search needs)
+    judges)

@@ -11,7 +11,6 @@ use Rattle.paper.specs.Keys.{Key, find}
 use Rattle.paper.specs.Types.{fieldNamed}
 use Rattle.paper.specs.Code.{bit}
 use Rattle.trees.specs.declared.node.Span.{Span}
-use Rattle.trees.specs.declared.node.Leaf.{Leaf}
 use Rattle.trees.specs.declared.node.Leaf.the-variants as L
 use Rattle.trees.specs.declared.node.Leaf.the-variants.{Truth, Number}
 use Rattle.trees.specs.declared.marks.Operand.the-variants.{Attribute}

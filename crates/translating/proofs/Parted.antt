@@ -3,13 +3,13 @@ use Prim.Native.Nat.{ℕ, _+_, _-_, _<_}
 use native.Mathlib.Omega.{arith}
 use mathlib.Core.Path.{_≡_, sym, _∙_, ap, ap₂}
 use mathlib.Core.Option.{some}
-use mathlib.Core.List.{List, [], _∷_, _++_}
+use mathlib.Core.List.{List, _++_}
 use lib.ListN.{length, length-append}
 use Rattle.paper.specs.Answers.{ok}
 use Rattle.paper.specs.Keys.{Key}
 use Rattle.paper.specs.Types.{Ty, meet, operatorType, typeOf}
 use Rattle.paper.specs.Code.{Instruction}
-use Rattle.paper.specs.Translating.{changed, operation, codeOf}
+use Rattle.paper.specs.Translating.{changed, codeOf}
 use Rattle.keys.specs.Says.{keysIn}
 use Rattle.trees.specs.declared.node.Node.{Node}
 use Rattle.trees.specs.declared.node.Node.the-variants.{Without, Before, Between}
@@ -22,7 +22,7 @@ use Rattle.trees.proofs.Walks.{below, tree-at}
 use Rattle.trees.proofs.Marking.{marked-below}
 use Rattle.typing.specs.Says.{operatorMade}
 use Rattle.typing.proofs.Typable as typable
-use Rattle.translating.specs.Own.{operator, ownCode, ownAt}
+use Rattle.translating.specs.Own.{ownCode, ownAt}
 use Rattle.translating.specs.Known.{Known}
 use Rattle.translating.proofs.Coded as coded
 

@@ -2,7 +2,7 @@
 use Prim.Native.Nat.{ℕ, zero, suc, _+_, _*_, _-_, _≤_, _<_}
 use native.Mathlib.Omega.{arith}
 use native.Mathlib.Decide.{decLt}
-use mathlib.Core.Path.{_≡_, refl, sym, _∙_, ap, ap₂}
+use mathlib.Core.Path.{_≡_, refl, _∙_, ap₂}
 use mathlib.Core.Bool.{Bool, true, false, cond}
 use mathlib.Core.Option.{Option, none, some}
 use mathlib.Core.List.{List}
@@ -13,10 +13,8 @@ use borrow.Author.Tests.{ne-eqb, lt-ltb, ltb-false}
 use Rattle.paper.specs.Code.{bit}
 use Rattle.paper.specs.Types as T
 use Rattle.paper.specs.Keys as P
-use Rattle.paper.specs.Grammar.{Tree}
 use Rattle.trees.specs.declared.node.Leaf.{Leaf}
 use Rattle.trees.specs.declared.node.Leaf.the-variants as L
-use Rattle.trees.specs.declared.node.Node.{Node}
 use Rattle.trees.specs.declared.marks.Operand.{Operand}
 use Rattle.trees.specs.declared.marks.Operand.the-variants as O
 use Rattle.trees.specs.Nodes.{leafOf, leafAt, nodeOf, nodeAt, placeAt, leftOf}

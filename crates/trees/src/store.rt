@@ -18,7 +18,7 @@ use crate::node::Operator;
 use crate::node::Prefix;
 use number::Magnitude;
 
-// The words of a node but for the last, which is free.
+// The words of a node but for the last, which is a mark and is not known yet.
 struct Row {
     kind: u32,
     place: u32,

@@ -9,7 +9,7 @@ use Rattle.paper.specs.Types.{Ty, typeOf}
 use Rattle.trees.specs.declared.node.Node.{Node}
 use Rattle.trees.specs.declared.node.Node.the-variants.{Without, Before, Between}
 use Rattle.trees.specs.declared.node.Prefix.the-variants.{Not, Minus}
-use Rattle.trees.specs.Nodes.{nodeAt, leafAt, placeAt}
+use Rattle.trees.specs.Nodes.{nodeAt, placeAt}
 use Rattle.trees.specs.Standing.{treeAt}
 use Rattle.trees.proofs.Walks.{below, tree-at}
 use Rattle.typing.specs.Says.{isMinus}

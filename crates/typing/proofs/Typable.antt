@@ -3,7 +3,7 @@ use Prim.Native.Nat.{ℕ}
 use mathlib.Core.Path.{_≡_, refl, sym, _∙_, ap}
 use mathlib.Core.Bool.{Bool, true, false, _&&_, false≢true}
 use mathlib.Core.List.{List}
-use Rattle.paper.specs.Answers.{Answer, ok, _>>=_}
+use Rattle.paper.specs.Answers.{ok, _>>=_}
 use Rattle.paper.specs.Tokens.{Prefix, notSign, minusSign}
 use Rattle.paper.specs.Keys.{Key}
 use Rattle.paper.specs.Grammar.{Tree, prefixed}

@@ -1,12 +1,11 @@
 -- `reading::typed_root` meets its contract: the text's tree, or its refusal passed up (`not-grown`); then its names resolved, which
 -- changes no tree (`still-planted`); then the check of its types, or that one's refusal.
-use Prim.Native.Nat.{ℕ, _-_, _+_, _≤_}
+use Prim.Native.Nat.{ℕ, _-_, _≤_}
 use native.Mathlib.Omega.{arith}
 use mathlib.Core.List.{List}
 use borrow.Author.Needs.{needs}
 use Rattle.keys.specs.Says.{keysIn}
 use Rattle.trees.proofs.Marking.{marked-below}
-use Rattle.reading.specs.Grown.{Planted}
 use Rattle.reading.proofs.Stages.{planted, still-planted, not-grown, not-typed, right-types}
 use Rattle.reading.proofs.typed_root.Statement.{statement}
 use Rattle.reading.proofs.typed_root.Tie as tie
@@ -104,7 +103,7 @@ typed-root-spec =
     root-stands
     (λ c. search needs)
     (λ c. search needs)
-    (λ c. omega (arith, read-at (known-at (names-at (c .before .before .before))) .read-tree .kept, names-at (c .before .before .before) .before .before .resolve .kept))
+    (λ c. let names = names-at (c .before .before .before) in omega (arith, read-at (known-at names) .read-tree .kept, names .before .before .resolve .kept))
     wrong-types
-    (λ c. omega (arith, read-at (known-at (names-at (c .before .before))) .read-tree .kept, names-at (c .before .before) .before .before .resolve .kept))
+    (λ c. let names = names-at (c .before .before) in omega (arith, read-at (known-at names) .read-tree .kept, names .before .before .resolve .kept))
     typed)

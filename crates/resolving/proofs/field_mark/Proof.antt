@@ -1,5 +1,4 @@
 -- `resolving::field_mark` meets its contract: the number of the field that is named, and one (`named-mark`).
-use Prim.Native.Nat.{ℕ}
 use mathlib.Core.Path.{_≡_, sym, _∙_, ap}
 use Rattle.paper.specs.Types.{fieldNamed}
 use Rattle.trees.specs.Standing.{spelling}

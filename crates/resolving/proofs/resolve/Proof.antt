@@ -1,10 +1,8 @@
 -- `resolving::resolve` meets its contract. The invariant of its loop: the nodes are as they were, and those before i are marked
 -- (`Resolves`); each turn marks one more (`one-more`). The measure is `count - i`.
-use Prim.Native.Nat.{ℕ, _-_, _*_, _+_, _≤_}
+use Prim.Native.Nat.{_-_, _≤_}
 use native.Mathlib.Omega.{arith}
 use mathlib.Core.Path.{_≡_}
-use lib.ListN.{length}
-use borrow.Author.Needs.{needs}
 use Rattle.keys.specs.Says.{keysIn}
 use Rattle.resolving.specs.Resolved.{Resolves}
 use Rattle.resolving.proofs.Marked.{none-resolved, one-more}

@@ -1,8 +1,6 @@
 -- `resolving::resolve_node` meets its contract: a leaf without a name stays as it is, one with a name gets the marks of its arm
 -- (`key-resolved`, `field-resolved`, `attribute-resolved`).
 use mathlib.Core.Path.{_≡_, sym, _∙_}
-use Prim.Native.Nat.{_+_, _*_, _≤_}
-use lib.ListN.{length}
 use Rattle.keys.specs.Says.{keysIn}
 use Rattle.trees.specs.declared.node.Leaf.{Leaf}
 use Rattle.trees.specs.Nodes.{leafAt}

@@ -1,12 +1,8 @@
 -- `judging::leaf_value` meets its contract: the operand that was read (`as-read`) has the value of its arm; an attribute that has one is
 -- the priority (`is-when`).
-use Prim.Native.Nat.{ℕ}
 use native.Mathlib.Omega.{arith}
 use mathlib.Core.Path.{_≡_, sym, _∙_, subst}
-use mathlib.Core.List.{List}
 use borrow.Author.Needs.{needs}
-use Rattle.paper.specs.Keys.{Key}
-use Rattle.paper.specs.Entry.{Entry}
 use Rattle.paper.specs.Meaning.{Value}
 use Rattle.number.specs.Values.{value}
 use Rattle.keys.specs.Says.{keysIn}

@@ -2,7 +2,7 @@
 -- node that was read says in which parts the code of its tree stands (proofs/Parted: `leaf-code`, `prefixed-code`, `operated-code`); each
 -- is written after the one before (`wrote-on`), and has room because the whole has. A text is one over which the tree has a type, whose
 -- names the marks are, and whose code has room; the caller says that there is one.
-use Prim.Native.Nat.{ℕ, _+_, _*_, _-_, _<_, _≤_}
+use Prim.Native.Nat.{ℕ, _+_, _-_, _<_}
 use native.Mathlib.Omega.{arith}
 use mathlib.Core.Path.{_≡_, refl, sym, _∙_, ap}
 use mathlib.Core.List.{List}
@@ -10,16 +10,16 @@ use lib.ListN.{length}
 use borrow.Author.Needs.{needs}
 use borrow.Fn.Kinds.{In}
 use borrow.Fn.PlainCycle.{Measures, is, falls, and}
-use Rattle.paper.specs.Code.{Instruction, instructionSize}
+use Rattle.paper.specs.Code.{Instruction}
 use Rattle.paper.specs.Translating.{codeOf}
 use Rattle.keys.specs.Says.{keysIn}
 use Rattle.trees.specs.declared.node.Node.{Node}
-use Rattle.trees.specs.declared.node.Node.the-variants.{Without, Before, Between}
+use Rattle.trees.specs.declared.node.Node.the-variants.{Before, Between}
 use Rattle.trees.specs.declared.node.Operator.{Operator}
 use Rattle.trees.specs.Nodes.{nodeAt}
 use Rattle.trees.specs.Standing.{treeAt}
 use Rattle.trees.proofs.Walks.{below}
-use Rattle.translating.specs.Writing.{changeMeant, Wrote, Changing}
+use Rattle.translating.specs.Writing.{changeMeant}
 use Rattle.translating.specs.Own.{ownAt}
 use Rattle.translating.specs.Known.{Known, Writes}
 use Rattle.translating.proofs.Rows.{wrote-as, wrote-on}

@@ -3,18 +3,15 @@
 use Prim.Native.Nat.{ℕ, _-_}
 use native.Mathlib.Omega.{arith}
 use mathlib.Core.Path.{_≡_, sym, _∙_, ap}
-use mathlib.Core.Bool.{false, true}
 use mathlib.Core.List.{List}
 use borrow.Author.Needs.{needs}
 use Rattle.paper.specs.Answers.{ok}
 use Rattle.paper.specs.Keys.{Key}
-use Rattle.paper.specs.Types.{Ty, bool, typeOf}
+use Rattle.paper.specs.Types.{Ty, typeOf}
 use Rattle.keys.specs.Says.{keysIn}
 use Rattle.trees.specs.declared.node.Node.{Node}
 use Rattle.trees.specs.declared.node.Node.the-variants.{Without, Before, Between}
-use Rattle.trees.specs.declared.node.Prefix.{Prefix}
-use Rattle.trees.specs.declared.node.Prefix.the-variants.{Not, Minus}
-use Rattle.trees.specs.Nodes.{leafAt, placeAt, leftOf, nodeAt}
+use Rattle.trees.specs.Nodes.{leafAt, placeAt, leftOf}
 use Rattle.trees.specs.Standing.{treeOn, treeAt}
 use Rattle.trees.proofs.Walks.{tree-at}
 use Rattle.typing.specs.Says.{isMinus}

@@ -1,6 +1,6 @@
 -- `typing::shallow_type` meets its contract. The invariant of its loop: where the whole tree has a type, the tree at i has the same
 -- (`minus-same`), and i is no larger than `at`. The measure is i, since an operand stands below its operator (`below`).
-use Prim.Native.Nat.{ℕ, _+_, _-_, _≤_, _<_}
+use Prim.Native.Nat.{ℕ, _-_, _≤_, _<_}
 use native.Mathlib.Omega.{arith}
 use mathlib.Core.Path.{_≡_, sym, _∙_, ap}
 use mathlib.Core.Bool.{true}

@@ -1,3 +1,4 @@
+-- `valve::verdict` meets its contract: the truth itself, told by its branch.
 use mathlib.Core.Path.{sym, ap}
 use Rattle.paper.specs.Answers.{ok}
 use Rattle.valve.proofs.verdict.verdict.Statement.{statement}

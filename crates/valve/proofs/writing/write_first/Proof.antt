@@ -1,3 +1,4 @@
+-- `valve::write_first` meets its contract: of the bytes of instructions, the blocks written are the paper's (`paper-blocks`).
 use Prim.Native.Nat.{ℕ, _*_, _/_}
 use native.Mathlib.Omega.{arith}
 use mathlib.Core.Path.{_≡_, sym, ap, _∙_}

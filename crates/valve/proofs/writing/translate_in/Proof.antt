@@ -1,53 +1,79 @@
--- `valve::translate_in` meets its contract: the refusal of `restrict`, which leaves the buffer, or the translation by the root that it gives
--- (`translate_by`).
+-- `valve::translate_in` meets its contract: the code fits its scratch (`writes`), a buffer below the blocks needed is refused and kept
+-- (`refusing`), a larger one is filled with them (`filling`).
+use Prim.Native.Nat.{ℕ, _+_, _*_, _<_, _≤_}
 use native.Mathlib.Omega.{arith}
+use mathlib.Core.Path.{refl, subst}
+use lib.ListN.{length}
 use borrow.Author.Needs.{needs}
-use Rattle.reading.proofs.Stages.{rooted, not-restricted}
-use Rattle.valve.proofs.Translates.{stopped, kept}
+use Rattle.valve.proofs.Translates.{count-few, count-by-nodes, writes, refusing, filling}
 use Rattle.valve.proofs.writing.translate_in.Statement.{statement}
 use Rattle.valve.proofs.writing.translate_in.Tie as tie
 
--- where text and list have been looked at; and from there what the function was given
-abbrev restricted-at : tie.After-slice-known4 → tie.After-restrict
-restricted-at c = c .before .before
+-- where the code has been written; and from there what the function was given
+abbrev start : tie.After-write-code → tie.Start
+start c = c .before .before .before .before .before .before
 
-abbrev start : tie.After-restrict → tie.Start
-start c = c .before .before .before .before .before .before .before
+abbrev code-at : tie.After-needed → tie.After-write-code
+code-at c = c .before .before .before
 
--- the root that `restrict` gave
-root-stands : tie.Need-translate-by-requires
-root-stands c κs =
-    let at-root : tie.After-restricted2 = c .before .before .before .before in
-    let at-list = restricted-at (at-root .before .before) in
-    let t = at-list .restrict in
-    let s = start at-list in
-    let r = rooted _ _ _ (t .result) (t .ensures) (at-root .restricted2 .given .1) in
-    ((omega (arith, t .kept, s .pre .0 _ (r .typed .few) (r .typed .short)), omega (arith, s .pre .1 _ (r .typed .few) (r .typed .short))), (_, r))
+code-fits : tie.Need-write-code-requires
+code-fits c κs =
+    let s : tie.Start = c .before .before .before .before .before in
+    (s .pre .0 .0, (s .pre .1 .0, writes (s .pre .1 .0) (s .args .list .now) (s .args .nodes .now) (s .args .buffer .now) (s .args .root) (s .pre .1 .1) _ (s .pre .0 .1)))
 
-translates : tie.Need-returns-2
-translates c =
-    let written : tie.After-translate-by = c .before .before .before .before in
-    let at-root : tie.After-restricted2 = written .before .before .before .before .before in
-    let t = restricted-at (at-root .before .before) .restrict in
-    written .translate-by .ensures _ (rooted _ _ _ (t .result) (t .ensures) (at-root .restricted2 .given .1))
+-- what was written: at most 2,050 instructions, and at most two for each node
+written-few : (c : tie.After-write-code) → (c .write-code .result ≤ 2050) × (c .write-code .result ≤ 2 * (start c .args .root + 1))
+written-few c =
+    let s = start c in
+    let w = c .write-code .ensures (s .pre .1 .0) (writes (s .pre .1 .0) (s .args .list .now) (s .args .nodes .now) (s .args .buffer .now) (s .args .root) (s .pre .1 .1) _ (s .pre .0 .1)) in (
+      count-few (s .pre .1 .0) (s .args .list .now) (s .args .nodes .now) (s .args .buffer .now) (s .args .root) (s .pre .1 .1) _ _ (c .write-code .result) w,
+      count-by-nodes (s .pre .1 .0) (s .args .list .now) (s .args .nodes .now) (s .args .buffer .now) (s .args .root) (s .pre .1 .1) _ _ (c .write-code .result) w,
+    )
 
-refuses : tie.Need-returns
-refuses c =
-    let t = restricted-at (c .before .before .before) .restrict in
-    let e = not-restricted _ _ _ (t .result) (t .ensures) (c .before .restricted .given .1) in
-    record { says = stopped _ _ _ e; holds = kept _ _ _ e }
+bytes-needed : tie.Need-mul-if1
+bytes-needed c = omega (arith, written-few (code-at c), c .needed .ensures)
+
+too-small : tie.Need-returns
+too-small c text passed =
+    let at-code = code-at (c .before) in
+    let s = start at-code in
+    let w = at-code .write-code in
+    refusing text (s .args .list .now) (s .args .nodes .now) (s .args .buffer .now) (s .args .root) passed _ _ (w .result)
+    (w .ensures text (writes text (s .args .list .now) (s .args .nodes .now) (s .args .buffer .now) (s .args .root) passed _ (s .pre .0 .1)))
+    (subst (λ (m : ℕ). length (s .args .buffer .now) < 512 * m) (c .before .needed .ensures) (c .if1 .taken))
+
+large-enough : tie.Need-write-first-requires
+large-enough c κs =
+    let fits : tie.After-needed = c .before .before .before in
+    let at-code = code-at fits in
+    let s = start at-code in
+    (omega (arith, written-few at-code, at-code .write-code .kept, s .pre .0 .1), subst (λ (m : ℕ). 512 * m ≤ length (s .args .buffer .now)) (fits .needed .ensures) (search needs))
+
+-- where the blocks have been written, what was known before
+abbrev fits-at : tie.After-write-first → tie.After-needed
+fits-at c = c .before .before .before .before
+
+fills : tie.Need-returns-2
+fills c text passed =
+    let filled : tie.After-write-first = c .before .before in
+    let at-code = code-at (fits-at filled) in
+    let s = start at-code in
+    let w = at-code .write-code in
+    filling text (s .args .list .now) (s .args .nodes .now) (s .args .buffer .now) (s .args .root) passed _ _ (w .result)
+    (w .ensures text (writes text (s .args .list .now) (s .args .nodes .now) (s .args .buffer .now) (s .args .root) passed _ (s .pre .0 .1))) (s .pre .0 .1)
+    (subst (λ (m : ℕ). 512 * m ≤ length (s .args .buffer .now)) (fits-at filled .needed .ensures) (search needs))
+    _ (filled .write-first .ensures)
 
 pub translate-in-spec : {M : Type 1} → statement M
 translate-in-spec =
     tie.close
     (tie.spec
+    code-fits
     (λ c κs. search needs)
+    bytes-needed
+    (λ c. search needs)
+    too-small
+    large-enough
     (λ c. search needs)
     (λ c. search needs)
-    root-stands
-    (λ c. search needs)
-    refuses
-    (λ c. search needs)
-    (λ c. search needs)
-    (λ c. search needs)
-    translates)
+    fills)

@@ -12,7 +12,7 @@ use Rattle.paper.specs.Numbers.{digitsAfter}
 use Rattle.paper.specs.Tokens.{span}
 use Rattle.paper.specs.Addresses.{Scheme, parts, every, valueOf}
 use Rattle.number.specs.Values.{value}
-use Rattle.addresses.specs.declared.groups.Counted.{Counted}
+use Rattle.addresses.specs.declared.groups.PartsRead.{PartsRead}
 use Rattle.addresses.specs.Reads.{separates, isPart, baseOf, scaleOf, numbers, within, Grouped, partsOf}
 use Rattle.addresses.proofs.Digits.{after-mod}
 use Rattle.addresses.proofs.Strings.{part-last, part-more}
@@ -42,7 +42,7 @@ module _ {k : Scheme} {s : List ℕ} {before n count at : ℕ} (w : Going k s be
       ]
 
   module _ (good : isPart k part ≡ true) (m : ℕ) (put : m ≡ (n * scaleOf k + valueOf (baseOf k) part) % 2 ^ 128) where
-    pub going-last : end ≡ length s → (r : Counted) → r .ok ≡ true → r .count ≡ count + 1 → value (r .number) ≡ m
+    pub going-last : end ≡ length s → (r : PartsRead) → r .ok ≡ true → r .count ≡ count + 1 → value (r .number) ≡ m
         → Grouped k (partsOf k s) before r
     going-last l r o c v =
         let e = part-last (λ b. eqb b (separates k)) s at end far l in

@@ -13,7 +13,7 @@ use Rattle.paper.specs.Numbers.{digitsAfter, inBase}
 use Rattle.paper.specs.Addresses.{Scheme, ipv6, only, every, isGroup, groups, eightGroups, gapped}
 use Rattle.number.specs.Values.{value}
 use Rattle.addresses.specs.declared.Address.{Address}
-use Rattle.addresses.specs.declared.groups.Counted.{Counted}
+use Rattle.addresses.specs.declared.groups.PartsRead.{PartsRead}
 use Rattle.addresses.specs.Reads.{ReadAs, isPart, scaleOf, numbers, partsOf, wholeOf, Grouped}
 use Rattle.addresses.proofs.Digits.{Below, after-lt, after-mod, after-append, parts-below, parts-lt}
 
@@ -27,7 +27,7 @@ read-good r o e = record { says = rw o e; clear = λ h. absurd (true≢false (sy
 pub whole-bad : (k : Scheme) (wanted : ℕ) (ps : List (List ℕ)) → every (isPart k) ps ≡ false → wholeOf k wanted ps ≡ none
 whole-bad k wanted ps e = rw (e, and-false)
 
-pub whole-good : (k : Scheme) (wanted : ℕ) (ps : List (List ℕ)) (r : Counted) → scaleOf k ^ wanted ≤ 2 ^ 128 → Grouped k ps 0 r → r .ok ≡ true
+pub whole-good : (k : Scheme) (wanted : ℕ) (ps : List (List ℕ)) (r : PartsRead) → scaleOf k ^ wanted ≤ 2 ^ 128 → Grouped k ps 0 r → r .ok ≡ true
     → only (eqb (r .count) wanted) (value (r .number)) ≡ wholeOf k wanted ps
 whole-good k wanted ps r l g o = rw (g .counted o, sym (g .told) ∙ o) (go (eqb (length ps) wanted) refl)
   where
@@ -40,7 +40,7 @@ whole-good k wanted ps r l g o = rw (g .counted o, sym (g .told) ∙ o) (go (eqb
     go false e = rw e
 
 -- no part
-pub none-grouped : (k : Scheme) (r : Counted) → r .ok ≡ true → r .count ≡ 0 → value (r .number) < 2 ^ 128 → Grouped k [] (value (r .number)) r
+pub none-grouped : (k : Scheme) (r : PartsRead) → r .ok ≡ true → r .count ≡ 0 → value (r .number) < 2 ^ 128 → Grouped k [] (value (r .number)) r
 none-grouped k r o c l = record { told = o; counted = λ _. c; grown = λ _. sym (mod-eq-of-lt l) }
 
 pub no-bytes : (s : List ℕ) → length s ≡ 0 → s ≡ []

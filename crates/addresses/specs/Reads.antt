@@ -13,17 +13,17 @@ use Rattle.paper.specs.Addresses.{only, every, valueOf}
 use Rattle.number.specs.Values.{value}
 use Rattle.addresses.specs.declared.Scheme.{Scheme}
 use Rattle.addresses.specs.declared.Scheme.the-variants as S
-use Rattle.addresses.specs.declared.Named.{Named}
-use Rattle.addresses.specs.declared.Named.the-variants as N
+use Rattle.addresses.specs.declared.SchemeName.{SchemeName}
+use Rattle.addresses.specs.declared.SchemeName.the-variants as N
 use Rattle.addresses.specs.declared.Address.{Address}
-use Rattle.addresses.specs.declared.groups.Counted.{Counted}
+use Rattle.addresses.specs.declared.groups.PartsRead.{PartsRead}
 
 abbrev pub scheme : Scheme → A.Scheme
 scheme S.Ipv4 = A.ipv4
 scheme S.Ipv6 = A.ipv6
 scheme S.Mac = A.mac
 
-abbrev pub named : Named → Option A.Scheme
+abbrev pub named : SchemeName → Option A.Scheme
 named (N.Is s) = some (scheme s)
 named N.Other = none
 
@@ -79,7 +79,7 @@ abbrev pub zeroFirst : List ℕ → Bool
 zeroFirst s = not (eqb (length s) 1) && starts (is "0") s
 
 -- parts after a number
-pub record Grouped (s : A.Scheme) (ps : List (List ℕ)) (n : ℕ) (r : Counted) : Type 0 where
+pub record Grouped (s : A.Scheme) (ps : List (List ℕ)) (n : ℕ) (r : PartsRead) : Type 0 where
   pub told : r .ok ≡ every (isPart s) ps
   pub counted : r .ok ≡ true → r .count ≡ length ps
   pub grown : r .ok ≡ true → value (r .number) ≡ digitsAfter (scaleOf s) n (numbers s ps) % 2 ^ 128

@@ -15,7 +15,7 @@ use spelling::bytes::DECIMAL;
 use spelling::bytes::HEX;
 
 // Whether all parts are good; if so, how many there are, and the number that they are after another.
-pub struct Counted {
+pub struct PartsRead {
     pub ok: bool,
     pub count: usize,
     pub number: Magnitude,
@@ -67,7 +67,7 @@ fn part_end(string: &[u8], at: usize, separator: u8) -> usize
 }
 
 // Reads all parts of a string, and the number that they are after another one.
-pub(crate) fn groups(kind: Scheme, string: &[u8], before: Magnitude) -> Counted
+pub(crate) fn groups(kind: Scheme, string: &[u8], before: Magnitude) -> PartsRead
     ensures { λ r. ⌜ Grouped (scheme kind) (partsOf (scheme kind) (now (string .entry))) (value before) r ⌝ }
     ensures { λ r. ⌜ r .count ≤ length (now (string .entry)) ⌝ }
 {
@@ -78,7 +78,7 @@ pub(crate) fn groups(kind: Scheme, string: &[u8], before: Magnitude) -> Counted
         let end = part_end(string, at, separator(kind));
         let part = &string[at..end];
         if !is_part(kind, part) {
-            return Counted {
+            return PartsRead {
                 ok: false,
                 count: count,
                 number: number,
@@ -88,7 +88,7 @@ pub(crate) fn groups(kind: Scheme, string: &[u8], before: Magnitude) -> Counted
         number = grown.number;
         count += 1;
         if end == string.len() {
-            return Counted {
+            return PartsRead {
                 ok: true,
                 count: count,
                 number: number,

@@ -9,7 +9,7 @@ ghost use Rattle.addresses.specs.Reads.{ReadAs, gapAt, Grouped};
 use crate::Address;
 use crate::Scheme;
 use crate::bad;
-use crate::groups::Counted;
+use crate::groups::PartsRead;
 use crate::groups::groups;
 use crate::groups::whole;
 use number::Magnitude;
@@ -43,12 +43,12 @@ fn before_gap(string: &[u8]) -> usize
 }
 
 // The groups on one side of a "::", of which there may be none, after a number.
-fn side(string: &[u8], before: Magnitude) -> Counted
+fn side(string: &[u8], before: Magnitude) -> PartsRead
     ensures { λ r. ⌜ Grouped paper.ipv6 (paper.groups (now (string .entry))) (value before) r ⌝ }
     ensures { λ r. ⌜ r .count ≤ length (now (string .entry)) ⌝ }
 {
     if string.len() == 0 {
-        return Counted {
+        return PartsRead {
             ok: true,
             count: 0,
             number: before,

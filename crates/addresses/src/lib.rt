@@ -20,7 +20,7 @@ pub enum Scheme {
 }
 
 // A word that begins an address, or another.
-pub enum Named {
+pub enum SchemeName {
     Is(Scheme),
     Other,
 }
@@ -42,19 +42,19 @@ fn bad() -> Address
 }
 
 // The scheme of which a word begins an address.
-pub fn scheme_of(word: &[u8]) -> Named
+pub fn scheme_of(word: &[u8]) -> SchemeName
     ensures { λ r. ⌜ named r ≡ paper.schemeOf (now (word .entry)) ⌝ }
 {
     if same_bytes(word, b"ipv4") {
-        return Named::Is(Scheme::Ipv4);
+        return SchemeName::Is(Scheme::Ipv4);
     }
     if same_bytes(word, b"ipv6") {
-        return Named::Is(Scheme::Ipv6);
+        return SchemeName::Is(Scheme::Ipv6);
     }
     if same_bytes(word, b"mac") {
-        return Named::Is(Scheme::Mac);
+        return SchemeName::Is(Scheme::Mac);
     }
-    Named::Other
+    SchemeName::Other
 }
 
 // Reads the string of an address.

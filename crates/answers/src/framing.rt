@@ -7,20 +7,20 @@ ghost use Rattle.paper.specs.Numbers.{numberAt};
 ghost use Rattle.answers.specs.Framing.{isCut};
 use libc::STDIN_FILENO;
 
-pub enum Taken {
+pub enum Received {
     Whole(usize),
     TooLong,
     Cut,
 }
 
 // Whether the input ended within a request.
-pub(crate) fn is_cut(t: Taken) -> bool
+pub(crate) fn is_cut(t: Received) -> bool
     ensures { λ r. ⌜ r ≡ isCut t ⌝ }
 {
     match t {
-        Taken::Whole(_) => false,
-        Taken::TooLong => false,
-        Taken::Cut => true,
+        Received::Whole(_) => false,
+        Received::TooLong => false,
+        Received::Cut => true,
     }
 }
 
@@ -72,22 +72,22 @@ fn pass_over(size: usize, room: &mut [u8]) -> bool
 }
 
 // Reads one input of a request into a room; one that is longer than the room is passed over.
-pub(crate) fn take_input(room: &mut [u8]) -> Taken
+pub(crate) fn take_input(room: &mut [u8]) -> Received
     requires { ⌜ 0 < length (now room) ⌝ }
 {
     let mut head = [0u8; 4];
     if io::read_full(STDIN_FILENO, &mut head) < 4 {
-        return Taken::Cut;
+        return Received::Cut;
     }
     let size = size_of(head);
     if size <= room.len() {
         if fill_start(room, size) {
-            return Taken::Whole(size);
+            return Received::Whole(size);
         }
-        return Taken::Cut;
+        return Received::Cut;
     }
     if pass_over(size, room) {
-        return Taken::TooLong;
+        return Received::TooLong;
     }
-    Taken::Cut
+    Received::Cut
 }

@@ -9,7 +9,7 @@ mod framing;
 
 ghost use Prim.Native.Nat.{_<_};
 ghost use lib.ListN.{length};
-use crate::framing::Taken;
+use crate::framing::Received;
 use libc::STDIN_FILENO;
 
 // Whether another request may follow.
@@ -27,13 +27,13 @@ fn request(first: &mut [u8], second: &mut [u8], third: &mut [u8]) -> bool
         lines::say(b"cut\n");
         return false;
     }
-    let Taken::Whole(x) = a else {
+    let Received::Whole(x) = a else {
         return framing::too_long();
     };
-    let Taken::Whole(y) = b else {
+    let Received::Whole(y) = b else {
         return framing::too_long();
     };
-    let Taken::Whole(z) = c else {
+    let Received::Whole(z) = c else {
         return framing::too_long();
     };
     calls::answer(

@@ -21,7 +21,7 @@ use Rattle.grammar.specs.Ladder as L
 use Rattle.tokens.specs.Tokenized.{SpansOn}
 use Rattle.trees.specs.Words.{words, leafWords, Spells, Spelled}
 use Rattle.grammar.specs.Places.{placeOn, wordOn, onward, past, nodeAt}
-use Rattle.grammar.specs.Reading.{Found, Finds, Took, isName}
+use Rattle.grammar.specs.Reading.{Seen, Finds, Took, isName}
 use Rattle.spelling.proofs.Tests.{and-both}
 use Rattle.grammar.proofs.Operators.{join-no, comparison-no}
 use Rattle.grammar.proofs.Operands.{prefix-no}
@@ -52,7 +52,7 @@ module _ (T : Tape) (n at : ℕ) where
         | no l ↦ rw (le-ltb at n (omega arith))
       ]
 
-  pub name-word : {k : ℕ} → Found (T .rows) n at wordNo wordNo k
+  pub name-word : {k : ℕ} → Seen (T .rows) n at wordNo wordNo k
       → isName T n at ≡ undotted (slice (startAt (T .rows) at) (endAt (T .rows) at) (T .text))
   name-word f = rw (lt-ltb at n (f .here), eq-eqb (kindAt (T .rows) at) wordNo (omega arith))
 
@@ -122,13 +122,13 @@ module _ (T : Tape) (n i : ℕ) where
   -- after a key
 
   module _ (read : Reader) (place : ℕ) (w : List ℕ) where
-    pub keyed-colons : {k : ℕ} → Found (T .rows) n i (signNo colons) (signNo colons) k → keyed read place w here ≡ named (G.field place w) (past T n i)
+    pub keyed-colons : {k : ℕ} → Seen (T .rows) n i (signNo colons) (signNo colons) k → keyed read place w here ≡ named (G.field place w) (past T n i)
     keyed-colons h = rw (tokens-here T n i (h .here), sign-at T i colons (omega arith))
 
-    pub keyed-plain : {k : ℕ} → Found (T .rows) n i (signNo opening) (signNo opening) k → schemeOf w ≡ none → keyed read place w here ≡ G.ends (got (G.key place w)) here
+    pub keyed-plain : {k : ℕ} → Seen (T .rows) n i (signNo opening) (signNo opening) k → schemeOf w ≡ none → keyed read place w here ≡ G.ends (got (G.key place w)) here
     keyed-plain h e = rw (tokens-here T n i (h .here), sign-at T i opening (omega arith), e)
 
-    pub keyed-address : {k : ℕ} → Found (T .rows) n i (signNo opening) (signNo opening) k → (s : Scheme) → schemeOf w ≡ some s → keyed read place w here ≡ addressed read s place (past T n i)
+    pub keyed-address : {k : ℕ} → Seen (T .rows) n i (signNo opening) (signNo opening) k → (s : Scheme) → schemeOf w ≡ some s → keyed read place w here ≡ addressed read s place (past T n i)
     keyed-address h s e = rw (tokens-here T n i (h .here), sign-at T i opening (omega arith), e)
 
     -- by the token there
@@ -161,7 +161,7 @@ module _ (T : Tape) (n i : ℕ) where
   -- after the word and "(" of an address
 
   module _ (read : Reader) (s : Scheme) (place : ℕ) where
-    pub addressed-here : {k : ℕ} → Found (T .rows) n i stringNo stringNo k
+    pub addressed-here : {k : ℕ} → Seen (T .rows) n i stringNo stringNo k
         → addressed read s place here
         ≡ addressWith (read s (slice (startAt (T .rows) i + 1) (endAt (T .rows) i - 1) (T .text))) place (tokenOn T i) (past T n i)
     addressed-here h = let e : kind ≡ stringNo = omega arith in rw (tokens-here T n i (h .here), e)

@@ -21,7 +21,7 @@ use Rattle.grammar.specs.Ladder as L
 use Rattle.trees.specs.Words.{prefixNo, words, operatorWords}
 use Rattle.trees.proofs.Stored.{words-length}
 use Rattle.grammar.specs.Places.{placeOn, onward, past, nodeAt, prefixedKind}
-use Rattle.grammar.specs.Reading.{Found, Finds, Took, Meets, Closes, Closed, Unclosed}
+use Rattle.grammar.specs.Reading.{Seen, Finds, Took, Meets, Closes, Closed, Unclosed}
 use Rattle.grammar.proofs.Tapes.{tokens-here, tokens-none, Stands, by-kind, sign-at}
 use Rattle.grammar.proofs.Stores.{sets-on}
 use Rattle.grammar.proofs.Outcomes.{Up, refuses, stuck-at}
@@ -105,7 +105,7 @@ module _ (read : Reader) (inner outer : ℕ → Parser) (T : Tape) (n at : ℕ) 
 
   -- a prefix operator
 
-  module _ {k : ℕ} (h : Found (T .rows) n at firstPrefix lastPrefix k) where
+  module _ {k : ℕ} (h : Seen (T .rows) n at firstPrefix lastPrefix k) where
     abbrev which : Prefix
     which = prefix-of k (h .low) (h .high) .0
 
@@ -161,7 +161,7 @@ module _ (read : Reader) (inner outer : ℕ → Parser) (T : Tape) (n at : ℕ) 
 
   -- a parenthesis
 
-  module _ {k : ℕ} (h : Found (T .rows) n at (signNo opening) (signNo opening) k) where
+  module _ {k : ℕ} (h : Seen (T .rows) n at (signNo opening) (signNo opening) k) where
     paren-here : operand read inner outer here ≡ (outer (placeOn T at) (past T n at) >>> closed)
     unfolding operand
     paren-here = rw (tokens-here T n at (h .here), sign-at T at opening (omega arith))
@@ -205,7 +205,7 @@ module _ (l : ℕ) (some : l ≡ 0 → ⊥) (T : Tape) (n at : ℕ) where
   level : L.prefix l (onward T n at) ≡ operand address (λ _. L.prefix (l - 1)) (λ _. L.sequence false (l - 1)) (onward T n at)
   level = ap (λ (p : Parser). p (onward T n at)) (levels-left l some)
 
-  module _ {k : ℕ} (h : Found (T .rows) n at firstPrefix lastPrefix k) where
+  module _ {k : ℕ} (h : Seen (T .rows) n at firstPrefix lastPrefix k) where
     pub level-up : Up (length (T .text)) (L.prefix (l - 1) (past T n at)) (L.prefix l (onward T n at))
     level-up = rw level (prefix-up address _ _ T n at h)
 

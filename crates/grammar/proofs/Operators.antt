@@ -17,7 +17,7 @@ use Rattle.grammar.specs.declared.steps.Rung.{Rung}
 use Rattle.grammar.specs.declared.steps.Rung.the-variants as R
 use Rattle.grammar.specs.declared.tape.Next.the-variants.{Other}
 use Rattle.grammar.specs.Ladder as L
-use Rattle.grammar.specs.Reading.{Found, Finds}
+use Rattle.grammar.specs.Reading.{Seen, Finds}
 use Rattle.grammar.proofs.Tapes.{tokens-here, tokens-none, Stands, by-kind, sign-at}
 
 abbrev pub Operator : Type 0
@@ -105,7 +105,7 @@ module _ (T : Tape) (n i : ℕ) where
   kind = kindAt (T .rows) i
 
   -- the token of a join, whose number is its own
-  pub joining : (o : Join) {k : ℕ} → Found (T .rows) n i (signNo (join o)) (signNo (join o)) k → Joining T n i (joins o) k
+  pub joining : (o : Join) {k : ℕ} → Seen (T .rows) n i (signNo (join o)) (signNo (join o)) k → Joining T n i (joins o) k
   joining o {k} h =
       let e : k ≡ signNo (join o) = omega arith in
       record {
@@ -117,7 +117,7 @@ module _ (T : Tape) (n i : ℕ) where
         stored = λ b p q. rw (e, joined-no o);
       }
 
-  pub comparing : {k : ℕ} → Found (T .rows) n i firstComparison lastComparison k → Joining T n i compares k
+  pub comparing : {k : ℕ} → Seen (T .rows) n i firstComparison lastComparison k → Joining T n i compares k
   comparing {k} h = let c = comparison-of k (h .low) (h .high) in go (c .0) (c .1)
     where
       go : (c : Comparison) → k ≡ signNo (comparison c) → Joining T n i compares k
@@ -162,7 +162,7 @@ module _ (T : Tape) (n i : ℕ) where
 
   -- the operator of a rung, and none
 
-  pub operating : (rung : Rung) {k : ℕ} → Found (T .rows) n i (L.lowest rung) (L.highest rung) k → Joining T n i (L.operators rung) k
+  pub operating : (rung : Rung) {k : ℕ} → Seen (T .rows) n i (L.lowest rung) (L.highest rung) k → Joining T n i (L.operators rung) k
   operating R.Whole h = joining sequel h
   operating R.Sequence h = joining sequel h
   operating R.Implication h = joining implies h

@@ -80,14 +80,14 @@ abbrev pub isName : Tape → ℕ → ℕ → Bool
 isName T n at = ltb at n && eqb (kindAt (T .rows) at) wordNo && undotted (slice (startAt (T .rows) at) (endAt (T .rows) at) (T .text))
 
 -- what a look at the token of index `at` finds
-pub record Found (rows : List ℕ) (n at lowest highest k : ℕ) : Type 0 where
+pub record Seen (rows : List ℕ) (n at lowest highest k : ℕ) : Type 0 where
   pub here : at < n
   pub told : k ≡ kindAt rows at
   pub low : lowest ≤ k
   pub high : k ≤ highest
 
 abbrev pub Finds : List ℕ → ℕ → ℕ → ℕ → ℕ → Next → Type 0
-Finds rows n at lowest highest (Is k) = Found rows n at lowest highest k
+Finds rows n at lowest highest (Is k) = Seen rows n at lowest highest k
 Finds rows n at lowest highest Other = at < n → (kindAt rows at < lowest) ⊎ (highest < kindAt rows at)
 
 -- the place of the first of the tokens from `at` on, or the text's end
@@ -111,7 +111,7 @@ Closes size rows n free at (Tree f i) = Closed rows n free at f i
 Closes size rows n free at (Refused k p) = Unclosed size rows n at k p
 
 -- the whole text
-pub record Grown (T : Tape) (n : ℕ) (before after : List ℕ) (m : ℕ) : Type 0 where
+pub record WholeTree (T : Tape) (n : ℕ) (before after : List ℕ) (m : ℕ) : Type 0 where
   pub tree : G.Tree
   pub out : parsed (length (T .text)) (tokensOn T 0 n) ≡ ok tree
   pub spelled : Spelled (T .text) tree
@@ -120,5 +120,5 @@ pub record Grown (T : Tape) (n : ℕ) (before after : List ℕ) (m : ℕ) : Type
   pub few : m ≤ n
 
 abbrev pub Parses : Tape → ℕ → List ℕ → List ℕ → Counted → Type 0
-Parses T n before after (S.Count m) = Grown T n before after m
+Parses T n before after (S.Count m) = WholeTree T n before after m
 Parses T n before after (S.Refused k p) = parsed (length (T .text)) (tokensOn T 0 n) ≡ refused k (inputOf p) (offsetOf p)

@@ -32,19 +32,19 @@ use tokens::kinds::OR_ELSE;
 use tokens::kinds::SEQUEL;
 
 // The lowest and the highest kind of some signs.
-struct Signs(u32, u32);
+struct KindRange(u32, u32);
 
 // The operators of a rung.
-fn signs_of(rung: Rung) -> Signs
+fn signs_of(rung: Rung) -> KindRange
     ensures { λ r. ⌜ (r .0 ≡ L.lowest rung) × (r .1 ≡ L.highest rung) ⌝ }
 {
     match rung {
-        Rung::Whole => Signs(SEQUEL, SEQUEL),
-        Rung::Sequence => Signs(SEQUEL, SEQUEL),
-        Rung::Implication => Signs(IMPLIES, IMPLIES),
-        Rung::Disjunction => Signs(OR_ELSE, OR_ELSE),
-        Rung::Conjunction => Signs(AND_ALSO, AND_ALSO),
-        Rung::Comparison => Signs(EQUAL, AT_MOST),
+        Rung::Whole => KindRange(SEQUEL, SEQUEL),
+        Rung::Sequence => KindRange(SEQUEL, SEQUEL),
+        Rung::Implication => KindRange(IMPLIES, IMPLIES),
+        Rung::Disjunction => KindRange(OR_ELSE, OR_ELSE),
+        Rung::Conjunction => KindRange(AND_ALSO, AND_ALSO),
+        Rung::Comparison => KindRange(EQUAL, AT_MOST),
     }
 }
 

@@ -22,8 +22,8 @@ use crate::tape::next_in;
 use crate::tape::place_at;
 use crate::tape::string_at;
 use crate::tape::word_at;
-use addresses::Named;
 use addresses::Scheme;
+use addresses::SchemeName;
 use paper::refused::ADDRESS;
 use paper::refused::GRAMMAR;
 use paper::refused::LEVELS_MANY;
@@ -178,7 +178,7 @@ fn keyed(text: &[u8], tape: &[u32], from: Start, nodes: &mut [u32]) -> Taken
     let Next::Is(_) = next_in(tape, count, at + 1, OPENING, OPENING) else {
         return key_node(tape, at, free, nodes);
     };
-    let Named::Is(scheme) = addresses::scheme_of(word_at(text, tape, at)) else {
+    let SchemeName::Is(scheme) = addresses::scheme_of(word_at(text, tape, at)) else {
         return key_node(tape, at, free, nodes);
     };
     addressed(text, tape, scheme, from, nodes)

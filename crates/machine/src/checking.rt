@@ -56,7 +56,7 @@ fn refused_at(i: usize) -> Checking
 }
 
 // Whether the first n instructions of blocks pass the load check against a key list, or refusal 18.
-pub fn check_types(list: &[u8], blocks: &[u8], n: usize) -> Checking
+pub fn check_code(list: &[u8], blocks: &[u8], n: usize) -> Checking
     requires { ⌜ n ≤ inBlock * (length (now blocks) / blockSize) ⌝ }
     ensures { λ r. ⌜ checkingSays r ≡ loadCheck (length (now (blocks .entry))) (typesAlong (keysIn (now (list .entry))) (instructionsFrom (now (blocks .entry)) 0 n)) ⌝ }
 {

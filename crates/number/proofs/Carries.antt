@@ -9,8 +9,8 @@ use borrow.Author.Tests.{eq-eqb, eqb-true, lt-ltb, ltb-true}
 use lib.Dec.{eqb, ltb, eqb·suc-zero}
 use mir.Syntax.{w32}
 use mir.Val.{Fits}
-use Rattle.number.specs.declared.digits.Carried.{Carried}
-use Rattle.number.specs.declared.digits.Grown.{Grown}
+use Rattle.number.specs.declared.digits.Carry.{Carry}
+use Rattle.number.specs.declared.digits.Extended.{Extended}
 use Rattle.number.specs.declared.magnitude.Magnitude.{Magnitude}
 use Rattle.number.specs.declared.width.Borrowed.{Borrowed}
 use Rattle.number.specs.Values.{bit, limb, nested, value, Grows}
@@ -48,21 +48,21 @@ rest-of : (M n o t : ℕ) → n < M → n + M * o ≡ t → n ≡ t % M
 rest-of M n o t h e = rw (← e, add-mul-mod-self-left) (sym (mod-eq-of-lt h))
 
 -- a Magnitude that holds n with o over it
-pub grows : (r : Grown) (o t : ℕ) → r .ok ≡ eqb o 0 → value (r .number) < 2 ^ 128 → value (r .number) + 2 ^ 128 * o ≡ t → Grows t r
+pub grows : (r : Extended) (o t : ℕ) → r .ok ≡ eqb o 0 → value (r .number) < 2 ^ 128 → value (r .number) + 2 ^ 128 * o ≡ t → Grows t r
 grows r o t e h s =
     record {
       told = e ∙ over-none (2 ^ 128) (value (r .number)) o t h s;
       kept = rest-of (2 ^ 128) (value (r .number)) o t h s;
     }
 
-pub grown-exact : {n : ℕ} {r : Grown} → Grows n r → r .ok ≡ true → value (r .number) ≡ n
+pub grown-exact : {n : ℕ} {r : Extended} → Grows n r → r .ok ≡ true → value (r .number) ≡ n
 grown-exact {n} g e = g .kept ∙ mod-eq-of-lt (ltb-true n (2 ^ 128) (sym (g .told) ∙ e))
 
 scale-step : (n o l k c N M : ℕ) → n + 2 ^ 32 * o ≡ l * k + c → N ≡ M * k + o → n + 2 ^ 32 * N ≡ (l + 2 ^ 32 * M) * k + c
 scale-step n o l k c N M e f = rw (f, add-mul l (2 ^ 32 * M) k, mul-assoc (2 ^ 32) M k) (omega arith)
 
 -- four limbs times a base, plus a digit: each limb hands on what is over
-pub scaled-four : (m : Magnitude) (k c : ℕ) (r0 r1 r2 r3 : Carried) → r0 .limb + 2 ^ 32 * r0 .over ≡ limb m 0 * k + c
+pub scaled-four : (m : Magnitude) (k c : ℕ) (r0 r1 r2 r3 : Carry) → r0 .limb + 2 ^ 32 * r0 .over ≡ limb m 0 * k + c
     → r1 .limb + 2 ^ 32 * r1 .over ≡ limb m 1 * k + r0 .over → r2 .limb + 2 ^ 32 * r2 .over ≡ limb m 2 * k + r1 .over
     → r3 .limb + 2 ^ 32 * r3 .over ≡ limb m 3 * k + r2 .over
     → nested (r0 .limb) (r1 .limb) (r2 .limb) (r3 .limb) + 2 ^ 128 * r3 .over ≡ value m * k + c

@@ -6,7 +6,7 @@ use lib.ListN.{getD}
 use lib.Dec.{ltb}
 use lib.IntN.{ℤ, pos, negℤ}
 use Rattle.number.specs.declared.magnitude.Magnitude.{Magnitude}
-use Rattle.number.specs.declared.digits.Grown.{Grown}
+use Rattle.number.specs.declared.digits.Extended.{Extended}
 use Rattle.number.specs.declared.whole.Whole.{Whole}
 
 -- digits in base 2^32, the lowest first
@@ -32,6 +32,6 @@ abbrev pub wholeOf : Whole → ℤ
 wholeOf w = signed (w .negative) (value (w .size))
 
 -- what growing to n gives: whether n fits 128 bits, and those bits of it
-pub record Grows (n : ℕ) (r : Grown) : Type 0 where
+pub record Grows (n : ℕ) (r : Extended) : Type 0 where
   pub told : r .ok ≡ ltb n (2 ^ 128)
   pub kept : value (r .number) ≡ n % 2 ^ 128

@@ -12,6 +12,6 @@ mod whole;
 mod width;
 
 pub use bytes::word;
-pub use digits::Grown;
+pub use digits::Extended;
 pub use magnitude::Magnitude;
 pub use whole::Whole;

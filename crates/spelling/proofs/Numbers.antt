@@ -13,7 +13,7 @@ use Rattle.paper.specs.Numbers.{digitsAfter}
 use Rattle.paper.specs.Tokens.{spelling, spelled, baseOf, digitOf, span, isNumeral}
 use Rattle.spelling.proofs.Spans.{cut}
 use Rattle.number.specs.Values.{value, Grows}
-use Rattle.number.specs.declared.digits.Grown.{Grown}
+use Rattle.number.specs.declared.digits.Extended.{Extended}
 use Rattle.spelling.specs.Numerals.{inBaseOf, Counts}
 use Rattle.spelling.specs.Runs.{inRun, EndsAt}
 use Rattle.spelling.specs.declared.runs.Run.the-variants.{Digits}
@@ -63,7 +63,7 @@ module _ (ds : List ℕ) (base end : ℕ) (f : EndsAt ds 0 (span (inRun (Digits 
       rw (lt-ltb 0 (length ds) (omega arith), eq-eqb (span (inRun (Digits base)) ds) (length ds) (omega arith))
 
 -- one digit more, and what stands after it
-module _ (base n d : ℕ) (ds : List ℕ) (r : Grown) (g : Grows (n * base + d) r) where
+module _ (base n d : ℕ) (ds : List ℕ) (r : Extended) (g : Grows (n * base + d) r) where
   pub grown-on : r .ok ≡ true → value (r .number) ≡ n * base + d
   grown-on e = g .kept ∙ mod-eq-of-lt (ltb-true (n * base + d) (2 ^ 128) (sym (g .told) ∙ e))
 

@@ -10,10 +10,10 @@ use Rattle.paper.specs.Tokens.{spelling, spelled, isNumeral, numeralValue}
 use Rattle.paper.specs.Tokens as P
 use Rattle.number.specs.Values.{value}
 use Rattle.number.specs.declared.magnitude.Magnitude.{Magnitude}
-use Rattle.number.specs.declared.digits.Grown.{Grown}
+use Rattle.number.specs.declared.digits.Extended.{Extended}
 use Rattle.spelling.specs.declared.numerals.Numeral.{Numeral}
-use Rattle.spelling.specs.declared.numerals.Sort.{Sort}
-use Rattle.spelling.specs.declared.numerals.Sort.the-variants.{Fits, TooLarge, NoNumeral}
+use Rattle.spelling.specs.declared.numerals.Fit.{Fit}
+use Rattle.spelling.specs.declared.numerals.Fit.the-variants.{Fits, TooLarge, NoNumeral}
 
 -- a base, and 0 for none
 abbrev pub baseSaid : ℕ → Option ℕ
@@ -27,12 +27,12 @@ abbrev pub inBaseOf : ℕ → List ℕ → P.Numeral
 inBaseOf base digits = record { base = base; digits = digits }
 
 -- a number, if it fits 128 bits
-pub record Counts (n : ℕ) (r : Grown) : Type 0 where
+pub record Counts (n : ℕ) (r : Extended) : Type 0 where
   pub told : r .ok ≡ ltb n (2 ^ 128)
   pub held : r .ok ≡ true → value (r .number) ≡ n
 
 -- a run by its sort, and the number beside it: that of a numeral that fits, else zero
-abbrev pub SpeltAs : P.Numeral → Magnitude → Sort → Type 0
+abbrev pub SpeltAs : P.Numeral → Magnitude → Fit → Type 0
 SpeltAs n m Fits = (isNumeral n ≡ true) × (ltb (numeralValue n) (2 ^ 128) ≡ true) × (value m ≡ numeralValue n)
 SpeltAs n m TooLarge = (isNumeral n ≡ true) × (ltb (numeralValue n) (2 ^ 128) ≡ false) × (value m ≡ 0)
 SpeltAs n m NoNumeral = (isNumeral n ≡ false) × (value m ≡ 0)

@@ -9,10 +9,10 @@ ghost use Rattle.spelling.specs.Numerals.{baseSaid, Announces, Counts, S
 use crate::bytes;
 use crate::runs;
 use crate::runs::Run;
-use number::Grown;
+use number::Extended;
 use number::Magnitude;
 
-pub enum Sort {
+pub enum Fit {
     Fits,
     TooLarge,
     NoNumeral,
@@ -20,7 +20,7 @@ pub enum Sort {
 
 // What a run is; the number is that of a numeral that fits, and zero of any other run.
 pub struct Numeral {
-    pub sort: Sort,
+    pub sort: Fit,
     pub number: Magnitude,
 }
 
@@ -50,7 +50,7 @@ fn announced(run: &[u8]) -> u8
 }
 
 // What digits count, as far as it fits.
-fn count(digits: &[u8], base: u8) -> Grown
+fn count(digits: &[u8], base: u8) -> Extended
     requires { ⌜ 0 < base ⌝ }
     ensures { λ r. ⌜ Counts (inBase base (map digitOf (now (digits .entry)))) r ⌝ }
 {
@@ -64,14 +64,14 @@ fn count(digits: &[u8], base: u8) -> Grown
         number = grown.number;
         i += 1;
     }
-    Grown {
+    Extended {
         ok: true,
         number: number,
     }
 }
 
 // What has no number that fits.
-fn without_number(sort: Sort) -> Numeral
+fn without_number(sort: Fit) -> Numeral
     ensures { λ r. ⌜ (r .sort ≡ sort) × (value (r .number) ≡ 0) ⌝ }
 {
     Numeral {
@@ -86,20 +86,20 @@ fn in_base(digits: &[u8], base: u8) -> Numeral
 {
     let end = runs::run_end(digits, 0, Run::Digits(base));
     if end == 0 {
-        return without_number(Sort::NoNumeral);
+        return without_number(Fit::NoNumeral);
     }
     if end < digits.len() {
-        return without_number(Sort::NoNumeral);
+        return without_number(Fit::NoNumeral);
     }
     let grown = count(digits, base);
     if grown.ok {
         let number = grown.number;
         return Numeral {
-            sort: Sort::Fits,
+            sort: Fit::Fits,
             number: number,
         };
     }
-    without_number(Sort::TooLarge)
+    without_number(Fit::TooLarge)
 }
 
 // What a run that starts with a digit is, as a whole: a numeral that fits, one that is too large, or none.

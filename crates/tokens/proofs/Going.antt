@@ -12,13 +12,13 @@ use Rattle.number.specs.declared.magnitude.Magnitude.{Magnitude}
 use Rattle.tokens.specs.Scanned.{Stands}
 use Rattle.tokens.specs.Tape.{Tape, tapeOf, Room, rowAt, Has, rowOf, tokensOn}
 use Rattle.tokens.specs.Tokenized.{Cut, SpansOn}
-use Rattle.tokens.specs.declared.found.Found.{Found}
-use Rattle.tokens.specs.declared.found.Found.the-variants as F
+use Rattle.tokens.specs.declared.found.Lexeme.{Lexeme}
+use Rattle.tokens.specs.declared.found.Lexeme.the-variants as F
 use Rattle.tokens.proofs.Steps.{following, following-one, blank-step, token-step, full-step, no-step, large-step, end-step}
 use Rattle.tokens.proofs.Storing.{tokens-stored, spans-stored}
 
 -- what the paper scans at a byte
-abbrev pub Here : List ℕ → ℕ → ℕ → Found → Type 0
+abbrev pub Here : List ℕ → ℕ → ℕ → Lexeme → Type 0
 Here text at number found = Stands text at number (scan (getD text at 0) (drop (at + 1) text)) found
 
 -- n tokens are stored of the bytes before `at`, each of which took a byte at least

@@ -11,7 +11,7 @@ use Rattle.spelling.specs.Runs.{inRun, EndsAt}
 use Rattle.spelling.specs.declared.runs.Run.the-variants.{Line, Quoted}
 use Rattle.spelling.proofs.Spans.{cut}
 use Rattle.tokens.specs.Scanned.{Stands}
-use Rattle.tokens.specs.declared.found.Found.the-variants.{Blank, Token, NoToken}
+use Rattle.tokens.specs.declared.found.Lexeme.the-variants.{Blank, Token, NoToken}
 use Rattle.tokens.proofs.Parts.{part-slice}
 
 module _ (s : List ℕ) (at : ℕ) where

@@ -11,10 +11,10 @@ use Rattle.number.specs.Values.{value}
 use Rattle.number.specs.declared.magnitude.Magnitude.{Magnitude}
 use Rattle.spelling.specs.Numerals.{SpeltAs}
 use Rattle.spelling.specs.Runs.{EndsAt}
-use Rattle.spelling.specs.declared.numerals.Sort.the-variants as S
+use Rattle.spelling.specs.declared.numerals.Fit.the-variants as S
 use Rattle.tokens.specs.Scanned.{Stands}
-use Rattle.tokens.specs.declared.found.Found.{Found}
-use Rattle.tokens.specs.declared.found.Found.the-variants.{Blank, Token, NoToken, TooLarge}
+use Rattle.tokens.specs.declared.found.Lexeme.{Lexeme}
+use Rattle.tokens.specs.declared.found.Lexeme.the-variants.{Blank, Token, NoToken, TooLarge}
 use Rattle.tokens.proofs.Parts.{part-slice, part-first}
 
 -- by its class
@@ -47,7 +47,7 @@ module _ (b : ℕ) (s : List ℕ) where
         unfolding scan
         as-sign e f = rw (blank-not, slash-not, quote-not, e, f)
 
-pub stands-as : {s : List ℕ} {at m n : ℕ} {x y : Scan} {f g : Found} → f ≡ g → m ≡ n → x ≡ y → Stands s at n y g → Stands s at m x f
+pub stands-as : {s : List ℕ} {at m n : ℕ} {x y : Scan} {f g : Lexeme} → f ≡ g → m ≡ n → x ≡ y → Stands s at n y g → Stands s at m x f
 stands-as e p q h = rw (e, p, q) h
 
 -- words and numerals

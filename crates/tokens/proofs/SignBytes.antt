@@ -14,7 +14,7 @@ use Rattle.spelling.proofs.Spans.{cut}
 use Rattle.spelling.proofs.Tests.{and-both}
 use Rattle.tokens.specs.Tape.{wordNo, numeralNo, stringNo, firstSign, lastSign, signOf, tokOf}
 use Rattle.tokens.specs.Scanned.{Stands, Begins}
-use Rattle.tokens.specs.declared.found.Found.the-variants.{Token, NoToken}
+use Rattle.tokens.specs.declared.found.Lexeme.the-variants.{Token, NoToken}
 use Rattle.tokens.specs.declared.signs.Signs.{Signs}
 
 alone : (b : ℕ) → twoBytes b 0 ≡ none

@@ -8,8 +8,8 @@ use lib.ListN.{length}
 use lib.Dec.{eqb}
 use Rattle.paper.specs.Tokens.{Scan, blank, token, noToken, tooLarge, Sign, twoBytes, oneByte}
 use Rattle.tokens.specs.Tape.{stringNo, firstSign, lastSign, signOf, tokOf}
-use Rattle.tokens.specs.declared.found.Found.{Found}
-use Rattle.tokens.specs.declared.found.Found.the-variants as F
+use Rattle.tokens.specs.declared.found.Lexeme.{Lexeme}
+use Rattle.tokens.specs.declared.found.Lexeme.the-variants as F
 use Rattle.tokens.specs.declared.signs.Signs.{Signs}
 
 -- how a token may stand in a text: a string has both its quotes
@@ -19,20 +19,20 @@ pub record Spans (text : List ℕ) (kind from to : ℕ) : Type 0 where
   pub inside : to ≤ length text
   pub quoted : kind ≡ stringNo → from + 2 ≤ to
 
-abbrev pub foundSays : List ℕ → ℕ → ℕ → Found → Scan
+abbrev pub foundSays : List ℕ → ℕ → ℕ → Lexeme → Scan
 foundSays text at number (F.Blank end) = blank (end - (at + 1))
 foundSays text at number (F.Token kind end) = token (tokOf text kind at end number) (end - (at + 1))
 foundSays text at number F.NoToken = noToken
 foundSays text at number F.TooLarge = tooLarge
 
-abbrev pub Ends : List ℕ → ℕ → Found → Type 0
+abbrev pub Ends : List ℕ → ℕ → Lexeme → Type 0
 Ends text at (F.Blank end) = (at < end) × (end ≤ length text)
 Ends text at (F.Token kind end) = Spans text kind at end
 Ends text at F.NoToken = Unit {0}
 Ends text at F.TooLarge = Unit {0}
 
 -- what stands at a byte is what the paper scans there
-pub record Stands (text : List ℕ) (at number : ℕ) (scanned : Scan) (found : Found) : Type 0 where
+pub record Stands (text : List ℕ) (at number : ℕ) (scanned : Scan) (found : Lexeme) : Type 0 where
   pub says : foundSays text at number found ≡ scanned
   pub ends : Ends text at found
 

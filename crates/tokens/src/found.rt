@@ -1,5 +1,5 @@
 // What stands at a byte that no token before it covers.
-pub enum Found {
+pub enum Lexeme {
     // A blank, up to an offset.
     Blank(usize),
     // A token of a kind, up to an offset.

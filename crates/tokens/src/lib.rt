@@ -9,7 +9,7 @@ ghost use lib.ListN.{length};
 ghost use Rattle.paper.specs.Tokens.{tokens, mostText};
 ghost use Rattle.tokens.specs.Tape.{Room, tapeOf};
 ghost use Rattle.tokens.specs.Tokenized.{tokenizedSays, Placed};
-use crate::found::Found;
+use crate::found::Lexeme;
 use crate::rows::Row;
 use paper::Counted;
 use paper::Place;
@@ -37,8 +37,8 @@ pub fn tokenize(text: &[u8], tape: &mut [u32]) -> Counted
         let scanned = scan::scan(text, at);
         let found = scanned.found;
         match found {
-            Found::Blank(end) => at = end,
-            Found::Token(kind, end) => {
+            Lexeme::Blank(end) => at = end,
+            Lexeme::Token(kind, end) => {
                 if n == MOST_TOKENS {
                     return Counted::Refused(refused::TOKENS_MANY, Place::Text(at));
                 }
@@ -53,8 +53,8 @@ pub fn tokenize(text: &[u8], tape: &mut [u32]) -> Counted
                 n += 1;
                 at = end;
             }
-            Found::NoToken => return Counted::Refused(refused::NO_TOKEN, Place::Text(at)),
-            Found::TooLarge => return Counted::Refused(refused::NUMERAL_LARGE, Place::Text(at)),
+            Lexeme::NoToken => return Counted::Refused(refused::NO_TOKEN, Place::Text(at)),
+            Lexeme::TooLarge => return Counted::Refused(refused::NUMERAL_LARGE, Place::Text(at)),
         }
     }
     Counted::Count(n)

@@ -5,24 +5,24 @@ ghost use lib.ListN.{length, getD, drop};
 ghost use Rattle.paper.specs.Tokens as paper;
 ghost use Rattle.number.specs.Values.{value};
 ghost use Rattle.tokens.specs.Scanned.{Stands};
-use crate::found::Found;
+use crate::found::Lexeme;
 use crate::kinds;
 use crate::quotes;
 use crate::signs;
 use number::Magnitude;
 use spelling::bytes;
 use spelling::numerals;
-use spelling::numerals::Sort;
+use spelling::numerals::Fit;
 use spelling::runs;
 use spelling::runs::Run;
 
 // The number is that of a numeral.
 pub struct Scanned {
-    pub found: Found,
+    pub found: Lexeme,
     pub number: Magnitude,
 }
 
-fn unnumbered(found: Found) -> Scanned
+fn unnumbered(found: Lexeme) -> Scanned
     ensures { λ r. ⌜ (r .found ≡ found) × (value (r .number) ≡ 0) ⌝ }
 {
     Scanned {
@@ -31,12 +31,12 @@ fn unnumbered(found: Found) -> Scanned
     }
 }
 
-fn word(text: &[u8], at: usize) -> Found
+fn word(text: &[u8], at: usize) -> Lexeme
     requires { ⌜ at < length (now text) ⌝ }
     ensures { λ r. ⌜ Stands (now (text .entry)) at 0 (paper.scanWord (getD (now (text .entry)) at 0) (drop (at + 1) (now (text .entry)))) r ⌝ }
 {
     let next = at + 1;
-    Found::Token(kinds::WORD, next + spelling::word::word_more(text, next))
+    Lexeme::Token(kinds::WORD, next + spelling::word::word_more(text, next))
 }
 
 fn numeral(text: &[u8], at: usize) -> Scanned
@@ -48,12 +48,12 @@ fn numeral(text: &[u8], at: usize) -> Scanned
     let sort = read.sort;
     let number = read.number;
     match sort {
-        Sort::Fits => Scanned {
-            found: Found::Token(kinds::NUMERAL, end),
+        Fit::Fits => Scanned {
+            found: Lexeme::Token(kinds::NUMERAL, end),
             number: number,
         },
-        Sort::TooLarge => unnumbered(Found::TooLarge),
-        Sort::NoNumeral => unnumbered(Found::NoToken),
+        Fit::TooLarge => unnumbered(Lexeme::TooLarge),
+        Fit::NoNumeral => unnumbered(Lexeme::NoToken),
     }
 }
 
@@ -64,7 +64,7 @@ pub(crate) fn scan(text: &[u8], at: usize) -> Scanned
 {
     let byte = text[at];
     if bytes::is_blank(byte) {
-        return unnumbered(Found::Blank(at + 1));
+        return unnumbered(Lexeme::Blank(at + 1));
     }
     if byte == b'/' {
         return unnumbered(quotes::comment(text, at));

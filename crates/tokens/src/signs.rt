@@ -6,7 +6,7 @@ ghost use lib.ListN.{length, getD, drop};
 ghost use lib.Dec.{eqb};
 ghost use Rattle.paper.specs.Tokens.{scanSign};
 ghost use Rattle.tokens.specs.Scanned.{Stands, Begins};
-use crate::found::Found;
+use crate::found::Lexeme;
 use crate::kinds;
 
 // The signs that begin with a byte: the second byte of the one that takes two, its kind, and the kind of the byte
@@ -49,16 +49,16 @@ fn takes_two(signs: Signs, next: u8) -> bool
 }
 
 // The longest sign at an offset.
-pub(crate) fn sign(text: &[u8], at: usize) -> Found
+pub(crate) fn sign(text: &[u8], at: usize) -> Lexeme
     requires { ⌜ at < length (now text) ⌝ }
     ensures { λ r. ⌜ Stands (now (text .entry)) at 0 (scanSign (getD (now (text .entry)) at 0) (drop (at + 1) (now (text .entry)))) r ⌝ }
 {
     let signs = signs_from(text[at]);
     if takes_two(signs, byte_or_zero(text, at + 1)) {
-        return Found::Token(signs.1, at + 2);
+        return Lexeme::Token(signs.1, at + 2);
     }
     if signs.2 == 0 {
-        return Found::NoToken;
+        return Lexeme::NoToken;
     }
-    Found::Token(signs.2, at + 1)
+    Lexeme::Token(signs.2, at + 1)
 }

@@ -9,8 +9,8 @@ use lib.ListN.{length}
 use borrow.Author.Needs.{needs}
 use Rattle.number.specs.Values.{value}
 use Rattle.tokens.specs.Tape.{tapeOf, Has}
-use Rattle.tokens.specs.declared.found.Found.{Found}
-use Rattle.tokens.specs.declared.found.Found.the-variants as F
+use Rattle.tokens.specs.declared.found.Lexeme.{Lexeme}
+use Rattle.tokens.specs.declared.found.Lexeme.the-variants as F
 use Rattle.tokens.proofs.Going.{Here, Going, going-start, going-blank, going-row, going-token, going-full, going-none, going-large, going-end, going-cut}
 use Rattle.tokens.proofs.tokenize.Statement.{statement}
 use Rattle.tokens.proofs.tokenize.Tie as tie
@@ -52,7 +52,7 @@ going c = at-loop c .loop .inv .1
 more : (c : Scanned) → at c < length (text c)
 more c = c .before .loop-test .taken
 
-here : (c : Scanned) (f : Found) → c .scan .result .found ≡ f → Here (text c) (at c) (number c) f
+here : (c : Scanned) (f : Lexeme) → c .scan .result .found ≡ f → Here (text c) (at c) (number c) f
 here c f e = rw e at (c .scan .ensures)
 
 -- a blank

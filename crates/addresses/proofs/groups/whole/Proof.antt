@@ -6,7 +6,7 @@ use borrow.Author.Tests.{not-true, not-false, eq-eqb, ne-eqb}
 use borrow.Author.Needs.{needs}
 use Rattle.paper.specs.Addresses.{Scheme}
 use Rattle.addresses.specs.Reads.{scheme, partsOf, Grouped}
-use Rattle.addresses.specs.declared.groups.Counted.{Counted}
+use Rattle.addresses.specs.declared.groups.PartsRead.{PartsRead}
 use Rattle.addresses.proofs.Wholes.{read-as, read-good, whole-bad, whole-good}
 use Rattle.addresses.proofs.groups.whole.Statement.{statement}
 use Rattle.addresses.proofs.groups.whole.Tie as tie
@@ -22,7 +22,7 @@ module _ (c : tie.After-groups) where
   abbrev parts : List (List ℕ)
   parts = partsOf kind (c .before .before .before .args .string .now)
 
-  abbrev all : Counted
+  abbrev all : PartsRead
   all = c .groups .result
 
   grouped : Grouped kind parts 0 all

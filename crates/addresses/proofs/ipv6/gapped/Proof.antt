@@ -10,7 +10,7 @@ use borrow.Author.Needs.{needs}
 use lib.ListN.{length}
 use Rattle.paper.specs.Addresses.{ipv6, groups}
 use Rattle.addresses.specs.Reads.{Grouped}
-use Rattle.addresses.specs.declared.groups.Counted.{Counted}
+use Rattle.addresses.specs.declared.groups.PartsRead.{PartsRead}
 use Rattle.addresses.proofs.Wholes.{read-as, read-good, gapped-left, gapped-right, gapped-many, gapped-good}
 use Rattle.addresses.proofs.ipv6.gapped.Statement.{statement}
 use Rattle.addresses.proofs.ipv6.gapped.Tie as tie
@@ -23,10 +23,10 @@ module _ (c : tie.After-side2) where
   abbrev qs : List (List ℕ)
   qs = groups (c .before .before .before .before .before .before .args .right .now)
 
-  abbrev first : Counted
+  abbrev first : PartsRead
   first = c .before .before .side .result
 
-  abbrev second : Counted
+  abbrev second : PartsRead
   second = c .side2 .result
 
   left-read : Grouped ipv6 ps 0 first

@@ -16,7 +16,7 @@ use Rattle.number.specs.Values.{value}
 use Rattle.addresses.specs.Reads.{scheme}
 use Rattle.tokens.specs.Tape.{Tape, tapeOf, startAt, endAt, stringNo}
 use Rattle.grammar.specs.Places.{placeOn}
-use Rattle.grammar.specs.Reading.{Found, Ready}
+use Rattle.grammar.specs.Reading.{Seen, Ready}
 use Rattle.grammar.proofs.Outcomes.{found, absent, stuck-as, bad-as, same-out, has-row, in-text}
 use Rattle.grammar.proofs.Atoms.{took-leaf, addressed-here, addressed-not}
 use Rattle.grammar.proofs.Operands.{close-on}
@@ -62,7 +62,7 @@ Quoted = tie.After-enum-told
 abbrev quoted-looked : Quoted → tie.After-next-in
 quoted-looked c = c .before .before
 
-quoted : (c : Quoted) → let a = quoted-looked c in Found (T a .rows) (n a) (quote a) stringNo stringNo (c .enum-told .given .0 .0)
+quoted : (c : Quoted) → let a = quoted-looked c in Seen (T a .rows) (n a) (quote a) stringNo stringNo (c .enum-told .given .0 .0)
 quoted c = found (quoted-looked c .next-in .ensures) (c .enum-told .given .1)
 
 string-stands : tie.Need-string-at-requires

@@ -14,7 +14,7 @@ use Rattle.addresses.specs.Reads as reads
 use Rattle.tokens.specs.Tape.{Tape, tapeOf, signNo}
 use Rattle.tokens.specs.Tokenized.{SpansOn}
 use Rattle.grammar.specs.Places.{wordOn}
-use Rattle.grammar.specs.Reading.{Found, Finds, Leads}
+use Rattle.grammar.specs.Reading.{Seen, Finds, Leads}
 use Rattle.grammar.specs.declared.tape.Next.the-variants.{Other}
 use Rattle.grammar.proofs.Outcomes.{found, absent, took-as, same-out, has-row, in-text}
 use Rattle.grammar.proofs.Atoms.{took-key, past-two, word-is, keyed-colons, keyed-plain, keyed-address, keyed-not}
@@ -86,7 +86,7 @@ Opened = tie.After-enum-told3
 abbrev opened-first : Opened → tie.After-next-in
 opened-first c = first (c .before .before)
 
-opened : (c : Opened) → let a = opened-first c in Found (T a .rows) (n a) (at a + 1) (signNo opening) (signNo opening) (c .enum-told3 .given .0 .0)
+opened : (c : Opened) → let a = opened-first c in Seen (T a .rows) (n a) (at a + 1) (signNo opening) (signNo opening) (c .enum-told3 .given .0 .0)
 opened c = found (c .before .before .next-in2 .ensures) (c .enum-told3 .given .1)
 
 word-stands : tie.Need-word-at-requires

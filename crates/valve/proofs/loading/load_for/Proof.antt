@@ -30,7 +30,7 @@ not-laid c =
 abbrev layout-at : tie.After-count → tie.After-layout
 layout-at c = c .before .before
 
-within : tie.Need-check-types-requires
+within : tie.Need-check-code-requires
 within c κs =
     let at-layout = layout-at (c .before) in
     let a = start at-layout .args in
@@ -42,7 +42,7 @@ types-refused c =
     let at-layout = layout-at counted in
     let a = start at-layout .args in
     types-told (keysIn (a .list .now)) (a .blocks .now) (at-layout .layout .result) (laid at-layout) (counted .count .given .1)
-    (sym (c .before .before .before .check-types .ensures) ∙ ap checkingSays (c .before .number2 .given .1))
+    (sym (c .before .before .before .check-code .ensures) ∙ ap checkingSays (c .before .number2 .given .1))
 
 types-passed : tie.Need-returns-3
 types-passed c =
@@ -50,7 +50,7 @@ types-passed c =
     let at-layout = layout-at counted in
     let a = start at-layout .args in
     types-told (keysIn (a .list .now)) (a .blocks .now) (at-layout .layout .result) (laid at-layout) (counted .count .given .1)
-    (sym (c .before .before .check-types .ensures) ∙ ap checkingSays (c .enum-told .given .1))
+    (sym (c .before .before .check-code .ensures) ∙ ap checkingSays (c .enum-told .given .1))
 
 pub load-for-spec : {M : Type 1} → statement M
 load-for-spec =

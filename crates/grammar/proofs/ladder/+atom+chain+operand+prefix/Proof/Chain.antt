@@ -9,7 +9,7 @@ use borrow.Author.Needs.{needs}
 use lib.Dec.{eqb}
 use Rattle.grammar.specs.declared.steps.Rung.{Rung}
 use Rattle.grammar.specs.Ladder as L
-use Rattle.grammar.specs.Reading.{Found}
+use Rattle.grammar.specs.Reading.{Seen}
 use Rattle.grammar.proofs.Outcomes.{took, took-on, found, absent, pass-up, ready-on, started, has-row}
 use Rattle.grammar.proofs.Operators.{operating, no-operator, operators-low, operators-high}
 use Rattle.grammar.proofs.Levels.{rung-runs, rung-first, going-start, going-stop, going-end, going-next, going-last, turned-start, turned-on}
@@ -80,7 +80,7 @@ module _ (t : ℕ) where
   abbrev operator-first : Operator → First
   operator-first c = turn-first (operator-turn c)
 
-  sign-found : (c : Operator) → let first = operator-first c in Found (start first .args .tape .now) (start first .args .from .count) (operator-turn c .loop .next) (L.lowest (rung first)) (L.highest (rung first)) (c .before .sign .given .0 .0)
+  sign-found : (c : Operator) → let first = operator-first c in Seen (start first .args .tape .now) (start first .args .from .count) (operator-turn c .loop .next) (L.lowest (rung first)) (L.highest (rung first)) (c .before .sign .given .0 .0)
   sign-found c = found (c .before .before .before .operator-at .ensures) (c .before .sign .given .1)
 
   next-fits : lts.Need-add-ends-after (chain-calls t) (chain-at t) chain.Post chain-Inv-loop chain-μ-loop

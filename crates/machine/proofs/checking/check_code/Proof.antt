@@ -21,8 +21,8 @@ use Rattle.machine.specs.Acting.{takesOf}
 use Rattle.machine.proofs.Along.{along, at-blocks, along-end}
 use Rattle.machine.proofs.Standing.{Standing, standing-first, Turn, made, fails-few, fails-full, fails-wrong, standing-next}
 use Rattle.machine.proofs.Types.{typesAt, all-types, end-types}
-use Rattle.machine.proofs.checking.check_types.Statement.{statement}
-use Rattle.machine.proofs.checking.check_types.Tie as tie
+use Rattle.machine.proofs.checking.check_code.Statement.{statement}
+use Rattle.machine.proofs.checking.check_code.Tie as tie
 
 abbrev Inv-loop : tie.InvT-loop
 Inv-loop list blocks n stack₀ height₀ i₀ stack height i = Standing tyMeant Bool (typesAt (keysIn list) blocks) n stack height i
@@ -127,8 +127,8 @@ ended c =
     ∙ sym (end-types (size s) (l .loop .stack) (l .loop .height))
     ∙ told s (along-end (l .loop .inv .here) (omega arith))
 
-pub check-types-spec : {M : Type 1} → statement M
-check-types-spec =
+pub check-code-spec : {M : Type 1} → statement M
+check-code-spec =
     tie.close
     (tie.spec
     Inv-loop

@@ -36,7 +36,7 @@ extern "C" {
 #define POLLUX_VERSION "1.0.0"
 
 /* What a call may take of the stack, in bytes. */
-#define POLLUX_MAX_STACK (256 * 1024)
+#define POLLUX_MAX_STACK (200 * 1024)
 
 /* Sizes in bytes, and limits. What is over a limit is refused. */
 #define POLLUX_MAX_TEXT 4096 /* bytes */

@@ -28,6 +28,7 @@ pub mod MeaningExamples
 pub mod BlockExamples
 pub mod InstructionExamples
 pub mod TranslationExamples
+pub mod PrintExamples
 pub mod AnswerExamples
 pub mod FaultExamples
 pub mod Basics

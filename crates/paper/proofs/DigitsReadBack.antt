@@ -1,4 +1,4 @@
--- A number's digits in a base, read back, are the number.
+-- The digits of a number in a base, read back in it, are the number; and each is a digit of the base.
 use Prim.Native.Nat.{ℕ, zero, suc, _+_, _*_, _/_, _%_, _^_, _≤_, _<_}
 use native.Mathlib.Nat.{div-lt-iff-lt-mul, div-add-mod', pow-suc, pow-zero, mod-lt}
 use native.Mathlib.Omega.{arith}

@@ -73,5 +73,12 @@ pub mod RefusalsLocated
 pub mod DemandOne
 pub mod DemandTwo
 pub mod DemandThree
+pub mod DigitsReadBack
+pub mod Rungs
+pub mod WordsScanned
+pub mod PiecesCut
+pub mod PrintIsPhrase
+pub mod PrintIsShortest
+pub mod PrintReadsBack
 pub mod WrongPrograms
 pub mod WrongProgramsExist

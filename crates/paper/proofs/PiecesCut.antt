@@ -1,4 +1,4 @@
--- Bytes that stand in a text, one piece behind the other: the tokens that they are cut into.
+-- Pieces of a text that stand one after the other are cut into the tokens of each, one after the other: no offset is computed.
 use Prim.Native.Nat.{ℕ, zero, suc, _+_, _≤_, _<_}
 use native.Mathlib.Nat.{add-zero, add-suc, add-assoc}
 use native.Mathlib.Omega.{arith}
@@ -44,6 +44,6 @@ module _ (text : List ℕ) where
       subst (Cut text (at + 1)) (sym (append-nil ts))
       (subst (λ n. Cut text n ts) f (a-blank 0 cut (inside at 32 rest here) (scanned at 32 rest here)))
 
-  -- what stands behind a piece
-  pub behind : (at : ℕ) (s p : List ℕ) → drop at text ≡ s ++ p → drop (at + length s) text ≡ p
-  behind at s p h = drop-on text s p at (at + length s) h refl
+  -- what stands after a piece
+  pub after : (at : ℕ) (s p : List ℕ) → drop at text ≡ s ++ p → drop (at + length s) text ≡ p
+  after at s p h = drop-on text s p at (at + length s) h refl

@@ -1,4 +1,5 @@
--- The print of a clean tree is cut into tokens that are a phrase on the tree's rung, with the same tree, places aside.
+-- The print of a clean tree is cut into tokens that are a phrase on the rung of the tree, with the same tree, places aside: by one
+-- induction on the tree, for any place in a text and any number of levels that is enough.
 use Prim.Native.Nat.{ℕ, zero, suc, _+_, _-_, _/_, _%_, _^_, _≤_, _<_, max}
 use native.Mathlib.Nat.{lt-of-lt-of-le, le-max-left, le-max-right, le-trans}
 use native.Mathlib.Omega.{arith}
@@ -9,17 +10,17 @@ use lib.ListN.{length, drop, length-append}
 use lib.Dec.{eqb, ltb}
 use borrow.Author.Tests.{ltb-true, ltb-false, leb-true}
 use Rattle.paper.specs.Numbers.{inBase}
-use Rattle.paper.specs.Tokens.{bytes, isDigit, isIdStart, wordMore, isKey, Prefix, notSign, minusSign, Join, sequel, implies, orElse, andAlso, Comparison, equal, unequal, greater, atLeast, less, atMost, join, comparison, prefix, opening, closing, colons, Tok, word, numeral, sign, Token, token, scan}
+use Rattle.paper.specs.Tokens.{bytes, isDigit, isIdStart, wordMore, isKey, Literal, plain, Prefix, notSign, minusSign, Join, sequel, implies, orElse, andAlso, Comparison, equal, unequal, greater, atLeast, less, atMost, join, comparison, prefix, opening, closing, colons, Tok, word, numeral, sign, Token, token, scan}
 use Rattle.paper.specs.Addresses.{address}
 use Rattle.paper.specs.Grammar.{Tree, truth, number, key, field, attribute, prefixed, joined, compared}
 use Rattle.paper.specs.BlocksRoundTrip.{All}
 use Rattle.paper.specs.Sentences.{Phrases, tokenAt, signAt, Operand, a-true, a-false, a-numeral, a-key, a-field, an-attribute, a-prefixed, Prefixed}
-use Rattle.paper.specs.Print.{bare, digitsIn, digitByte, numeralIn, prefixBytes, joinBytes, comparisonBytes, spaced, rung, rungOf, leftOf, rightOf, enclosed, looser, print}
-use Rattle.paper.specs.Sized.{levels, count, Clean}
+use Rattle.paper.specs.Print.{bare, mostDigits, digitsIn, digitByte, numeralIn, literalBytes, prefixBytes, joinBytes, comparisonBytes, spaced, tightest, rung, rungOf, leftOf, rightOf, enclosed, looser, print}
+use Rattle.paper.specs.Sized.{deeper, wider, levels, count, Clean}
 use Rattle.paper.proofs.DigitsReadBack.{digits-back, digits-below}
 use Rattle.paper.proofs.Rungs.{Rung, looser-rung, join-rung, comparison-rung, enclosed-rung}
 use Rattle.paper.proofs.WordsScanned.{unlike, Loose, low-is-digit, scan-word, scan-decimal}
-use Rattle.paper.proofs.PiecesCut.{Lexed, lexed-then, lexed-token, lexed-blank, behind}
+use Rattle.paper.proofs.PiecesCut.{Lexed, lexed-then, lexed-token, lexed-blank, after}
 
 -- signs
 
@@ -33,7 +34,7 @@ unfolding scan
 scan-closing [] = refl
 scan-closing (c ∷ s) = refl
 
-digits-some : (n : ℕ) → 0 < length (digitsIn 10 128 n)
+digits-some : (n : ℕ) → 0 < length (digitsIn 10 mostDigits n)
 digits-some n = go (ltb n 10)
   where
     go : (b : Bool) → 0 < length (cond b (n ∷ []) (digitsIn 10 127 (n / 10) ++ (n % 10 ∷ [])))
@@ -67,14 +68,14 @@ module _ (text : List ℕ) where
   one-byte at b rest k here e = lexed-token text at b [] rest k here e
 
   enclose : (t : Tree) (k : ℕ) (s : List ℕ) (n c : ℕ) → (b : Bool) → ltb (rung t) k ≡ b → k ≤ 5 → Reads (rung t) s n c t
-      → Reads k (enclosed b s) (cond b (suc n) n) (cond b (c + 2) c) t
+      → Reads k (enclosed b s) (deeper b n) (wider b c) t
   enclose t k s n c true e le h zero at rest lv here loose = absurd (omega arith)
   enclose t k s n c true e le h (suc l) at rest lv here loose =
       let x : List ℕ = 41 ∷ rest in
       let one : List ℕ = 40 ∷ [] in
       let h₁ : drop at text ≡ 40 ∷ (s ++ x) = here ∙ ap (λ (y : List ℕ). 40 ∷ y) (append-assoc s (41 ∷ []) rest) in
-      let h₂ : drop (at + 1) text ≡ s ++ x = behind text at one (s ++ x) h₁ in
-      let h₃ : drop (at + 1 + length s) text ≡ x = behind text (at + 1) s x h₂ in
+      let h₂ : drop (at + 1) text ≡ s ++ x = after text at one (s ++ x) h₁ in
+      let h₃ : drop (at + 1 + length s) text ≡ x = after text (at + 1) s x h₂ in
       let b = h l (at + 1) x (omega arith) h₂ (refl, refl) in
       let a = signAt at opening in
       let z = signAt (at + 1 + length s) closing in
@@ -120,19 +121,20 @@ module _ (text : List ℕ) where
         lexed = lexed-token text at b s rest k here e;
       }
 
-  number-reads : (p n : ℕ) → n < 2 ^ 128 → Reads 5 (numeralIn 10 n) 0 1 (number p n)
+  number-reads : (p : ℕ) (n : Literal) → n .value < 2 ^ 128 → Reads tightest (literalBytes n) 0 1 (number p n)
   number-reads p n small l at rest lv here loose =
-      go (digitsIn 10 128 n) (digits-some n) (digits-below 10 128 n (omega arith)) (digits-back 10 128 n (omega arith) below) here
+      let ds = digitsIn 10 mostDigits (n .value) in
+      go ds (digits-some (n .value)) (digits-below 10 mostDigits (n .value) (omega arith)) (digits-back 10 mostDigits (n .value) (omega arith) below) here
     where
-      below : n < 10 ^ 128
-      below = lt-of-lt-of-le small (leb-true (2 ^ 128) (10 ^ 128) refl)
+      below : n .value < 10 ^ mostDigits
+      below = lt-of-lt-of-le small (leb-true (2 ^ 128) (10 ^ mostDigits) refl)
 
-      go : (ds : List ℕ) → 0 < length ds → All (λ d. d < 10) ds → inBase 10 ds ≡ n → drop at text ≡ map digitByte ds ++ rest
+      go : (ds : List ℕ) → 0 < length ds → All (λ d. d < 10) ds → inBase 10 ds ≡ n .value → drop at text ≡ map digitByte ds ++ rest
           → Back at (map digitByte ds) l 5 1 (number p n)
       go [] some h e here = absurd (omega arith)
       go (d ∷ ds) some h e here =
           leaf (number p n) (number at n) (digitByte d) (map digitByte ds) (numeral n) l at rest refl (λ I O. a-numeral at n) here
-          (scan-decimal d ds rest h (subst (λ x. x < 2 ^ 128) (sym e) small) loose ∙ ap (λ x. token (numeral x) (length (map digitByte ds))) e)
+          (scan-decimal d ds rest h (subst (λ x. x < 2 ^ 128) (sym e) small) loose ∙ ap (λ x. token (numeral (plain x)) (length (map digitByte ds))) e)
 
   -- words; one that is a key has a first byte
 
@@ -158,7 +160,7 @@ module _ (text : List ℕ) where
 
   attribute-reads : (p q : ℕ) (f : List ℕ) → Clean (attribute p q f) → Reads 5 (bytes "::" ++ f) 0 2 (attribute p q f)
   attribute-reads p q f clean l at rest lv here loose =
-      let h₂ : drop (at + 2) text ≡ f ++ rest = behind text at (bytes "::") (f ++ rest) here in
+      let h₂ : drop (at + 2) text ≡ f ++ rest = after text at (bytes "::") (f ++ rest) here in
       record {
         tree = attribute at (at + 2) f;
         toks = signAt at colons ∷ tokenAt (at + 2) (word f) ∷ [];
@@ -178,8 +180,8 @@ module _ (text : List ℕ) where
       let e₁ : w ++ bytes "::" ++ f ++ rest ≡ w ++ bytes "::" ++ x = append-assoc (w ++ bytes "::") f rest in
       let e₂ : w ++ bytes "::" ++ x ≡ w ++ (bytes "::" ++ x) = append-assoc w (bytes "::") x in
       let h₁ : drop at text ≡ w ++ (bytes "::" ++ x) = here ∙ e₁ ∙ e₂ in
-      let h₂ : drop to text ≡ bytes "::" ++ x = behind text at w (bytes "::" ++ x) h₁ in
-      let h₃ : drop past text ≡ x = behind text at (w ++ bytes "::") x (here ∙ e₁) in
+      let h₂ : drop to text ≡ bytes "::" ++ x = after text at w (bytes "::" ++ x) h₁ in
+      let h₃ : drop past text ≡ x = after text at (w ++ bytes "::") x (here ∙ e₁) in
       record {
         tree = field at w past f;
         toks = tokenAt at (word w) ∷ signAt to colons ∷ tokenAt past (word f) ∷ [];
@@ -199,8 +201,8 @@ module _ (text : List ℕ) where
   spaced-lexed b s k at rest here e =
       let x : List ℕ = 32 ∷ rest in
       let h₁ : drop at text ≡ 32 ∷ b ∷ (s ++ x) = here ∙ ap (λ (y : List ℕ). 32 ∷ b ∷ y) (append-assoc s (32 ∷ []) rest) in
-      let h₂ : drop (at + 1) text ≡ b ∷ (s ++ x) = behind text at (32 ∷ []) (b ∷ (s ++ x)) h₁ in
-      let h₃ : drop (at + length (32 ∷ b ∷ s)) text ≡ x = behind text at (32 ∷ b ∷ s) x h₁ in
+      let h₂ : drop (at + 1) text ≡ b ∷ (s ++ x) = after text at (32 ∷ []) (b ∷ (s ++ x)) h₁ in
+      let h₃ : drop (at + length (32 ∷ b ∷ s)) text ≡ x = after text at (32 ∷ b ∷ s) x h₁ in
       lexed-then text at (32 ∷ b ∷ s) (32 ∷ []) (tokenAt (at + 1) k ∷ []) []
       (lexed-then text at (32 ∷ []) (b ∷ s) [] (tokenAt (at + 1) k ∷ []) (lexed-blank text at (b ∷ (s ++ x)) h₁) (lexed-token text (at + 1) b s x k h₂ e))
       (lexed-blank text (at + length (32 ∷ b ∷ s)) rest h₃)
@@ -245,7 +247,7 @@ module _ (text : List ℕ) where
   prefix-reads p o t s n c apart h (suc l) at rest lv here loose =
       let to = at + length (prefixBytes o) in
       let h₁ : drop at text ≡ prefixBytes o ++ (s ++ rest) = here ∙ append-assoc (prefixBytes o) s rest in
-      let b = h l to rest (omega arith) (behind text at (prefixBytes o) (s ++ rest) h₁) loose in
+      let b = h l to rest (omega arith) (after text at (prefixBytes o) (s ++ rest) h₁) loose in
       record {
         tree = prefixed at o (b .tree);
         toks = signAt at (prefix o) ∷ b .toks;
@@ -268,8 +270,8 @@ module _ (text : List ℕ) where
         let e₁ : s ++ mid ++ t ++ rest ≡ s ++ mid ++ (t ++ rest) = append-assoc (s ++ mid) t rest in
         let e₂ : s ++ mid ++ (t ++ rest) ≡ s ++ (mid ++ (t ++ rest)) = append-assoc s mid (t ++ rest) in
         let h₁ : drop at text ≡ s ++ (mid ++ (t ++ rest)) = here ∙ e₁ ∙ e₂ in
-        let h₂ : drop (at + length s) text ≡ mid ++ (t ++ rest) = behind text at s (mid ++ (t ++ rest)) h₁ in
-        let h₃ : drop (at + length (s ++ mid)) text ≡ t ++ rest = behind text at (s ++ mid) (t ++ rest) (here ∙ e₁) in
+        let h₂ : drop (at + length s) text ≡ mid ++ (t ++ rest) = after text at s (mid ++ (t ++ rest)) h₁ in
+        let h₃ : drop (at + length (s ++ mid)) text ≡ t ++ rest = after text at (s ++ mid) (t ++ rest) (here ∙ e₁) in
         let a = g l at (mid ++ (t ++ rest)) (le-trans (le-max-left m n) lv) h₁ (mid-loose (t ++ rest)) in
         let b = h l (at + length (s ++ mid)) rest (le-trans (le-max-right m n) lv) h₃ loose in
         let v = u (at + length s + 1) in
@@ -287,7 +289,7 @@ module _ (text : List ℕ) where
         }
 
   digits-apart : (n : ℕ) → Apart (numeralIn 10 n)
-  digits-apart n = go (digitsIn 10 128 n) (digits-some n) (digits-below 10 128 n (omega arith))
+  digits-apart n = go (digitsIn 10 mostDigits n) (digits-some n) (digits-below 10 mostDigits n (omega arith))
     where
       go : (ds : List ℕ) → 0 < length ds → All (λ d. d < 10) ds → Apart (map digitByte ds)
       go [] some h = absurd (omega arith)
@@ -301,11 +303,11 @@ module _ (text : List ℕ) where
       let e = and-eq-true-iff (isIdStart b) (eqb (wordMore w) (length w)) .0 h .0 in
       (unlike isIdStart b 61 e refl, unlike isIdStart b 62 e refl)
 
-  operand-apart : (t : Tree) → Clean t → Apart (enclosed (looser 5 t) (print t))
+  operand-apart : (t : Tree) → Clean t → Apart (enclosed (looser tightest t) (print t))
   unfolding print
   operand-apart (truth p true) h = (refl, refl)
   operand-apart (truth p false) h = (refl, refl)
-  operand-apart (number p n) h = digits-apart n
+  operand-apart (number p n) h = digits-apart (n .value)
   operand-apart (key p w) h = subst Apart (append-nil w) (key-apart w [] (h .0))
   operand-apart (field p w q f) h = subst Apart (sym (append-assoc w (bytes "::") f)) (key-apart w (bytes "::" ++ f) (h .0))
   operand-apart (attribute p q f) h = (refl, refl)
@@ -342,8 +344,8 @@ module _ (text : List ℕ) where
   back (field p w q f) clean = field-reads p w q f clean
   back (attribute p q f) clean = attribute-reads p q f clean
   back (prefixed p o t) clean =
-      prefix-reads p o t (enclosed (looser 5 t) (print t)) _ _ (operand-apart t clean)
-      (enclose t 5 (print t) (levels t) (count t) (looser 5 t) refl (omega arith) (back t clean))
+      prefix-reads p o t (enclosed (looser tightest t) (print t)) _ _ (operand-apart t clean)
+      (enclose t 5 (print t) (levels t) (count t) (looser tightest t) refl (omega arith) (back t clean))
   back (joined p o x y) clean =
       two-reads (λ at. signAt at (join o)) (spaced (joinBytes o)) (λ at. joined at o) (join-lexed o) (λ rest. (refl, refl))
       (λ p q l r x y e f. ap₂ (joined 0 o) e f) (leftOf o) (rightOf o) (rungOf o) (λ l at x y xs ys. join-rung l o at x y xs ys) p x y
@@ -353,6 +355,6 @@ module _ (text : List ℕ) where
   back (compared p c x y) clean =
       two-reads (λ at. signAt at (comparison c)) (spaced (comparisonBytes c)) (λ at. compared at c) (comparison-lexed c) (λ rest. (refl, refl))
       (λ p q l r x y e f. ap₂ (compared 0 c) e f) 5 5 4 (λ l at x y xs ys. comparison-rung l c at x y xs ys) p x y
-      (enclosed (looser 5 x) (print x)) (enclosed (looser 5 y) (print y)) _ _ _ _
-      (enclose x 5 (print x) (levels x) (count x) (looser 5 x) refl (omega arith) (back x (clean .0)))
-      (enclose y 5 (print y) (levels y) (count y) (looser 5 y) refl (omega arith) (back y (clean .1)))
+      (enclosed (looser tightest x) (print x)) (enclosed (looser tightest y) (print y)) _ _ _ _
+      (enclose x 5 (print x) (levels x) (count x) (looser tightest x) refl (omega arith) (back x (clean .0)))
+      (enclose y 5 (print y) (levels y) (count y) (looser tightest y) refl (omega arith) (back y (clean .1)))

@@ -1,4 +1,5 @@
--- A phrase has at least the tokens and the levels of its tree's print; and a tree of good tokens is clean.
+-- No phrase has fewer tokens or levels than the print of its tree, since each parenthesis of the print is one that the rung asks for;
+-- and the tree of good tokens is clean.
 use Prim.Native.Nat.{ℕ, zero, suc, _+_, _^_, _≤_, _<_, max, zero-le}
 use native.Mathlib.Nat.{max-le}
 use native.Mathlib.Omega.{arith}
@@ -15,20 +16,11 @@ use Rattle.paper.specs.Grammar.{Tree, joined, compared, prefixed, Make}
 use Rattle.paper.specs.BlocksRoundTrip.{All}
 use Rattle.paper.specs.Sentences.{Phrases, signAt, Operator, Joining, joining, Comparing, comparing, Once, none-of, one-of, Chain, first, further, Operand, a-true, a-false, a-numeral, an-address, a-key, a-field, an-attribute, a-prefixed, a-parenthesis, Implication, Sequence, Prefixed, Trailing, without, trailing, Whole}
 use Rattle.paper.proofs.Basics.{If}
+use Rattle.paper.proofs.TokenNumbers.{AllGood}
 use Rattle.paper.proofs.AddressNumbers.{address-fits}
-use Rattle.paper.specs.Print.{rung, rungOf, leftOf, rightOf, looser}
-use Rattle.paper.specs.Sized.{levels, count, Clean}
+use Rattle.paper.specs.Print.{tightest, rung, rungOf, leftOf, rightOf, looser}
+use Rattle.paper.specs.Sized.{deeper, wider, levels, count, Clean}
 use Rattle.paper.proofs.Rungs.{Rung}
-
--- tokens as texts have them
-abbrev pub Good : Tok → Type 0
-Good (word w) = isKey w ≡ true
-Good (numeral n) = n < 2 ^ 128
-Good (string q) = Unit {0}
-Good (sign g) = Unit {0}
-
-abbrev pub AllGood : List Token → Type 0
-AllGood ts = All (λ u. Good (u .tok)) ts
 
 good-left : (xs ys : List Token) → AllGood (xs ++ ys) → AllGood xs
 good-left [] ys h = tt
@@ -41,10 +33,10 @@ good-right (x ∷ xs) ys h = good-right xs ys (h .1)
 -- where a rung is asked for
 
 abbrev levelsAt : ℕ → Tree → ℕ
-levelsAt k t = cond (looser k t) (suc (levels t)) (levels t)
+levelsAt k t = deeper (looser k t) (levels t)
 
 abbrev countAt : ℕ → Tree → ℕ
-countAt k t = cond (looser k t) (count t + 2) (count t)
+countAt k t = wider (looser k t) (count t)
 
 pub record Fits (l k : ℕ) (t : Tree) (ts : List Token) : Type 0 where
   pub deep : levelsAt k t ≤ l
@@ -55,7 +47,7 @@ grows : (k j : ℕ) (t : Tree) → k ≤ j → (levelsAt k t ≤ levelsAt j t) �
 grows k j t le = go (looser k t) (looser j t) refl refl
   where
     go : (a b : Bool) → looser k t ≡ a → looser j t ≡ b
-        → (cond a (suc (levels t)) (levels t) ≤ cond b (suc (levels t)) (levels t)) × (cond a (count t + 2) (count t) ≤ cond b (count t + 2) (count t))
+        → (deeper a (levels t) ≤ deeper b (levels t)) × (wider a (count t) ≤ wider b (count t))
     go true true e f = (omega arith, omega arith)
     go true false e f = absurd (omega (arith, ltb-true (rung t) k e, ltb-false (rung t) j f))
     go false true e f = (omega arith, omega arith)
@@ -141,16 +133,16 @@ operand-fits l Inner Outer inner outer t ts (a-parenthesis {ts = rs} at to h) =
     let n : count t ≤ length rs = rw at-top at (f .many) in
     let z = length-append rs (signAt to closing ∷ []) in
     record {
-      deep = either-deep (looser 5 t) (omega arith);
-      many = either-many (looser 5 t) (omega (arith, z));
+      deep = either-deep (looser tightest t) (omega arith);
+      many = either-many (looser tightest t) (omega (arith, z));
       clean = λ a. f .clean (good-left rs (signAt to closing ∷ []) (a .1));
     }
   where
-    either-deep : (b : Bool) → suc (levels t) ≤ l → cond b (suc (levels t)) (levels t) ≤ l
+    either-deep : (b : Bool) → suc (levels t) ≤ l → deeper b (levels t) ≤ l
     either-deep true h = h
     either-deep false h = omega arith
 
-    either-many : (b : Bool) {n : ℕ} → count t + 2 ≤ n → cond b (count t + 2) (count t) ≤ n
+    either-many : (b : Bool) {n : ℕ} → count t + 2 ≤ n → wider b (count t) ≤ n
     either-many true h = h
     either-many false h = omega arith
 

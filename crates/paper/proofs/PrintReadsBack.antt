@@ -1,4 +1,5 @@
--- The claims hold.
+-- The print of a tree that a text has is read to the same tree, places aside: the tree is clean and within the limits, as the text is,
+-- and the print of such a tree is cut into tokens that are a phrase with it.
 use Prim.Native.Nat.{ℕ, zero, suc, _+_, _≤_, _<_}
 use native.Mathlib.Nat.{zero-add}
 use native.Mathlib.Omega.{arith}
@@ -23,8 +24,7 @@ use Rattle.paper.specs.Sized.{levels, count, Clean}
 use Rattle.paper.specs.PrintReadsBack.{PrintReadsBack, PrintsTell, NothingToSpare}
 use Rattle.paper.proofs.Rungs.{looser-rung}
 use Rattle.paper.proofs.PrintIsPhrase.{Back, back}
-use Rattle.paper.proofs.PrintIsShortest.{Fits, AllGood, whole-fits, at-top}
-use Rattle.paper.proofs.Words.{tokens-good}
+use Rattle.paper.proofs.PrintIsShortest.{Fits, whole-fits, at-top}
 
 -- what a text's tree has
 pub record Had (ts : List Token) (t : Tree) : Type 0 where
@@ -44,7 +44,7 @@ read-has text t h =
         deep = rw at-top at (f .deep);
         many = rw at-top at (f .many);
         few = tokens-within text ts cut .few;
-        clean = f .clean (tokens-good text ts cut);
+        clean = f .clean (tokens-within text ts cut .good);
       },
     )
 

@@ -1,5 +1,4 @@
--- The phrases of each rung of the ladder, with at most so many levels; and that a tree on a rung stands, with its needed
--- parentheses, where that rung or a looser one is asked for.
+-- A tree on a rung of the ladder stands, with the parentheses that it needs, where that rung or a looser one is asked for.
 use Prim.Native.Nat.{ℕ, zero, suc, _+_, _≤_, _<_}
 use native.Mathlib.Omega.{arith}
 use mathlib.Core.Path.{_≡_, refl, subst}
@@ -11,6 +10,7 @@ use Rattle.paper.specs.Grammar.{Tree, truth, number, key, field, attribu
 use Rattle.paper.specs.Sentences.{Phrases, signAt, Joining, joining, Comparing, comparing, Once, none-of, one-of, Chain, first, further, a-parenthesis, Implication, Sequence, Prefixed}
 use Rattle.paper.specs.Print.{rungOf, leftOf, rightOf}
 
+-- the phrases of each rung, with at most so many levels
 abbrev pub Rung : ℕ → ℕ → Phrases
 Rung l zero = Sequence (Prefixed address l)
 Rung l (suc zero) = Implication (Prefixed address l)

@@ -1,4 +1,4 @@
--- How the bytes of a print are cut into tokens, wherever they stand in a text.
+-- A word and a decimal numeral are each one token wherever they stand, since a byte follows that goes on with neither.
 use Prim.Native.Nat.{ℕ, zero, suc, _+_, _-_, _*_, _^_, _≤_, _<_}
 use native.Mathlib.Nat.{add-zero, suc-inj}
 use native.Mathlib.Omega.{arith}
@@ -11,7 +11,7 @@ use lib.Seq.{drop-cons, take-at}
 use lib.Dec.{eqb, leb, ltb}
 use borrow.Author.Tests.{eqb-true, leb-true, leb-false, lt-leb, le-leb, ne-eqb, eq-eqb, ltb-true, ltb-false, lt-ltb, le-ltb}
 use Rattle.paper.specs.Numbers.{inBase}
-use Rattle.paper.specs.Tokens.{bytes, is, within, isDigit, isIdStart, isIdByte, isBlank, span, starts, wordMore, isKey, digitOf, baseOf, spelling, spelled, isNumeral, numeralValue, Tok, word, numeral, sign, Token, Scan, blank, token, scan, isLetter, isFigure, classOf}
+use Rattle.paper.specs.Tokens.{bytes, is, within, isDigit, isIdStart, isIdByte, isBlank, span, starts, wordMore, isKey, digitOf, baseOf, spelling, spelled, isNumeral, numeralValue, literalOf, plain, Tok, word, numeral, sign, Token, Scan, blank, token, scan, isLetter, isFigure, classOf}
 use Rattle.paper.specs.Faults.{scanAt, Cut, a-blank, a-token}
 use Rattle.paper.specs.BlocksRoundTrip.{All}
 use Rattle.paper.specs.Print.{digitByte, digitsIn}
@@ -186,7 +186,7 @@ numeral-good base l d ds h =
     rw (whole, eq-eqb (length s) (length s) refl, lt-ltb 0 (length s) (omega arith))
 
 pub scan-decimal : (d : ℕ) (ds rest : List ℕ) → All (λ e. e < 10) (d ∷ ds) → inBase 10 (d ∷ ds) < 2 ^ 128 → Loose rest
-    → scan (digitByte d) (map digitByte ds ++ rest) ≡ token (numeral (inBase 10 (d ∷ ds))) (length (map digitByte ds))
+    → scan (digitByte d) (map digitByte ds ++ rest) ≡ token (numeral (plain (inBase 10 (d ∷ ds)))) (length (map digitByte ds))
 unfolding scan
 scan-decimal d ds rest h small loose =
     let s = map digitByte ds in
@@ -202,27 +202,4 @@ scan-decimal d ds rest h small loose =
       numeral-good 10 (omega arith) d ds h,
       value,
       lt-ltb (inBase 10 (d ∷ ds)) (2 ^ 128) small,
-    )
-
--- a numeral with its base announced: 0, the letter, and digits of the base
-pub scan-announced : (letter base : ℕ) → baseOf letter ≡ some base → base ≤ 16 → isIdByte letter ≡ true → (d : ℕ) (ds rest : List ℕ)
-    → All (λ e. e < base) (d ∷ ds) → inBase base (d ∷ ds) < 2 ^ 128 → Loose rest
-    → scan 48 ((letter ∷ map digitByte (d ∷ ds)) ++ rest) ≡ token (numeral (inBase base (d ∷ ds))) (length (letter ∷ map digitByte (d ∷ ds)))
-unfolding scan
-scan-announced letter base named l id d ds rest h small loose =
-    let digits = map digitByte (d ∷ ds) in
-    let s = map digitByte ds in
-    let ids = all-map (λ e. e < base) (λ b. isIdByte b ≡ true) digitByte (λ e m. digit-id e (omega (arith, m, l))) ds (h .1) in
-    let value : numeralValue (record { base = base; digits = digits }) ≡ inBase base (d ∷ ds) =
-    ap (inBase base) (digits-same base l (d ∷ ds) h)
-    in
-    rw (
-      id,
-      digit-id d (omega (arith, h .0, l)),
-      span-all isIdByte s rest ids (loose-stops rest loose),
-      take-at s rest (length s) refl,
-      named,
-      numeral-good base l d ds h,
-      value,
-      lt-ltb (inBase base (d ∷ ds)) (2 ^ 128) small,
     )

@@ -46,6 +46,7 @@ Fitting = tie.Else2 Inv-loop μ-loop
 abbrev Typing : Type 0
 Typing = tie.After-typed Inv-loop μ-loop
 
+
 abbrev started : Turning → Start
 started l = l .before .before .before
 

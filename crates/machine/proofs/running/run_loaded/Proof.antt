@@ -42,6 +42,7 @@ Taking = tie.After-takes Inv-loop μ-loop
 abbrev Leaving : Type 0
 Leaving = tie.After-left-by Inv-loop μ-loop
 
+
 abbrev started : Turning → Start
 started l = l .before .before .before .before .before
 

@@ -1,13 +1,11 @@
 -- Pieces of a text that stand one after the other are cut into the tokens of each, one after the other: no offset is computed.
-use Prim.Native.Nat.{ℕ, zero, suc, _+_, _≤_, _<_}
-use native.Mathlib.Nat.{add-zero, add-suc, add-assoc}
+use Prim.Native.Nat.{ℕ, suc, _+_, _<_}
 use native.Mathlib.Omega.{arith}
 use mathlib.Core.Path.{_≡_, refl, sym, ap, ap₂, subst, _∙_}
-use mathlib.Core.Bool.{Bool, true, false}
 use mathlib.Core.List.{List, [], _∷_, _++_, append-assoc, append-nil, head-eq-of-cons-eq, tail-eq-of-cons-eq}
 use lib.ListN.{length, drop, length-append, length-drop}
 use lib.Seq.{drop-cons}
-use Rattle.paper.specs.Tokens.{Tok, Token, Scan, blank, token, scan}
+use Rattle.paper.specs.Tokens.{Tok, Token, token, scan}
 use Rattle.paper.specs.Sentences.{tokenAt}
 use Rattle.paper.specs.Faults.{scanAt, Cut, a-blank, a-token}
 use Rattle.paper.proofs.Digits.{drop-on}

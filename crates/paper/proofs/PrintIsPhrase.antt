@@ -8,7 +8,7 @@ use mathlib.Core.Bool.{Bool, true, false, cond, true≢false, and-eq-true-iff}
 use mathlib.Core.List.{List, [], _∷_, _++_, map, append-assoc, append-nil}
 use lib.ListN.{length, drop, length-append}
 use lib.Dec.{eqb, ltb}
-use borrow.Author.Tests.{ltb-true, ltb-false, leb-true}
+use borrow.Author.Tests.{ltb-false, leb-true}
 use Rattle.paper.specs.Numbers.{inBase}
 use Rattle.paper.specs.Tokens.{bytes, isDigit, isIdStart, wordMore, isKey, Literal, plain, Prefix, notSign, minusSign, Join, sequel, implies, orElse, andAlso, Comparison, equal, unequal, greater, atLeast, less, atMost, join, comparison, prefix, opening, closing, colons, Tok, word, numeral, sign, Token, token, scan}
 use Rattle.paper.specs.Addresses.{address}

@@ -1,26 +1,22 @@
 -- No phrase has fewer tokens or levels than the print of its tree, since each parenthesis of the print is one that the rung asks for;
 -- and the tree of good tokens is clean.
-use Prim.Native.Nat.{ℕ, zero, suc, _+_, _^_, _≤_, _<_, max, zero-le}
+use Prim.Native.Nat.{ℕ, zero, suc, _+_, _^_, _≤_, _<_, zero-le}
 use native.Mathlib.Nat.{max-le}
 use native.Mathlib.Omega.{arith}
-use mathlib.Core.Path.{_≡_, refl, sym, ap, subst, _∙_}
-use mathlib.Core.Bool.{Bool, true, false, cond}
-use mathlib.Core.Option.{some}
+use mathlib.Core.Path.{_≡_, refl, subst}
+use mathlib.Core.Bool.{Bool, true, false}
 use mathlib.Core.List.{List, [], _∷_, _++_}
 use lib.ListN.{length, length-append}
-use lib.Dec.{ltb}
-use borrow.Author.Tests.{ltb-true, ltb-false, lt-ltb, le-ltb}
-use Rattle.paper.specs.Tokens.{isKey, Join, sequel, implies, orElse, andAlso, Comparison, join, comparison, closing, Tok, word, numeral, string, sign, Token}
+use borrow.Author.Tests.{ltb-true, ltb-false, le-ltb}
+use Rattle.paper.specs.Tokens.{Join, sequel, implies, orElse, andAlso, Comparison, join, comparison, closing, Token}
 use Rattle.paper.specs.Addresses.{address}
-use Rattle.paper.specs.Grammar.{Tree, joined, compared, prefixed, Make}
-use Rattle.paper.specs.BlocksRoundTrip.{All}
-use Rattle.paper.specs.Sentences.{Phrases, signAt, Operator, Joining, joining, Comparing, comparing, Once, none-of, one-of, Chain, first, further, Operand, a-true, a-false, a-numeral, an-address, a-key, a-field, an-attribute, a-prefixed, a-parenthesis, Implication, Sequence, Prefixed, Trailing, without, trailing, Whole}
+use Rattle.paper.specs.Grammar.{Tree, joined, compared}
+use Rattle.paper.specs.Sentences.{Phrases, signAt, Joining, joining, Comparing, comparing, Once, none-of, one-of, Chain, first, further, Operand, a-true, a-false, a-numeral, an-address, a-key, a-field, an-attribute, a-prefixed, a-parenthesis, Implication, Sequence, Prefixed, without, trailing, Whole}
 use Rattle.paper.proofs.Basics.{If}
 use Rattle.paper.proofs.TokenNumbers.{AllGood}
 use Rattle.paper.proofs.AddressNumbers.{address-fits}
 use Rattle.paper.specs.Print.{tightest, rung, rungOf, leftOf, rightOf, looser}
 use Rattle.paper.specs.Sized.{deeper, wider, levels, count, Clean}
-use Rattle.paper.proofs.Rungs.{Rung}
 
 good-left : (xs ys : List Token) → AllGood (xs ++ ys) → AllGood xs
 good-left [] ys h = tt

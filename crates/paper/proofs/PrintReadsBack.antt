@@ -1,16 +1,14 @@
 -- The print of a tree that a text has is read to the same tree, places aside: the tree is clean and within the limits, as the text is,
 -- and the print of such a tree is cut into tokens that are a phrase with it.
-use Prim.Native.Nat.{ℕ, zero, suc, _+_, _≤_, _<_}
-use native.Mathlib.Nat.{zero-add}
+use Prim.Native.Nat.{ℕ, _+_, _≤_}
 use native.Mathlib.Omega.{arith}
-use mathlib.Core.Path.{_≡_, refl, sym, ap, ap₂, subst, _∙_}
-use mathlib.Core.Bool.{Bool, true, false, _&&_, and-eq-true-iff}
-use mathlib.Core.Option.{Option, none, some}
-use mathlib.Core.List.{List, [], _∷_, _++_, append-nil}
-use lib.ListN.{length, take, drop}
+use mathlib.Core.Path.{_≡_, refl, sym, ap, subst, _∙_}
+use mathlib.Core.Bool.{true, _&&_, and-eq-true-iff}
+use mathlib.Core.List.{List, [], append-nil}
+use lib.ListN.{length}
 use lib.Dec.{leb}
 use Rattle.paper.specs.Answers.{Answer, ok, _>>=_, require, inBuffer}
-use Rattle.paper.specs.Tokens.{Join, sequel, implies, orElse, andAlso, Token, tokens, mostTokens, mostText}
+use Rattle.paper.specs.Tokens.{Token, tokens, mostTokens, mostText}
 use Rattle.paper.specs.Addresses.{address}
 use Rattle.paper.specs.Grammar.{Tree, truth, number, key, field, attribute, prefixed, joined, compared, nodes, parsed, mostLevels}
 use Rattle.paper.specs.Sentences.{Prefixed, Whole, without}
@@ -20,12 +18,12 @@ use Rattle.paper.proofs.Stages.{bind-ok, ok-same, require-ok}
 use Rattle.paper.proofs.TokenNumbers.{tokens-within}
 use Rattle.paper.proofs.TokenFaults.{tokens-are-cut}
 use Rattle.paper.proofs.Refusals.{read-is-valid}
-use Rattle.paper.specs.Print.{bare, rung, looser, enclosed, print}
+use Rattle.paper.specs.Print.{bare, rung, print}
 use Rattle.paper.specs.Sized.{levels, count, Clean}
 use Rattle.paper.specs.PrintReadsBack.{PrintReadsBack, PrintsTell, NothingToSpare, PrintNoLarger, LentPrintReads, CleanPrintReads}
 use Rattle.paper.proofs.Rungs.{looser-rung}
 use Rattle.paper.proofs.PrintIsPhrase.{Back, back}
-use Rattle.paper.proofs.PrintIsShortest.{Fits, whole-fits, at-top}
+use Rattle.paper.proofs.PrintIsShortest.{whole-fits, at-top}
 
 -- nothing unfolds in what follows, since the checker would go on with the parser
 

@@ -1,12 +1,11 @@
 -- A tree on a rung of the ladder stands, with the parentheses that it needs, where that rung or a looser one is asked for.
-use Prim.Native.Nat.{ℕ, zero, suc, _+_, _≤_, _<_}
+use Prim.Native.Nat.{ℕ, zero, suc, _+_}
 use native.Mathlib.Omega.{arith}
 use mathlib.Core.Path.{_≡_, refl, subst}
-use mathlib.Core.Bool.{Bool, true, false}
 use mathlib.Core.List.{List, [], _∷_, _++_}
 use Rattle.paper.specs.Tokens.{Join, sequel, implies, orElse, andAlso, Comparison, join, comparison, opening, closing, Token}
 use Rattle.paper.specs.Addresses.{address}
-use Rattle.paper.specs.Grammar.{Tree, truth, number, key, field, attribute, prefixed, joined, compared, Reader}
+use Rattle.paper.specs.Grammar.{Tree, joined, compared}
 use Rattle.paper.specs.Sentences.{Phrases, signAt, Joining, joining, Comparing, comparing, Once, none-of, one-of, Chain, first, further, a-parenthesis, Implication, Sequence, Prefixed}
 use Rattle.paper.specs.Print.{rungOf, leftOf, rightOf}
 

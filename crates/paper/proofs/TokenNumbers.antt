@@ -8,7 +8,7 @@ use lib.ListN.{length, take, drop}
 use lib.Dec.{eqb, ltb}
 use borrow.Author.Tests.{ltb-true, eq-eqb}
 use Rattle.paper.specs.Answers.{Answer, ok}
-use Rattle.paper.specs.Tokens.{literalOf, is, span, starts, isIdByte, isIdStart, isDigit, isBlank, wordMore, isKey, Numeral, spelling, isNumeral, numeralValue, Sign, oneByte, twoBytes, Tok, word, numeral, string, sign, Token, Scan, blank, token, noToken, tooLarge, scanComment, scanOne, scanTwo, scanSign, Class, isSpace, isSlash, isQuote, isLetter, isFigure, isOther, classOf, scanClass, scan, onward, tokensFrom, tokens, mostTokens}
+use Rattle.paper.specs.Tokens.{literalOf, is, span, starts, isIdByte, isIdStart, isDigit, isBlank, wordMore, isKey, Numeral, spelling, isNumeral, numeralValue, Sign, oneByte, twoBytes, Tok, word, numeral, string, sign, Token, Scan, blank, token, noToken, tooLarge, scanComment, scanOne, scanTwo, scanSign, isSpace, isSlash, isQuote, isLetter, isFigure, isOther, classOf, scanClass, scan, onward, tokensFrom, tokens, mostTokens}
 use Rattle.paper.specs.BlocksRoundTrip.{All}
 use Rattle.paper.proofs.Stages.{Of, of-bind}
 

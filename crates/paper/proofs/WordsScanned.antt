@@ -1,20 +1,19 @@
 -- A word and a decimal numeral are each one token wherever they stand, since a byte follows that goes on with neither.
-use Prim.Native.Nat.{ℕ, zero, suc, _+_, _-_, _*_, _^_, _≤_, _<_}
-use native.Mathlib.Nat.{add-zero, suc-inj}
+use Prim.Native.Nat.{ℕ, suc, _+_, _^_, _≤_, _<_}
+use native.Mathlib.Nat.{suc-inj}
 use native.Mathlib.Omega.{arith}
-use mathlib.Core.Path.{_≡_, refl, sym, ap, ap₂, subst, _∙_}
-use mathlib.Core.Bool.{Bool, true, false, cond, _&&_, _||_, not, true≢false, and-eq-true-iff}
-use mathlib.Core.Option.{Option, none, some}
-use mathlib.Core.List.{List, [], _∷_, _++_, map, append-assoc, append-nil, head-eq-of-cons-eq, tail-eq-of-cons-eq}
-use lib.ListN.{length, drop, take, length-append, length-drop, length-map}
-use lib.Seq.{drop-cons, take-at}
+use mathlib.Core.Path.{_≡_, refl, sym, ap, ap₂, _∙_}
+use mathlib.Core.Bool.{Bool, true, false, cond, _&&_, _||_, true≢false, and-eq-true-iff}
+use mathlib.Core.Option.{Option, none}
+use mathlib.Core.List.{List, [], _∷_, _++_, map, append-nil}
+use lib.ListN.{length}
+use lib.Seq.{take-at}
 use lib.Dec.{eqb, leb, ltb}
-use borrow.Author.Tests.{eqb-true, leb-true, leb-false, lt-leb, le-leb, ne-eqb, eq-eqb, ltb-true, ltb-false, lt-ltb, le-ltb}
+use borrow.Author.Tests.{eqb-true, leb-true, lt-leb, le-leb, ne-eqb, eq-eqb, ltb-true, ltb-false, lt-ltb, le-ltb}
 use Rattle.paper.specs.Numbers.{inBase}
-use Rattle.paper.specs.Tokens.{bytes, is, within, isDigit, isIdStart, isIdByte, isBlank, span, starts, wordMore, isKey, digitOf, baseOf, spelling, spelled, isNumeral, numeralValue, literalOf, plain, Tok, word, numeral, sign, Token, Scan, blank, token, scan, isLetter, isFigure, classOf}
-use Rattle.paper.specs.Faults.{scanAt, Cut, a-blank, a-token}
+use Rattle.paper.specs.Tokens.{is, isDigit, isIdStart, isIdByte, span, starts, wordMore, isKey, digitOf, baseOf, spelling, spelled, isNumeral, numeralValue, plain, word, numeral, token, scan, isLetter, isFigure, classOf}
 use Rattle.paper.specs.BlocksRoundTrip.{All}
-use Rattle.paper.specs.Print.{digitByte, digitsIn}
+use Rattle.paper.specs.Print.{digitByte}
 
 -- bytes
 

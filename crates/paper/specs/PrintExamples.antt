@@ -1,5 +1,5 @@
 -- 02 a by example: texts with their prints, where parentheses stay, numerals in each base, and what is lent.
-use Prim.Native.Nat.{ℕ, zero, _-_, _^_}
+use Prim.Native.Nat.{ℕ, _-_, _^_}
 use Prim.Native.String as S
 use mathlib.Core.Path.{_≡_}
 use mathlib.Core.Bool.{true, false, cond}

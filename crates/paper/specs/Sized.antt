@@ -1,8 +1,7 @@
 -- How many tokens a print has and how many levels it opens, by the same cases as Print; and the trees that have a text.
 use Prim.Native.Nat.{ℕ, suc, _+_, _^_, _<_, max}
 use mathlib.Core.Path.{_≡_}
-use mathlib.Core.Bool.{Bool, true, false, cond}
-use mathlib.Core.List.{List}
+use mathlib.Core.Bool.{Bool, true, cond}
 use Rattle.paper.specs.Tokens.{isKey, undotted}
 use Rattle.paper.specs.Grammar.{Tree, truth, number, key, field, attribute, prefixed, joined, compared}
 use Rattle.paper.specs.Sentences.{Name}

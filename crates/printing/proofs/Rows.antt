@@ -9,7 +9,7 @@ use mathlib.Core.List.{List, [], _∷_, _++_}
 use lib.ListN.{length, getD, set, take, length-append}
 use lib.Seq.{sets, take-suc, length-take-le, length-sets}
 use lib.Dec.{leb}
-use borrow.Author.Tests.{leb-true, leb-false, le-leb, lt-leb}
+use borrow.Author.Tests.{leb-false, le-leb, lt-leb}
 use Rattle.number.proofs.BigEndian.{sets-append}
 use Rattle.printing.specs.declared.put.Reached.{Reached}
 use Rattle.printing.specs.declared.put.Reached.the-variants.{At, Full}

@@ -2,12 +2,11 @@
 -- those of an operator stand around its two operands and its sign.
 use Prim.Native.Nat.{ℕ, _≤_}
 use native.Mathlib.Omega.{arith}
-use mathlib.Core.Path.{_≡_, refl, ap}
-use mathlib.Core.Bool.{Bool, true, false, cond}
+use mathlib.Core.Path.{_≡_, refl}
+use mathlib.Core.Bool.{Bool, true, false}
 use mathlib.Core.List.{List, _++_, append-nil}
 use lib.Dec.{ltb}
 use borrow.Author.Tests.{le-ltb}
-use Rattle.paper.specs.Tokens.{bytes}
 use Rattle.paper.specs.Grammar as G
 use Rattle.paper.specs.Grammar.{Tree}
 use Rattle.paper.specs.Print.{tightest, rung, looser, enclosed, prefixBytes, print}

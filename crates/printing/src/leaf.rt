@@ -2,7 +2,6 @@
 ghost use Prim.Native.Nat.{_+_, _*_, _≤_};
 ghost use mathlib.Core.List.{_++_};
 ghost use lib.ListN.{length, drop};
-ghost use lib.Seq.{slice};
 ghost use Rattle.paper.specs.Tokens.{bytes};
 ghost use Rattle.paper.specs.Print.{print, numeralIn, truthBytes};
 ghost use Rattle.number.specs.Values.{value};
@@ -65,7 +64,13 @@ fn write_field(text: &[u8], key: Span, name: Span, from: Reached, out: &mut [u8]
     write_name(text, name, word, out)
 }
 
-pub(crate) fn write_leaf(text: &[u8], nodes: &[u32], node: usize, from: Reached, out: &mut [u8]) -> Reached
+pub(crate) fn write_leaf(
+    text: &[u8],
+    nodes: &[u32],
+    node: usize,
+    from: Reached,
+    out: &mut [u8],
+) -> Reached
     requires { ⌜ node * 8 + 8 ≤ length (now nodes) ⌝ }
     ensures { λ r. ⌜ Wrote (now (out .entry)) from (print (leafOn (now (text .entry)) (placeAt (now (nodes .entry)) node) (leafAt (now (nodes .entry)) node))) (now (out .exit)) r ⌝ }
 {

@@ -36,14 +36,14 @@ pub fn write_tree(
             let opened = signs::write_open(needed, from, out);
             let after_left = write_tree(text, nodes, left, signs::left_rung(o), opened, out);
             let before_right = signs::write_operator(o, after_left, out);
-            let after_right = write_tree(
-                text,
-                nodes,
-                node - 1,
-                signs::right_rung(o),
-                before_right,
-                out,
-            );
+            let rung_right = signs::right_rung(o);
+            // A right operand is mostly a leaf, which needs no frame of the walk.
+            let right = Node::read(nodes, node - 1);
+            let Node::Without = right else {
+                let after_right = write_tree(text, nodes, node - 1, rung_right, before_right, out);
+                return signs::write_close(needed, after_right, out);
+            };
+            let after_right = leaf::write_leaf(text, nodes, node - 1, before_right, out);
             signs::write_close(needed, after_right, out)
         }
     }

@@ -1,7 +1,6 @@
 -- The test of the code is that of the definition.
 use borrow.Author.Needs.{needs}
 use borrow.Author.Tests.{lt-ltb, le-ltb}
-use native.Mathlib.Omega.{arith}
 use Rattle.number.proofs.numeral.digit_byte.Statement.{statement}
 use Rattle.number.proofs.numeral.digit_byte.Tie as tie
 

@@ -1,9 +1,9 @@
 -- Before each turn the first i bytes stand at the offset and nothing else has changed; a turn adds one (`copied-more`).
-use Prim.Native.Nat.{_+_, _-_, _≤_}
+use Prim.Native.Nat.{_-_, _≤_}
 use native.Mathlib.Omega.{arith}
 use mathlib.Core.Path.{_≡_, refl, _∙_, ap}
 use lib.ListN.{length, take, length-set}
-use lib.Seq.{sets, take-all, length-sets}
+use lib.Seq.{sets, take-all}
 use denote.Ref.{now}
 use borrow.Author.Needs.{needs}
 use Rattle.printing.proofs.Rows.{copied-more}

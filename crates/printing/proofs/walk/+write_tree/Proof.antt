@@ -5,19 +5,20 @@
 use Prim.Native.Nat.{ℕ, _-_, _<_}
 use native.Mathlib.Omega.{arith}
 use mathlib.Core.Path.{_≡_, sym, _∙_, ap}
-use mathlib.Core.List.{List}
+use mathlib.Core.List.{List, _++_}
 use borrow.Author.Needs.{needs}
 use borrow.Fn.Kinds.{In}
 use borrow.Fn.PlainCycle.{Measures, is, falls, and}
 use Rattle.paper.specs.Grammar.{Tree}
+use Rattle.paper.specs.Print.{print}
 use Rattle.trees.specs.declared.node.Node.{Node}
 use Rattle.trees.specs.declared.node.Node.the-variants.{Without, Before, Between}
 use Rattle.trees.specs.declared.node.Operator.{Operator}
 use Rattle.trees.specs.declared.node.Prefix.{Prefix}
 use Rattle.trees.specs.Nodes.{nodeAt, leafAt, placeAt, leftOf, Below}
-use Rattle.trees.specs.Standing.{treeOn, treeAt}
+use Rattle.trees.specs.Standing.{leafOn, treeOn, treeAt}
 use Rattle.trees.proofs.Walks.{below, tree-at}
-use Rattle.printing.specs.Writing.{rungMeant}
+use Rattle.printing.specs.Writing.{rungMeant, operatorBytes, openBytes, closeBytes}
 use Rattle.printing.specs.declared.signs.Rung.{Rung}
 use Rattle.printing.proofs.Rows.{wrote-as, wrote-on}
 use Rattle.printing.proofs.Shown.{shown, leaf-shown, prefix-shown, operator-shown}
@@ -98,11 +99,14 @@ module _ (t : ℕ) where
   abbrev place : Read → ℕ
   place c = placeAt (nodes c) (node c)
 
-  -- the tree that the node makes is the tree at it, and its operands stand below it
-  by-node : (c : Read) (n : Node) → c .read .result ≡ n
-      → shown (rungMeant (rung c)) (treeOn (text c) (place c) (leafAt (nodes c) (node c)) n (tree c (leftOf n)) (tree c (node c - 1)))
-      ≡ shown (rungMeant (rung c)) (tree c (node c))
-  by-node c n e = ap (shown (rungMeant (rung c))) (sym (tree-at (text c) (nodes c) (node c) n (sym e ∙ c .read .ensures)))
+  -- the tree that a node makes is the tree at it, and its operands stand below it
+  by-node : (c : Read) (k i : ℕ) (n : Node) → n ≡ nodeAt (nodes c) i
+      → shown k (treeOn (text c) (placeAt (nodes c) i) (leafAt (nodes c) i) n (tree c (leftOf n)) (tree c (i - 1))) ≡ shown k (tree c i)
+  by-node c k i n e = ap (shown k) (sym (tree-at (text c) (nodes c) i n e))
+
+  by-leaf : (c : Read) (k : Rung) (i : ℕ) → Without ≡ nodeAt (nodes c) i
+      → print (leafOn (text c) (placeAt (nodes c) i) (leafAt (nodes c) i)) ≡ shown (rungMeant k) (tree c i)
+  by-leaf c k i e = leaf-shown k (text c) (placeAt (nodes c) i) (leafAt (nodes c) i) ∙ by-node c (rungMeant k) i Without e
 
   operands-below : (c : Read) (n : Node) → c .read .result ≡ n → Below (node c) n
   operands-below c n e = below (nodes c) (node c) n (sym e ∙ c .read .ensures)
@@ -115,13 +119,11 @@ module _ (t : ℕ) where
   abbrev leaf-read : Leafed → Read
   leaf-read c = c .before .before .before .before
 
-  leaf-returns : lts.Need-returns (calls t) (asked t) write-tree.Post
+  leaf-returns : lts.Need-returns-2 (calls t) (asked t) write-tree.Post
   leaf-returns c =
       let at-leaf : Leafed = c .before .before in
       let r = leaf-read at-leaf in
-      wrote-as
-      (leaf-shown (rung r) (text r) (place r) (leafAt (nodes r) (node r)) ∙ by-node r Without (at-leaf .before .before .enum-told .given .1))
-      (at-leaf .write-leaf .ensures)
+      wrote-as (by-leaf r (rung r) (node r) (sym (at-leaf .before .before .enum-told .given .1) ∙ r .read .ensures)) (at-leaf .write-leaf .ensures)
 
   -- an operator before its operand
 
@@ -160,18 +162,19 @@ module _ (t : ℕ) where
   abbrev signed : PrefixDone → Signed
   signed c = c .before .before
 
-  prefixed-kept : lts.Need-same-length-2 (calls t) (asked t) write-tree.Post
+  prefixed-kept : lts.Need-same-length-3 (calls t) (asked t) write-tree.Post
   prefixed-kept c =
       let done : PrefixDone = c .before .before in
       omega (arith, signed done .before .before .write-prefix .kept, done .write-tree .kept)
 
-  prefixed-returns : lts.Need-returns-2 (calls t) (asked t) write-tree.Post
+  prefixed-returns : lts.Need-returns-3 (calls t) (asked t) write-tree.Post
   prefixed-returns c =
       let done : PrefixDone = c .before .before in
       let at-node = prefixed (signed done) in
       let r = prefixed-read at-node in
       wrote-as
-      (prefix-shown (rung r) (place r) (prefix-is at-node) (tree r (node r - 1)) ∙ by-node r (Before (prefix-is at-node)) (at-node .before .n .given .1))
+      (prefix-shown (rung r) (place r) (prefix-is at-node) (tree r (node r - 1))
+      ∙ by-node r (rungMeant (rung r)) (node r) (Before (prefix-is at-node)) (sym (at-node .before .n .given .1) ∙ r .read .ensures))
       (wrote-on (signed done .before .before .write-prefix .ensures) (done .write-tree .ensures))
 
   -- an operator between its operands
@@ -221,9 +224,6 @@ module _ (t : ℕ) where
   abbrev left-written : OperatorWritten → LeftWritten
   left-written c = c .before .before .before .before
 
-  right-is : lts.Need-sub-write-tree-2 (calls t) (asked t) write-tree.Post
-  right-is c = let l = operated-below (operated (opened (left-written (c .before .before)))) in omega arith
-
   -- the rung of the right operand is known
   abbrev Asked : Type 0
   Asked = lts.After-right-rung (calls t) (asked t) write-tree.Post
@@ -231,31 +231,60 @@ module _ (t : ℕ) where
   abbrev operator-written : Asked → OperatorWritten
   operator-written c = c .before .before .before
 
+  abbrev asking : Asked → Operated
+  asking c = operated (opened (left-written (operator-written c)))
+
+  all-pieces : (c : Asked) →
+      let left = opened (left-written (operator-written c)) in
+      let r = operated-read (asking c) in
+      let needed = opens left .before .before .is-looser .result in
+      openBytes needed ++ shown (rungMeant (left .left-rung .result)) (tree r (left-at (asking c))) ++ operatorBytes (operator-is (asking c))
+      ++ shown (rungMeant (c .right-rung .result)) (tree r (node r - 1)) ++ closeBytes needed
+      ≡ shown (rungMeant (rung r)) (tree r (node r))
+  all-pieces c =
+      let left = opened (left-written (operator-written c)) in
+      let at-node = asking c in
+      let r = operated-read at-node in
+      let o = operator-is at-node in
+      operator-shown (rungMeant (rung r)) (place r) o (tree r (left-at at-node)) (tree r (node r - 1))
+      (opens left .before .before .is-looser .ensures) (left .left-rung .ensures) (c .right-rung .ensures)
+      ∙ by-node r (rungMeant (rung r)) (node r) (Between o (left-at at-node)) (sym (at-node .before .n2 .given .1) ∙ r .read .ensures)
+
+  right-below : (c : Asked) → 0 < node (operated-read (asking c))
+  right-below c = let l = operated-below (asking c) in omega arith
+
+  right-stands : lts.Need-read-requires-2 (calls t) (asked t) write-tree.Post
+  right-stands c κs =
+      let l = right-below c in
+      let given = start (operated-read (asking c)) .pre in
+      omega (arith, given .1)
+
+  -- the right operand is another operator
+
   right-falls : lts.Need-write-tree-requires-3 (calls t) (asked t) write-tree.Post
   right-falls c κs =
-      let at-node = operated (opened (left-written (operator-written (c .before)))) in
-      let l = operated-below at-node in
-      let given = start (operated-read at-node) .pre in
+      let at-right : Asked = c .before .before .before in
+      let l = right-below at-right in
+      let given = start (operated-read (asking at-right)) .pre in
       (omega (arith, given .0), omega (arith, given .1))
 
-  -- the right operand has been written, and the parenthesis closed
-  abbrev RightWritten : Type 0
-  RightWritten = lts.After-write-tree3 (calls t) (asked t) write-tree.Post
+  abbrev RightWalked : Type 0
+  RightWalked = lts.After-write-tree3 (calls t) (asked t) write-tree.Post
 
-  abbrev right-asked : RightWritten → Asked
-  right-asked c = c .before .before
+  abbrev walked-from : RightWalked → Asked
+  walked-from c = c .before .before .before .before
 
-  abbrev Closed : Type 0
-  Closed = lts.After-write-close (calls t) (asked t) write-tree.Post
+  abbrev WalkClosed : Type 0
+  WalkClosed = lts.After-write-close (calls t) (asked t) write-tree.Post
 
-  abbrev right-written : Closed → RightWritten
-  right-written c = c .before .before .before .before
+  abbrev right-walked : WalkClosed → RightWalked
+  right-walked c = c .before .before .before .before
 
-  operated-kept : lts.Need-same-length-3 (calls t) (asked t) write-tree.Post
-  operated-kept c =
-      let closed : Closed = c .before .before in
-      let right = right-written closed in
-      let op = operator-written (right-asked right) in
+  walked-kept : lts.Need-same-length (calls t) (asked t) write-tree.Post
+  walked-kept c =
+      let closed : WalkClosed = c .before .before in
+      let right = right-walked closed in
+      let op = operator-written (walked-from right) in
       let left = left-written op in
       omega (
         arith,
@@ -266,22 +295,70 @@ module _ (t : ℕ) where
         closed .write-close .kept,
       )
 
-  operated-returns : lts.Need-returns-3 (calls t) (asked t) write-tree.Post
-  operated-returns c =
-      let closed : Closed = c .before .before in
-      let right = right-written closed in
-      let op = operator-written (right-asked right) in
+  by-walk : lts.Need-returns (calls t) (asked t) write-tree.Post
+  by-walk c =
+      let closed : WalkClosed = c .before .before in
+      let right = right-walked closed in
+      let op = operator-written (walked-from right) in
       let left = left-written op in
-      let first = opens (opened left) in
-      let at-node = operated (opened left) in
-      let r = operated-read at-node in
-      let o = operator-is at-node in
-      wrote-as
-      (operator-shown (rungMeant (rung r)) (place r) o (tree r (left-at at-node)) (tree r (node r - 1))
-      (first .before .before .is-looser .ensures) (opened left .left-rung .ensures) (right-asked right .right-rung .ensures)
-      ∙ by-node r (Between o (left-at at-node)) (at-node .before .n2 .given .1))
-      (wrote-on (wrote-on (wrote-on (wrote-on (first .write-open .ensures) (left .write-tree2 .ensures)) (op .write-operator .ensures)) (right .write-tree3 .ensures))
+      wrote-as (all-pieces (walked-from right))
+      (wrote-on (wrote-on (wrote-on (wrote-on (opens (opened left) .write-open .ensures) (left .write-tree2 .ensures)) (op .write-operator .ensures)) (right .write-tree3 .ensures))
       (closed .write-close .ensures))
+
+  -- the right operand is a leaf
+
+  leaf-stands : lts.Need-write-leaf-requires-2 (calls t) (asked t) write-tree.Post
+  leaf-stands c κs =
+      let at-right : Asked = c .before .before .before .before in
+      let l = right-below at-right in
+      let given = start (operated-read (asking at-right)) .pre in
+      omega (arith, given .1)
+
+  abbrev RightLeaf : Type 0
+  RightLeaf = lts.After-write-leaf2 (calls t) (asked t) write-tree.Post
+
+  -- where it is known to be one
+  abbrev leaf-known : RightLeaf → lts.After-enum-told2 (calls t) (asked t) write-tree.Post
+  leaf-known c = c .before .before
+
+  abbrev leaf-from : RightLeaf → Asked
+  leaf-from c = leaf-known c .before .before .before
+
+  abbrev LeafClosed : Type 0
+  LeafClosed = lts.After-write-close2 (calls t) (asked t) write-tree.Post
+
+  abbrev right-leaf : LeafClosed → RightLeaf
+  right-leaf c = c .before .before .before .before
+
+  leaf-kept : lts.Need-same-length-4 (calls t) (asked t) write-tree.Post
+  leaf-kept c =
+      let closed : LeafClosed = c .before .before in
+      let right = right-leaf closed in
+      let op = operator-written (leaf-from right) in
+      let left = left-written op in
+      omega (
+        arith,
+        opens (opened left) .write-open .kept,
+        left .write-tree2 .kept,
+        op .write-operator .kept,
+        right .write-leaf2 .kept,
+        closed .write-close2 .kept,
+      )
+
+  with-leaf : lts.Need-returns-4 (calls t) (asked t) write-tree.Post
+  with-leaf c =
+      let closed : LeafClosed = c .before .before in
+      let right = right-leaf closed in
+      let known = leaf-known right in
+      let at-right = leaf-from right in
+      let op = operator-written at-right in
+      let left = left-written op in
+      let r = operated-read (asking at-right) in
+      wrote-as (all-pieces at-right)
+      (wrote-on
+      (wrote-on (wrote-on (wrote-on (opens (opened left) .write-open .ensures) (left .write-tree2 .ensures)) (op .write-operator .ensures))
+      (wrote-as (by-leaf r (at-right .right-rung .result) (node r - 1) (sym (known .enum-told2 .given .1) ∙ known .before .before .read2 .ensures)) (right .write-leaf2 .ensures)))
+      (closed .write-close2 .ensures))
 
 pub +write-tree-spec : {M : Type 1} → statement M
 +write-tree-spec =
@@ -299,13 +376,21 @@ pub +write-tree-spec : {M : Type 1} → statement M
     (λ c κs. search needs)
     (left-falls t)
     (λ c κs. search needs)
-    (right-is t)
     (λ c κs. search needs)
+    (λ c. right-below t c)
+    (right-stands t)
+    (λ c. search needs)
+    (λ c. right-below t (c .before .before))
     (right-falls t)
+    (λ c κs. search needs)
+    (walked-kept t)
+    (by-walk t)
+    (λ c. right-below t (c .before .before .before))
+    (leaf-stands t)
     (λ c κs. search needs)
     (λ c. search needs)
     (leaf-returns t)
     (prefixed-kept t)
     (prefixed-returns t)
-    (operated-kept t)
-    (operated-returns t)
+    (leaf-kept t)
+    (with-leaf t)

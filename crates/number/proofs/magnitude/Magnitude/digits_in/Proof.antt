@@ -77,7 +77,7 @@ loop-again c =
       omega (arith, l .loop .inv .0),
       simp length-set (l .loop .inv .1),
       rw (test .before .digit-byte .ensures, d .divide .ensures .rest, d .divide .ensures .whole)
-      (digit-more (base l) (left l) (l .loop .bytes) (l .loop .i) (some-left d) (omega (arith, l .loop .inv)) more ∙ l .loop .inv .2),
+          (digit-more (base l) (left l) (l .loop .bytes) (l .loop .i) (some-left d) (omega (arith, l .loop .inv)) more ∙ l .loop .inv .2),
     )
 
 ends-full : tie.Need-returns-2 Inv-loop μ-loop

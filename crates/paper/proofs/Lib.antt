@@ -80,5 +80,6 @@ pub mod PiecesCut
 pub mod PrintIsPhrase
 pub mod PrintIsShortest
 pub mod PrintReadsBack
+pub mod PrintDemands
 pub mod WrongPrograms
 pub mod WrongProgramsExist

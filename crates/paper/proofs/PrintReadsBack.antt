@@ -171,19 +171,20 @@ read-is : (text : List ℕ) → readAnswer text ≡ (sized text >>= λ _. tree t
 unfolding readAnswer
 read-is text = refl
 
-printable-is : (text buffer : List ℕ) → printable text buffer ≡ (sized text >>= λ _. tree text >>= λ t. lends (print t) buffer)
+pub printable-is : (text buffer : List ℕ) → printable text buffer ≡ (sized text >>= λ _. tree text >>= λ t. lends (print t) buffer)
 unfolding printable
 printable-is text buffer = refl
 
 -- the stages of a print that passes
-record Lent (text buffer s : List ℕ) : Type 0 where
+pub record LentPrint (text buffer s : List ℕ) : Type 0 where
   pub small : sized text ≡ ok tt
   pub root : Tree
   pub read : tree text ≡ ok root
   pub lent : s ≡ print root
   pub short : leb (length s) mostText ≡ true
+  pub room : leb (length s) (length buffer) ≡ true
 
-lent-has : (text buffer s : List ℕ) → printable text buffer ≡ ok s → Lent text buffer s
+pub lent-has : (text buffer s : List ℕ) → printable text buffer ≡ ok s → LentPrint text buffer s
 lent-has text buffer s h =
     let (u, small, more) = bind-ok (sized text) (λ _. tree text >>= λ t. lends (print t) buffer) s (sym (printable-is text buffer) ∙ h) in
     let (t, read, rest) = bind-ok (tree text) (λ t. lends (print t) buffer) s more in
@@ -198,6 +199,7 @@ lent-has text buffer s h =
       read = read;
       lent = sym same;
       short = subst (λ x. leb (length x) mostText ≡ true) same (and-eq-true-iff low fits .0 both .0);
+      room = subst (λ x. leb (length x) (length buffer) ≡ true) same (and-eq-true-iff low fits .0 both .1);
     }
 
 pub lent-print-reads : LentPrintReads

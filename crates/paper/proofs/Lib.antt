@@ -81,5 +81,6 @@ pub mod PrintIsPhrase
 pub mod PrintIsShortest
 pub mod PrintReadsBack
 pub mod PrintDemands
+pub mod WrongPrints
 pub mod WrongPrograms
 pub mod WrongProgramsExist

@@ -46,4 +46,5 @@ pub mod Promised
 pub mod Faults
 pub mod Table
 pub mod Demands
+pub mod WrongPrints
 pub mod WrongPrograms

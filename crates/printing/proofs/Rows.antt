@@ -32,10 +32,10 @@ abbrev comes : Reached → ℕ
 comes (At i) = 1
 comes Full = 0
 
-at-same : {r : Reached} {i j : ℕ} → r ≡ At i → r ≡ At j → i ≡ j
+pub at-same : {r : Reached} {i j : ℕ} → r ≡ At i → r ≡ At j → i ≡ j
 at-same e f = ap offset (sym e ∙ f)
 
-at-not-full : {r : Reached} {i : ℕ} → r ≡ At i → r ≡ Full → ⊥
+pub at-not-full : {r : Reached} {i : ℕ} → r ≡ At i → r ≡ Full → ⊥
 at-not-full e f = let z : _≡_ {A = ℕ} 1 0 = ap comes (sym e ∙ f) in omega arith
 
 module _ {from : Reached} (a s : List ℕ) where

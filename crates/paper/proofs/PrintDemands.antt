@@ -13,7 +13,7 @@ use Rattle.paper.specs.Print.{print}
 use Rattle.paper.specs.Calls.{printable, printAnswer, laid, printBuffer}
 use Rattle.paper.specs.Table.{ByTable, printStages}
 use Rattle.paper.specs.Promised.{PrintResult, PrintPromised}
-use Rattle.paper.specs.Demands.{Printable, PrintAnswered, PrintedRight}
+use Rattle.paper.specs.Demands.{Printable, PrintAnswered, PrintedRight, PrintDemandsMet}
 use Rattle.paper.proofs.Stages.{never-ok, ok-same, bind-ok, require-ok}
 use Rattle.paper.proofs.Promised.{printing-same}
 use Rattle.paper.proofs.Table.{table-holds}
@@ -60,7 +60,7 @@ module _ (text buffer : List ℕ) where
       }
 
   module _ (r : PrintResult) (promised : PrintPromised text buffer r) where
-    pub print-answered : PrintAnswered text buffer r
+    print-answered : PrintAnswered text buffer r
     print-answered =
         record {
           table = subst (λ a. ByTable a (printStages text buffer)) (sym (promised .says)) (table-holds .print text buffer);
@@ -69,7 +69,7 @@ module _ (text buffer : List ℕ) where
               ∙ refused-before (printable text buffer) n (inputOf at) (offsetOf at) (sym answer-is ∙ sym (promised .says) ∙ ap printingSays e);
         }
 
-    pub printed-right : PrintedRight text buffer r
+    printed-right : PrintedRight text buffer r
     printed-right =
         record {
           prints = λ n. (
@@ -80,3 +80,6 @@ module _ (text buffer : List ℕ) where
           );
           written = λ n p. promised .holds ∙ buffer-is ∙ ap (λ x. laid x buffer) (printable-bytes n p);
         }
+
+pub print-demands-met : PrintDemandsMet
+print-demands-met text buffer r promised = (print-answered text buffer r promised, printed-right text buffer r promised)

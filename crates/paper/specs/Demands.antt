@@ -43,7 +43,7 @@ use Rattle.paper.specs.Calls.{over}
 use Rattle.paper.specs.LoadedBlocksRun.{Runs}
 use Rattle.paper.specs.Faults.{Cuts}
 use Rattle.paper.specs.Table.{lastNumber, Stage, ByTable, readStages, checkStages, judgeStages, translateStages, loadStages, runStages, printStages}
-use Rattle.paper.specs.Promised.{verdict, TranslateResult, PrintResult, Bytes, Programs, Kept}
+use Rattle.paper.specs.Promised.{verdict, TranslateResult, PrintResult, PrintPromised, Bytes, Programs, Kept}
 
 -- Demand 1. An answer is one of the enum's cases. It is a refusal exactly as the table of 01 says, with that number at that place, and
 -- passes exactly when no stage of the call has a fault. The number is one of the table's, and the place lies in an input that was lent, or
@@ -247,3 +247,8 @@ DemandTwoMet = (p : Programs) → Kept p → DemandTwo p
 
 abbrev pub DemandThreeMet : Type 0
 DemandThreeMet = (p : Programs) → Kept p → DemandThree p
+
+-- and so does a result of `print` that keeps its promise
+abbrev pub PrintDemandsMet : Type 0
+PrintDemandsMet =
+    (text buffer : List ℕ) (r : PrintResult) → PrintPromised text buffer r → PrintAnswered text buffer r × PrintedRight text buffer r

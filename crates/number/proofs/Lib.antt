@@ -1,7 +1,9 @@
 pub mod BigEndian
 pub mod Carries
+pub mod DigitPlaces
 pub mod Limbs
 pub mod Masks
 pub mod Orders
 pub mod Powers
+pub mod Quotients
 pub mod Signs

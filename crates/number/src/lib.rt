@@ -2,16 +2,19 @@
 //
 // A Magnitude is four 32-bit limbs by value. Its operations are told by the number that the limbs stand for
 // (`value`), and a Whole's by the whole number (`wholeOf`), so no caller needs to look at a limb. All of them
-// take every value: only those that read or write bytes ask that the bytes be there.
+// take every value: only those that read or write bytes ask that the bytes be there, and those that divide ask for a base.
 mod bytes;
 mod compare;
 mod digits;
 mod magnitude;
 mod mask;
+mod numeral;
 mod whole;
 mod width;
 
 pub use bytes::word;
 pub use digits::Extended;
 pub use magnitude::Magnitude;
+pub use numeral::Digits;
+pub use numeral::Divided;
 pub use whole::Whole;

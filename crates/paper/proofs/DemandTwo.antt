@@ -45,11 +45,11 @@ module _ (text : List ℕ) where
   unfolding tree
   two-stages = refl
 
-  formed-tree : (root : Tree) → WellFormed text root → tree text ≡ ok root
+  pub formed-tree : (root : Tree) → WellFormed text root → tree text ≡ ok root
   formed-tree root f =
       two-stages ∙ rw (tokens-are-cut text (f .words) .1 (f .cut)) (read-is-valid (length text) (f .words) root .1 (f .sentence))
 
-  tree-formed : (root : Tree) → length text ≤ mostText → tree text ≡ ok root → WellFormed text root
+  pub tree-formed : (root : Tree) → length text ≤ mostText → tree text ≡ ok root → WellFormed text root
   tree-formed root short e =
       let (ts, cut, read) = bind-ok (tokens text) (parsed (length text)) root (sym two-stages ∙ e) in
       record { short = short; words = ts; cut = tokens-are-cut text ts .0 cut; sentence = read-is-valid (length text) ts root .0 read }

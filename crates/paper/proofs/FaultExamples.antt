@@ -68,6 +68,8 @@ rows =
       row-19 = F.entry-wrong (apart (λ n. eqb n 3) refl refl);
       row-20-priority = F.priority-broken (lit≤ tt);
       row-20 = F.match-broken 0 (aKey (bytes "e") exact 8) refl refl;
+      row-21-over-the-limit = F.over-limit (lit< tt);
+      row-21-over-the-buffer = F.over-buffer (lit< tt);
     }
 
 earliest : (m to : ℕ) → twoOf 3 80 4 0 m to → Sooner 4 0 m to
@@ -93,7 +95,7 @@ order =
     }
 
 inputs-in-order : InputsInOrder
-inputs-in-order = record { read = refl; check = refl; judge = refl; translate = refl; load = refl; run = refl }
+inputs-in-order = record { read = refl; check = refl; judge = refl; translate = refl; load = refl; run = refl; print = refl }
 
 pub faultExamples : FaultExamples
 faultExamples = record { rows = rows; order = order; inputs-in-order = inputs-in-order }

@@ -28,6 +28,7 @@ pub mod MeaningExamples
 pub mod BlockExamples
 pub mod InstructionExamples
 pub mod TranslationExamples
+pub mod PrintExamples
 pub mod AnswerExamples
 pub mod FaultExamples
 pub mod Basics
@@ -72,5 +73,14 @@ pub mod RefusalsLocated
 pub mod DemandOne
 pub mod DemandTwo
 pub mod DemandThree
+pub mod DigitsReadBack
+pub mod Rungs
+pub mod WordsScanned
+pub mod PiecesCut
+pub mod PrintIsPhrase
+pub mod PrintIsShortest
+pub mod PrintReadsBack
+pub mod PrintDemands
+pub mod WrongPrints
 pub mod WrongPrograms
 pub mod WrongProgramsExist

@@ -14,8 +14,10 @@ use Rattle.paper.specs.declared.Translation.{Translation}
 use Rattle.paper.specs.declared.Translation.the-variants as T
 use Rattle.paper.specs.declared.Loading.{Loading}
 use Rattle.paper.specs.declared.Loading.the-variants as L
-use Rattle.paper.specs.Answers.{Input, inText, inList, inEntry, inBlocks, inBuffer, Answer, ok, refused, inputOf, offsetOf, readingSays, checkingSays, judgementSays, translationSays, loadingSays}
-use Rattle.paper.specs.Calls.{readAnswer, checkAnswer, judgeAnswer, translateAnswer, translateBuffer, loadAnswer, runAnswer}
+use Rattle.paper.specs.declared.Printing.{Printing}
+use Rattle.paper.specs.declared.Printing.the-variants as W
+use Rattle.paper.specs.Answers.{Input, inText, inList, inEntry, inBlocks, inBuffer, Answer, ok, refused, inputOf, offsetOf, readingSays, checkingSays, judgementSays, translationSays, loadingSays, printingSays}
+use Rattle.paper.specs.Calls.{readAnswer, checkAnswer, judgeAnswer, translateAnswer, translateBuffer, loadAnswer, runAnswer, printAnswer, printBuffer}
 use Rattle.paper.specs.Promised.{verdict, Sole, NoSecondResult, CanBeKept}
 
 -- places
@@ -119,6 +121,13 @@ loadings = record { good = L.Loaded; refusal = L.Refused; good-says = λ n. refl
     go (L.Loaded n) = is-good n
     go (L.Refused n p) = is-refusal n p
 
+printings : Enum printingSays
+printings = record { good = W.Printed; refusal = W.Refused; good-says = λ n. refl; refusal-says = λ n p. refl; either = go }
+  where
+    go : (r : Printing) → Either W.Printed W.Refused r
+    go (W.Printed n) = is-good n
+    go (W.Refused n p) = is-refusal n p
+
 -- results that say the same are the same
 
 pub reading-same : (r s : Reading) → readingSays r ≡ readingSays s → r ≡ s
@@ -135,6 +144,9 @@ translation-same = same-says translationSays translations
 
 pub loading-same : (r s : Loading) → loadingSays r ≡ loadingSays s → r ≡ s
 loading-same = same-says loadingSays loadings
+
+pub printing-same : (r s : Printing) → printingSays r ≡ printingSays s → r ≡ s
+printing-same = same-says printingSays printings
 
 -- calls
 
@@ -153,6 +165,13 @@ no-second-result =
           };
       load = λ list blocks. one-says loadingSays loadings (loadAnswer list blocks);
       run = λ list blocks entry. one-says judgementSays judgements (runAnswer list blocks entry);
+      print = λ text buffer.
+          let answer = one-says printingSays printings (printAnswer text buffer) in
+          record {
+            result = record { answer = answer .result; buffer = printBuffer text buffer };
+            satisfies = record { says = answer .satisfies; holds = refl };
+            no-second = λ r h i. record { answer = answer .no-second (r .answer) (h .says) i; buffer = h .holds i };
+          };
     }
 
 pub can-be-kept : CanBeKept

@@ -2,7 +2,8 @@
 use Prim.Native.Nat.{ℕ, _*_}
 use native.Mathlib.Omega.{arith}
 use mathlib.Core.Path.{_≡_, refl}
-use mathlib.Core.Bool.{true}
+use mathlib.Core.Logic.{_⊎_, inl, inr}
+use mathlib.Core.Bool.{Bool, true, false, _&&_, and-eq-true-iff}
 use mathlib.Core.List.{List, [], _∷_, _++_}
 use lib.ListN.{length}
 use lib.Dec.{leb}
@@ -11,18 +12,20 @@ use Rattle.paper.specs.Answers.{ok, refused, _>>=_, require, inText, inB
 use Rattle.paper.specs.Tokens.{Token, tokens, mostText}
 use Rattle.paper.specs.Keys.{keys}
 use Rattle.paper.specs.Entry.{entryOf}
-use Rattle.paper.specs.Grammar.{nodes, parsed}
+use Rattle.paper.specs.Grammar.{Tree, nodes, parsed}
 use Rattle.paper.specs.Types.{typed}
 use Rattle.paper.specs.Meaning.{valueOf, isTrue}
 use Rattle.paper.specs.Blocks.{blockSize, blocksNeeded}
 use Rattle.paper.specs.Loading.{program, loaded, valuesAlong, leftTrue}
 use Rattle.paper.specs.Translating.{codeOf}
-use Rattle.paper.specs.Calls.{sized, tree, Restriction, restriction, readAnswer, checkAnswer, judgeAnswer, roomFor, translatable, translateAnswer, loadAnswer, runAnswer}
-use Rattle.paper.specs.Faults.{Faults, TextSize, text-over, TextTokens, TextGrammar, BufferSize, buffer-short}
-use Rattle.paper.specs.Table.{Free, stage, Given, sizeStages, listStages, treeStages, typeStages, bufferStages, blockStages, entryStages, readStages, checkStages, judgeStages, translateStages, loadStages, runStages, TableHolds}
+use Rattle.paper.specs.Print.{print}
+use Rattle.paper.specs.Calls.{sized, tree, Restriction, restriction, readAnswer, checkAnswer, judgeAnswer, roomFor, translatable, translateAnswer, loadAnswer, runAnswer, lends, printable, printAnswer}
+use Rattle.paper.specs.Faults.{Faults, TextSize, text-over, TextTokens, TextGrammar, BufferSize, buffer-short, LendingSize, over-limit, over-buffer}
+use Rattle.paper.specs.Table.{Free, stage, Given, sizeStages, listStages, treeStages, typeStages, bufferStages, blockStages, entryStages, readStages, checkStages, judgeStages, translateStages, loadStages, runStages, printingStages, printStages, TableHolds}
+use Rattle.paper.proofs.Basics.{either-false}
 use Rattle.paper.proofs.TranslationCorrect.{passing}
 use Rattle.paper.proofs.Refusals.{parsed-is-right}
-use Rattle.paper.proofs.StagesInOrder.{Tells, test-tells, exact-tells, given-tells, Follows, follows-one, follows-as, follows-then, by-table}
+use Rattle.paper.proofs.StagesInOrder.{Tells, tells-as, test-tells, exact-tells, given-tells, Follows, follows-one, follows-as, follows-then, by-table}
 use Rattle.paper.proofs.ListFaults.{list-follows}
 use Rattle.paper.proofs.TokenFaults.{tokens-tell}
 use Rattle.paper.proofs.TypeFaults.{types-follow}
@@ -95,6 +98,35 @@ module _ (r : Restriction) (buffer : List ℕ) where
       test-tells (BufferSize r buffer) (leb bytesNeeded (length buffer)) 15 inBuffer (length buffer) buffer-free
       (λ h. buffer-short (leb-false bytesNeeded (length buffer) h)) buffer-only
 
+-- 21
+
+module _ (new buffer : List ℕ) where
+  abbrev low : Bool
+  low = leb (length new) mostText
+
+  abbrev fits : Bool
+  fits = leb (length new) (length buffer)
+
+  lending-free : low && fits ≡ true → Free (LendingSize new buffer)
+  lending-free h n at (over-limit l) = let e = leb-true (length new) mostText (and-eq-true-iff low fits .0 h .0) in omega arith
+  lending-free h n at (over-buffer l) = let e = leb-true (length new) (length buffer) (and-eq-true-iff low fits .0 h .1) in omega arith
+
+  lending-fault : low && fits ≡ false → LendingSize new buffer 21 (length buffer)
+  lending-fault h = go (either-false low fits h)
+    where
+      go : (low ≡ false) ⊎ (fits ≡ false) → LendingSize new buffer 21 (length buffer)
+      go (inl e) = over-limit (leb-false (length new) mostText e)
+      go (inr e) = over-buffer (leb-false (length new) (length buffer) e)
+
+  lending-only : (m to : ℕ) → LendingSize new buffer m to → (m ≡ 21) × (to ≡ length buffer)
+  lending-only m to (over-limit l) = (refl, refl)
+  lending-only m to (over-buffer l) = (refl, refl)
+
+  lending-tells : Tells inBuffer (LendingSize new buffer) (lends new buffer)
+  lending-tells =
+      tells-as inBuffer (LendingSize new buffer) (require (low && fits) 21 inBuffer (length buffer)) (λ _. new)
+      (test-tells (LendingSize new buffer) (low && fits) 21 inBuffer (length buffer) lending-free lending-fault lending-only)
+
 -- the calls
 
 read-follows : (text : List ℕ) → Follows (readStages text) (readAnswer text)
@@ -137,6 +169,19 @@ run-follows list blocks entry =
     follows-as (entryStages list entry) (entryOf ks entry) (λ e. leftTrue (valuesAlong ks e (program blocks)))
     (entry-follows list ks entry listed)))
 
+print-follows : (text buffer : List ℕ) → Follows (printStages text buffer) (printAnswer text buffer)
+unfolding printAnswer printable
+print-follows text buffer =
+    let size : Tree → Faults = λ t. LendingSize (print t) buffer in
+    follows-as (printStages text buffer) (printable text buffer) length
+    (follows-then (sizeStages text) (treeStages text ++ printingStages text buffer) (sized text) (λ _. tree text >>= λ t. lends (print t) buffer)
+    (size-follows text)
+    (λ _ _.
+    follows-then (treeStages text) (printingStages text buffer) (tree text) (λ t. lends (print t) buffer) (tree-follows text)
+    (λ t read.
+    follows-one inBuffer (Given (tree text) size) (lends (print t) buffer)
+    (given-tells (tree text) t read size inBuffer (lends (print t) buffer) (lending-tells (print t) buffer)))))
+
 pub table-holds : TableHolds
 table-holds =
     record {
@@ -147,4 +192,5 @@ table-holds =
           by-table (translateStages text list buffer) (translateAnswer text list buffer) (translate-follows text list buffer);
       load = λ list blocks. by-table (loadStages list blocks) (loadAnswer list blocks) (load-follows list blocks);
       run = λ list blocks entry. by-table (runStages list blocks entry) (runAnswer list blocks entry) (run-follows list blocks entry);
+      print = λ text buffer. by-table (printStages text buffer) (printAnswer text buffer) (print-follows text buffer);
     }

@@ -1,19 +1,19 @@
--- A text that is cut into tokens has at most 1,024, and its numerals are below 2^128.
+-- A text that is cut into tokens has at most 1,024, its numerals are below 2^128, and its words have the form of a key.
 use Prim.Native.Nat.{ℕ, zero, suc, _^_, _≤_, _<_, zero-le, suc-le-suc}
-use mathlib.Core.Path.{_≡_, refl, subst}
-use mathlib.Core.Bool.{Bool, true, false, not, cond, _||_}
+use mathlib.Core.Path.{_≡_, refl, sym, ap, subst}
+use mathlib.Core.Bool.{Bool, true, false, not, cond, _&&_, _||_, true≢false}
 use mathlib.Core.Option.{Option, none, some}
 use mathlib.Core.List.{List, [], _∷_}
 use lib.ListN.{length, take, drop}
 use lib.Dec.{eqb, ltb}
-use borrow.Author.Tests.{ltb-true}
+use borrow.Author.Tests.{ltb-true, eq-eqb}
 use Rattle.paper.specs.Answers.{Answer, ok}
-use Rattle.paper.specs.Tokens.{literalOf, is, span, starts, isIdByte, Numeral, spelling, isNumeral, numeralValue, Sign, oneByte, twoBytes, Tok, word, numeral, string, sign, Token, Scan, blank, token, noToken, tooLarge, scanComment, scanOne, scanTwo, scanSign, Class, isSpace, isSlash, isQuote, isLetter, isFigure, isOther, classOf, scanClass, scan, onward, tokensFrom, tokens, mostTokens}
+use Rattle.paper.specs.Tokens.{literalOf, is, span, starts, isIdByte, isIdStart, isDigit, isBlank, wordMore, isKey, Numeral, spelling, isNumeral, numeralValue, Sign, oneByte, twoBytes, Tok, word, numeral, string, sign, Token, Scan, blank, token, noToken, tooLarge, scanComment, scanOne, scanTwo, scanSign, isSpace, isSlash, isQuote, isLetter, isFigure, isOther, classOf, scanClass, scan, onward, tokensFrom, tokens, mostTokens}
 use Rattle.paper.specs.BlocksRoundTrip.{All}
 use Rattle.paper.proofs.Stages.{Of, of-bind}
 
 abbrev pub Good : Tok → Type 0
-Good (word w) = Unit {0}
+Good (word w) = isKey w ≡ true
 Good (numeral n) = n .value < 2 ^ 128
 Good (string q) = Unit {0}
 Good (sign g) = Unit {0}
@@ -52,18 +52,44 @@ numeral-good : (n : Numeral) (more : ℕ) (b : Bool) → ltb (numeralValue n) (2
 numeral-good n more true e = ltb-true (numeralValue n) (2 ^ 128) e
 numeral-good n more false e = tt
 
-class-good : (c : Class) (b : ℕ) (s : List ℕ) → Scanned (scanClass c b s)
-class-good isSpace b s = tt
-class-good isSlash b s = comment-good s
-class-good isQuote b s =
-    let n = span (λ c. not (is "'" c || eqb c 10)) s in
-    either (starts (is "'") (drop n s)) (token (string (take n s)) (suc n)) noToken tt tt
-class-good isLetter b s = tt
-class-good isFigure b s =
-    let n = spelling (b ∷ take (span isIdByte s) s) in
-    either (isNumeral n) (cond (ltb (numeralValue n) (2 ^ 128)) (token (numeral (literalOf n)) (span isIdByte s)) tooLarge) noToken
-    (numeral-good n (span isIdByte s) (ltb (numeralValue n) (2 ^ 128)) refl) tt
-class-good isOther b s = signs-good b s
+-- the bytes that a word takes are a word as a whole
+
+starts-take : (s : List ℕ) → starts isIdStart s ≡ true → starts isIdStart (take (wordMore s) s) ≡ true
+starts-take [] h = absurd (true≢false (sym h))
+starts-take (b ∷ s) h = rw h h
+
+word-taken : (s : List ℕ) → wordMore (take (wordMore s) s) ≡ length (take (wordMore s) s)
+word-taken [] = refl
+word-taken (b ∷ s) = go (isIdByte b) (is "." b) (starts isIdStart s) refl refl refl (word-taken s)
+  where
+    Taken : ℕ → Type 0
+    Taken n = wordMore (take n (b ∷ s)) ≡ length (take n (b ∷ s))
+
+    go : (x y z : Bool) → isIdByte b ≡ x → is "." b ≡ y → starts isIdStart s ≡ z
+        → wordMore (take (wordMore s) s) ≡ length (take (wordMore s) s)
+        → Taken (cond (x || y && z) (suc (wordMore s)) 0)
+    go true y z e f d h = rw e (ap suc h)
+    go false true true e f d h = rw (e, f, starts-take s d) (ap suc h)
+    go false true false e f d h = refl
+    go false false z e f d h = refl
+
+-- by the tests that give a byte its class, in their order
+class-good : (b : ℕ) (s : List ℕ) → Scanned (scanClass (classOf b) b s)
+class-good b s = go (isBlank b) (is "/" b) (is "'" b) (isIdStart b) (isDigit b) refl
+  where
+    go : (blank slash quote letter digit : Bool) → isIdStart b ≡ letter
+        → Scanned (scanClass (cond blank isSpace (cond slash isSlash (cond quote isQuote (cond letter isLetter (cond digit isFigure isOther))))) b s)
+    go true slash quote letter digit e = tt
+    go false true quote letter digit e = comment-good s
+    go false false true letter digit e =
+        let n = span (λ c. not (is "'" c || eqb c 10)) s in
+        either (starts (is "'") (drop n s)) (token (string (take n s)) (suc n)) noToken tt tt
+    go false false false true digit e = rw (e, eq-eqb _ _ (word-taken s))
+    go false false false false true e =
+        let n = spelling (b ∷ take (span isIdByte s) s) in
+        either (isNumeral n) (cond (ltb (numeralValue n) (2 ^ 128)) (token (numeral (literalOf n)) (span isIdByte s)) tooLarge) noToken
+        (numeral-good n (span isIdByte s) (ltb (numeralValue n) (2 ^ 128)) refl) tt
+    go false false false false false e = signs-good b s
 
 -- good tokens, and not more than there is room for
 pub record Within (room : ℕ) (ts : List Token) : Type 0 where
@@ -84,7 +110,7 @@ unfolding tokensFrom
 from-within [] n at room = record { good = tt; few = zero-le }
 from-within (b ∷ s) (suc n) at room = from-within s n (suc at) room
 from-within (b ∷ s) zero at room =
-    onward-within (scan b s) at room (λ n left. tokensFrom n (suc at) left s) (class-good (classOf b) b s) (λ n left. from-within s n (suc at) left)
+    onward-within (scan b s) at room (λ n left. tokensFrom n (suc at) left s) (class-good b s) (λ n left. from-within s n (suc at) left)
 
 pub tokens-within : (text : List ℕ) (ts : List Token) → tokens text ≡ ok ts → Within mostTokens ts
 unfolding tokens

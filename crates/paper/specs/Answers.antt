@@ -14,6 +14,8 @@ use Rattle.paper.specs.declared.Translation.{Translation}
 use Rattle.paper.specs.declared.Translation.the-variants as T
 use Rattle.paper.specs.declared.Loading.{Loading}
 use Rattle.paper.specs.declared.Loading.the-variants as L
+use Rattle.paper.specs.declared.Printing.{Printing}
+use Rattle.paper.specs.declared.Printing.the-variants as W
 use Rattle.paper.specs.declared.Counted.{Counted}
 use Rattle.paper.specs.declared.Counted.the-variants as S
 
@@ -76,6 +78,10 @@ translationSays (T.Refused n p) = refused n (inputOf p) (offsetOf p)
 abbrev pub loadingSays : Loading → Answer ℕ
 loadingSays (L.Loaded n) = ok n
 loadingSays (L.Refused n p) = refused n (inputOf p) (offsetOf p)
+
+abbrev pub printingSays : Printing → Answer ℕ
+printingSays (W.Printed n) = ok n
+printingSays (W.Refused n p) = refused n (inputOf p) (offsetOf p)
 
 -- a stage of a call
 abbrev pub countedSays : Counted → Answer ℕ

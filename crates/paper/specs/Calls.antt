@@ -1,7 +1,7 @@
--- What each public call answers for any bytes, and what the buffer holds after `translate`.
+-- What each public call answers for any bytes, and what the buffer holds after `translate` and `print`.
 -- 01, "Stages run in the order below, those that a call has": 1; 2; 3 and 4; 5 to 7; 8 to 10; 11 to 13; 14; 15; 16; 17; 18; 19; 20.
 use Prim.Native.Nat.{ℕ, _*_}
-use mathlib.Core.Bool.{Bool}
+use mathlib.Core.Bool.{Bool, _&&_}
 use mathlib.Core.List.{List, _++_}
 use lib.ListN.{length, drop}
 use lib.Dec.{leb}
@@ -15,6 +15,7 @@ use Rattle.paper.specs.Meaning.{valueOf, isTrue}
 use Rattle.paper.specs.Blocks.{blockSize, blocksNeeded, blocksOf}
 use Rattle.paper.specs.Loading.{program, loaded, valuesAlong, leftTrue}
 use Rattle.paper.specs.Translating.{codeOf}
+use Rattle.paper.specs.Print.{print}
 
 -- 1: "text over 4,096 bytes", text 4096
 abbrev pub sized : List ℕ → Answer (Unit {0})
@@ -96,3 +97,29 @@ runAnswer list blocks entry =
     >>= λ ks. loaded ks blocks
     >>= λ _. entryOf ks entry
     >>= λ e. ok (leftTrue (valuesAlong ks e (program blocks)))
+
+-- 02 a: "A print over 4,096 bytes, or over the lent buffer, is refused with number 21, placed in the buffer at its length here and
+-- in every later request."
+abbrev pub lends : List ℕ → List ℕ → Answer (List ℕ)
+lends new buffer =
+    require (leb (length new) mostText && leb (length new) (length buffer)) 21 inBuffer (length buffer)
+    >>= λ _. ok new
+
+-- 1; 5 to 10; 21: the print of a text that passes, where it may be lent
+unfoldable pub printable : List ℕ → List ℕ → Answer (List ℕ)
+unfolding tree print
+printable text buffer = sized text >>= λ _. tree text >>= λ t. lends (print t) buffer
+
+-- what is answered is our choice: the length of the print
+unfoldable pub printAnswer : List ℕ → List ℕ → Answer ℕ
+unfolding printable
+printAnswer text buffer = printable text buffer >>= λ s. ok (length s)
+
+-- "Bytes after a print, or after a text that a later request writes, stay."
+abbrev pub laid : Answer (List ℕ) → List ℕ → List ℕ
+laid (ok s) buffer = over s buffer
+laid (refused n i at) buffer = buffer
+
+unfoldable pub printBuffer : List ℕ → List ℕ → List ℕ
+unfolding printable
+printBuffer text buffer = laid (printable text buffer) buffer

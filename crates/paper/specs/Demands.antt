@@ -25,7 +25,8 @@ use Rattle.paper.specs.declared.Judgement.the-variants as J
 use Rattle.paper.specs.declared.Translation.the-variants as T
 use Rattle.paper.specs.declared.Loading.{Loading}
 use Rattle.paper.specs.declared.Loading.the-variants as L
-use Rattle.paper.specs.Answers.{Input, inText, inList, inEntry, inBlocks, inBuffer, Answer, ok, refused, readingSays, checkingSays, judgementSays, translationSays, loadingSays}
+use Rattle.paper.specs.declared.Printing.the-variants as W
+use Rattle.paper.specs.Answers.{Input, inText, inList, inEntry, inBlocks, inBuffer, Answer, ok, refused, readingSays, checkingSays, judgementSays, translationSays, loadingSays, printingSays}
 use Rattle.paper.specs.Tokens.{Token, mostText}
 use Rattle.paper.specs.Keys.{Key, keys}
 use Rattle.paper.specs.Entry.{Entry, entryOf}
@@ -37,10 +38,12 @@ use Rattle.paper.specs.Blocks.{blockSize, inBlock, mostBlocks, blocksNee
 use Rattle.paper.specs.Code.{ends}
 use Rattle.paper.specs.Loading.{program, loaded, valuesAlong}
 use Rattle.paper.specs.Translating.{conversions}
+use Rattle.paper.specs.Print.{print}
+use Rattle.paper.specs.Calls.{over}
 use Rattle.paper.specs.LoadedBlocksRun.{Runs}
 use Rattle.paper.specs.Faults.{Cuts}
-use Rattle.paper.specs.Table.{lastNumber, Stage, ByTable, readStages, checkStages, judgeStages, translateStages, loadStages, runStages}
-use Rattle.paper.specs.Promised.{verdict, TranslateResult, Bytes, Programs, Kept}
+use Rattle.paper.specs.Table.{lastNumber, Stage, ByTable, readStages, checkStages, judgeStages, translateStages, loadStages, runStages, printStages}
+use Rattle.paper.specs.Promised.{verdict, TranslateResult, PrintResult, PrintPromised, Bytes, Programs, Kept}
 
 -- Demand 1. An answer is one of the enum's cases. It is a refusal exactly as the table of 01 says, with that number at that place, and
 -- passes exactly when no stage of the call has a fault. The number is one of the table's, and the place lies in an input that was lent, or
@@ -90,6 +93,11 @@ LoadAnswered list blocks r = Answered (lent inList list ∷ lent inBlocks blocks
 abbrev pub RunAnswered : List ℕ → List ℕ → List ℕ → Judgement → Type 0
 RunAnswered list blocks entry r =
     Answered (lent inList list ∷ lent inBlocks blocks ∷ lent inEntry entry ∷ []) (runStages list blocks entry) (judgementSays r)
+
+-- `print` refuses by the table too, with its row 21
+pub record PrintAnswered (text buffer : List ℕ) (r : PrintResult) : Type 0 where
+  pub table : ByTable (printingSays (r .answer)) (printStages text buffer)
+  pub unchanged : (n : ℕ) (at : Place) → r .answer ≡ W.Refused n at → r .buffer ≡ buffer
 
 pub record DemandOne (p : Programs) : Type 0 where
   pub read : (text : List ℕ) → Bytes text → ReadAnswered text (p .read text)
@@ -161,6 +169,19 @@ pub record Translatable (text list buffer : List ℕ) (n : ℕ) : Type 0 where
 abbrev pub TranslatedRight : List ℕ → List ℕ → List ℕ → TranslateResult → Type 0
 TranslatedRight text list buffer r = (n : ℕ) → (r .answer ≡ T.Written n) ↔ Translatable text list buffer n
 
+-- n bytes, the print of a text that is well-formed, for a buffer that they fit in
+pub record Printable (text buffer : List ℕ) (n : ℕ) : Type 0 where
+  pub root : Tree
+  pub formed : WellFormed text root
+  pub count : n ≡ length (print root)
+  pub short : n ≤ mostText
+  pub room : n ≤ length buffer
+
+-- they are written, and "Bytes after a print .. stay"
+pub record PrintedRight (text buffer : List ℕ) (r : PrintResult) : Type 0 where
+  pub prints : (n : ℕ) → (r .answer ≡ W.Printed n) ↔ Printable text buffer n
+  pub written : (n : ℕ) (p : Printable text buffer n) → r .buffer ≡ over (print (p .root)) buffer
+
 -- "The entry is accepted exactly when the bool left at the end is true, else violated; this holds for all blocks that load"
 pub record RanRight (list blocks entry : List ℕ) (r : Judgement) : Type 0 where
   pub refuses : Refuses r ↔ ¬ Runnable list blocks entry
@@ -226,3 +247,8 @@ DemandTwoMet = (p : Programs) → Kept p → DemandTwo p
 
 abbrev pub DemandThreeMet : Type 0
 DemandThreeMet = (p : Programs) → Kept p → DemandThree p
+
+-- and so does a result of `print` that keeps its promise
+abbrev pub PrintDemandsMet : Type 0
+PrintDemandsMet =
+    (text buffer : List ℕ) (r : PrintResult) → PrintPromised text buffer r → PrintAnswered text buffer r × PrintedRight text buffer r

@@ -12,8 +12,8 @@ use Rattle.paper.specs.Tokens.{plain, bytes, notSign, sequel, less}
 use Rattle.paper.specs.Keys.{keyRecord, exact, Key, layoutRule}
 use Rattle.paper.specs.Grammar.{Tree, truth, number, key, field, attribute, prefixed, joined, compared}
 use Rattle.paper.specs.Calls.{Restriction}
-use Rattle.paper.specs.Faults.{Faults, TextSize, ListSize, ListRecords, TextTokens, TreeTypes, RootType, BufferSize, BlocksSize, BlocksLayout, BlocksCode, EntrySize, EntryRules}
-use Rattle.paper.specs.Table.{Sooner, Wins, Stage, stage, Decided, Clear, readStages, checkStages, judgeStages, translateStages, loadStages, runStages}
+use Rattle.paper.specs.Faults.{Faults, TextSize, ListSize, ListRecords, TextTokens, TreeTypes, RootType, BufferSize, BlocksSize, BlocksLayout, BlocksCode, EntrySize, EntryRules, LendingSize}
+use Rattle.paper.specs.Table.{Sooner, Wins, Stage, stage, Decided, Clear, readStages, checkStages, judgeStages, translateStages, loadStages, runStages, printStages}
 use Rattle.paper.specs.KeyExamples.{aKey}
 use Rattle.paper.specs.BlockExamples.{row, block, alone, firstBlock, lastBlock}
 use Rattle.paper.specs.AnswerExamples.{longText, shortList, repeatingList}
@@ -64,6 +64,8 @@ pub record Rows : Type 0 where
   pub row-19 : EntrySize e (bigEndian 3 0) 19 3
   pub row-20-priority : EntryRules e (bigEndian 4 (2 ^ 31)) 20 0
   pub row-20 : EntryRules e (bigEndian 4 0 ++ matchRecord 1 0 256 0) 20 4
+  pub row-21-over-the-limit : LendingSize (replicate 4097 97) (replicate 5000 0) 21 5000
+  pub row-21-over-the-buffer : LendingSize (bytes "a ; b") (replicate 4 0) 21 4
 
 -- faults given by a list of them, with a number and a place each
 abbrev pub oneOf : ℕ → ℕ → Faults
@@ -104,6 +106,8 @@ pub record InputsInOrder : Type 0 where
   pub load : inputs (loadStages [] []) ≡ inList ∷ inList ∷ inBlocks ∷ inBlocks ∷ inBlocks ∷ []
   -- and 19; 20
   pub run : inputs (runStages [] [] []) ≡ inputs (loadStages [] []) ++ (inEntry ∷ inEntry ∷ [])
+  -- those of read, and 21
+  pub print : inputs (printStages [] []) ≡ inputs (readStages []) ++ (inBuffer ∷ [])
 
 pub record FaultExamples : Type 0 where
   pub rows : Rows

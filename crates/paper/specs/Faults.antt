@@ -128,3 +128,8 @@ pub data EntryRules (ks : List Key) (entry : List ℕ) : ℕ → ℕ → Type 0 
   priority-broken : 2 ^ 31 ≤ priorityOf entry → EntryRules ks entry 20 0
   match-broken : (k : ℕ) (x : Key) → getElem? ks k ≡ some x → matchOk x (matchAt entry k) ≡ false
       → EntryRules ks entry 20 (headSize + k * matchSize)
+
+-- 21: "A print over 4,096 bytes, or over the lent buffer"; buffer, its length. Of whatever bytes are to be lent
+pub data LendingSize (new buffer : List ℕ) : ℕ → ℕ → Type 0 where
+  over-limit : mostText < length new → LendingSize new buffer 21 (length buffer)
+  over-buffer : length buffer < length new → LendingSize new buffer 21 (length buffer)

@@ -13,6 +13,8 @@ pub mod Code
 pub mod Blocks
 pub mod Loading
 pub mod Translating
+pub mod Print
+pub mod Sized
 pub mod Calls
 pub mod LoadedBlocksRun
 pub mod TypeSoundness
@@ -21,6 +23,7 @@ pub mod BlocksRoundTrip
 pub mod TranslationCorrect
 pub mod DamageDetected
 pub mod MarkedJudgements
+pub mod PrintReadsBack
 pub mod Readings
 pub mod Limits
 pub mod CaseFour
@@ -36,10 +39,12 @@ pub mod MeaningExamples
 pub mod BlockExamples
 pub mod InstructionExamples
 pub mod TranslationExamples
+pub mod PrintExamples
 pub mod AnswerExamples
 pub mod FaultExamples
 pub mod Promised
 pub mod Faults
 pub mod Table
 pub mod Demands
+pub mod WrongPrints
 pub mod WrongPrograms

@@ -10,9 +10,10 @@ use Rattle.paper.specs.declared.Judgement.{Judgement}
 use Rattle.paper.specs.declared.Judgement.the-variants as J
 use Rattle.paper.specs.declared.Translation.{Translation}
 use Rattle.paper.specs.declared.Loading.{Loading}
-use Rattle.paper.specs.Answers.{readingSays, checkingSays, judgementSays, translationSays, loadingSays}
+use Rattle.paper.specs.declared.Printing.{Printing}
+use Rattle.paper.specs.Answers.{readingSays, checkingSays, judgementSays, translationSays, loadingSays, printingSays}
 use Rattle.paper.specs.BlocksRoundTrip.{All}
-use Rattle.paper.specs.Calls.{readAnswer, checkAnswer, judgeAnswer, translateAnswer, translateBuffer, loadAnswer, runAnswer}
+use Rattle.paper.specs.Calls.{readAnswer, checkAnswer, judgeAnswer, translateAnswer, translateBuffer, loadAnswer, runAnswer, printAnswer, printBuffer}
 
 -- what is promised of the result of each call, for the bytes that are lent to it
 
@@ -40,6 +41,15 @@ LoadPromised list blocks r = loadingSays r ≡ loadAnswer list blocks
 abbrev pub RunPromised : List ℕ → List ℕ → List ℕ → Judgement → Type 0
 RunPromised list blocks entry r = judgementSays r ≡ runAnswer list blocks entry
 
+-- what `print` returns, and what the buffer holds at its exit
+pub record PrintResult : Type 0 where
+  pub answer : Printing
+  pub buffer : List ℕ
+
+pub record PrintPromised (text buffer : List ℕ) (r : PrintResult) : Type 0 where
+  pub says : printingSays (r .answer) ≡ printAnswer text buffer
+  pub holds : r .buffer ≡ printBuffer text buffer
+
 abbrev pub verdict : Bool → Judgement
 verdict true = J.Accepted
 verdict false = J.Violated
@@ -57,6 +67,7 @@ pub record NoSecondResult : Type 0 where
   pub translate : (text list buffer : List ℕ) → Sole (TranslatePromised text list buffer)
   pub load : (list blocks : List ℕ) → Sole (LoadPromised list blocks)
   pub run : (list blocks entry : List ℕ) → Sole (RunPromised list blocks entry)
+  pub print : (text buffer : List ℕ) → Sole (PrintPromised text buffer)
 
 -- what can be lent: numbers below 256
 abbrev pub Bytes : List ℕ → Type 0

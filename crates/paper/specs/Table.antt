@@ -8,8 +8,9 @@ use lib.ListN.{length}
 use Rattle.paper.specs.Answers.{Input, inText, inList, inEntry, inBlocks, inBuffer, Answer, ok, refused}
 use Rattle.paper.specs.Tokens.{Token, tokens}
 use Rattle.paper.specs.Keys.{RecordRule, layoutRule, keys}
-use Rattle.paper.specs.Calls.{tree, restriction, readAnswer, checkAnswer, judgeAnswer, translateAnswer, loadAnswer, runAnswer}
-use Rattle.paper.specs.Faults.{Faults, TextSize, ListSize, ListRecords, Cuts, TextTokens, TextGrammar, TreeTypes, RootType, BufferSize, BlocksSize, BlocksLayout, BlocksCode, EntrySize, EntryRules}
+use Rattle.paper.specs.Print.{print}
+use Rattle.paper.specs.Calls.{tree, restriction, readAnswer, checkAnswer, judgeAnswer, translateAnswer, loadAnswer, runAnswer, printAnswer}
+use Rattle.paper.specs.Faults.{Faults, TextSize, ListSize, ListRecords, Cuts, TextTokens, TextGrammar, TreeTypes, RootType, BufferSize, BlocksSize, BlocksLayout, BlocksCode, EntrySize, EntryRules, LendingSize}
 
 -- the table's numbers run from 1 to this one
 abbrev pub lastNumber : ℕ
@@ -95,6 +96,10 @@ entryStages list entry =
     ∷ stage inEntry (Given (keys list) (λ ks. EntryRules ks entry))
     ∷ []
 
+-- 21
+abbrev pub printingStages : List ℕ → List ℕ → List Stage
+printingStages text buffer = stage inBuffer (Given (tree text) (λ t. LendingSize (print t) buffer)) ∷ []
+
 -- those that each call has
 
 abbrev pub readStages : List ℕ → List Stage
@@ -115,6 +120,9 @@ loadStages list blocks = listStages list ++ blockStages list blocks
 abbrev pub runStages : List ℕ → List ℕ → List ℕ → List Stage
 runStages list blocks entry = loadStages list blocks ++ entryStages list entry
 
+abbrev pub printStages : List ℕ → List ℕ → List Stage
+printStages text buffer = readStages text ++ printingStages text buffer
+
 pub record TableHolds : Type 0 where
   pub read : (text : List ℕ) → ByTable (readAnswer text) (readStages text)
   pub check : (text list : List ℕ) → ByTable (checkAnswer text list) (checkStages text list)
@@ -122,6 +130,7 @@ pub record TableHolds : Type 0 where
   pub translate : (text list buffer : List ℕ) → ByTable (translateAnswer text list buffer) (translateStages text list buffer)
   pub load : (list blocks : List ℕ) → ByTable (loadAnswer list blocks) (loadStages list blocks)
   pub run : (list blocks entry : List ℕ) → ByTable (runAnswer list blocks entry) (runStages list blocks entry)
+  pub print : (text buffer : List ℕ) → ByTable (printAnswer text buffer) (printStages text buffer)
 
 -- and a text that passes 5 to 7 is cut into its tokens
 abbrev pub TokensAreCut : Type 0

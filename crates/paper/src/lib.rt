@@ -46,6 +46,12 @@ pub enum Loading {
     Refused(u8, Place),
 }
 
+// A text in house style: how many bytes were written.
+pub enum Printing {
+    Printed(usize),
+    Refused(u8, Place),
+}
+
 // A stage of a call that counts: keys, tokens, nodes or instructions. Each stage passes the refusal of the one before it up as it is.
 pub enum Counted {
     Count(usize),

@@ -1,4 +1,5 @@
-// The numbers of document 01's table of refusals. include/pollux.h has the same names, after POLLUX_, and says where each lies.
+// The numbers of document 01's table of refusals, and after them those of document 02. include/pollux.h has the same names, after
+// POLLUX_, and says where each lies.
 pub const TEXT_TOO_LONG: u8 = 1;
 
 pub const LIST_LENGTH: u8 = 2;
@@ -39,3 +40,6 @@ pub const INSTRUCTION: u8 = 18;
 pub const ENTRY_LENGTH: u8 = 19;
 
 pub const ENTRY_RULE: u8 = 20;
+
+// Or over the lent buffer.
+pub const PRINT_LONG: u8 = 21;

@@ -1,5 +1,6 @@
 // The promises of the six public calls, held to account.
 ghost use Rattle.paper.specs.Promised.{NoSecondResult, CanBeKept};
+ghost use Rattle.paper.specs.WrongPrints.{PrintersExist, WrongPrintsFail};
 ghost use Rattle.paper.specs.WrongPrograms.{WrongProgramsExist, WrongProgramsFail, NoWrongProgram, PaddingSeen};
 
 // For all inputs one result keeps the promise of a call, and no second; of `translate`, one answer with one buffer at exit.
@@ -31,4 +32,15 @@ pub fn no_wrong_program_keeps_them()
 // The first part of `true; v == 0`, padded with true: its blocks load, and run to another answer than the text has.
 pub fn padding_is_seen()
     ensures { λ _. ⌜ PaddingSeen ⌝ }
+{}
+
+// Any print of trees is that of some printer, wrong ones included.
+pub fn wrong_printers_exist()
+    ensures { λ _. ⌜ PrintersExist ⌝ }
+{}
+
+// A printer that copies the text, one without parentheses, one with all of them, one that writes "&&" for ";": each fails what is asked of a
+// print.
+pub fn wrong_printers_fail()
+    ensures { λ _. ⌜ WrongPrintsFail ⌝ }
 {}

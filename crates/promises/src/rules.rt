@@ -15,6 +15,7 @@ ghost use Rattle.paper.specs.MeaningExamples.{MeaningExamples};
 ghost use Rattle.paper.specs.BlockExamples.{BlockExamples};
 ghost use Rattle.paper.specs.InstructionExamples.{InstructionExamples};
 ghost use Rattle.paper.specs.TranslationExamples.{TranslationExamples};
+ghost use Rattle.paper.specs.PrintExamples.{PrintExamples};
 ghost use Rattle.paper.specs.AnswerExamples.{AnswerExamples};
 ghost use Rattle.paper.specs.FaultExamples.{FaultExamples};
 
@@ -111,6 +112,11 @@ pub fn examples_of_instructions()
 // Texts with their instructions, every instruction byte for byte, and what a buffer holds afterwards.
 pub fn examples_of_translations()
     ensures { λ _. ⌜ TranslationExamples ⌝ }
+{}
+
+// Texts with their prints, every operator on each side of every other, numerals in each base, and what is lent.
+pub fn examples_of_prints()
+    ensures { λ _. ⌜ PrintExamples ⌝ }
 {}
 
 // Each case of each public answer, and of two faults the one whose stage runs first.

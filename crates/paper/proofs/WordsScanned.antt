@@ -1,0 +1,204 @@
+-- A word and a decimal numeral are each one token wherever they stand, since a byte follows that goes on with neither.
+use Prim.Native.Nat.{ℕ, suc, _+_, _^_, _≤_, _<_}
+use native.Mathlib.Nat.{suc-inj}
+use native.Mathlib.Omega.{arith}
+use mathlib.Core.Path.{_≡_, refl, sym, ap, ap₂, _∙_}
+use mathlib.Core.Bool.{Bool, true, false, cond, _&&_, _||_, true≢false, and-eq-true-iff}
+use mathlib.Core.Option.{Option, none}
+use mathlib.Core.List.{List, [], _∷_, _++_, map, append-nil}
+use lib.ListN.{length}
+use lib.Seq.{take-at}
+use lib.Dec.{eqb, leb, ltb}
+use borrow.Author.Tests.{eqb-true, leb-true, lt-leb, le-leb, ne-eqb, eq-eqb, ltb-true, ltb-false, lt-ltb, le-ltb}
+use Rattle.paper.specs.Numbers.{inBase}
+use Rattle.paper.specs.Tokens.{is, isDigit, isIdStart, isIdByte, span, starts, wordMore, isKey, digitOf, baseOf, spelling, spelled, isNumeral, numeralValue, plain, word, numeral, token, scan, isLetter, isFigure, classOf}
+use Rattle.paper.specs.BlocksRoundTrip.{All}
+use Rattle.paper.specs.Print.{digitByte}
+
+-- bytes
+
+-- a byte that passes a test is none of those that do not
+pub unlike : (p : ℕ → Bool) (b c : ℕ) → p b ≡ true → p c ≡ false → eqb b c ≡ false
+unlike p b c h g = ne-eqb b c (λ e. true≢false (sym h ∙ ap p e ∙ g))
+
+-- what may follow a word or a numeral
+abbrev pub Loose : List ℕ → Type 0
+Loose [] = Unit {0}
+Loose (b ∷ s) = (isIdByte b ≡ false) × (is "." b ≡ false)
+
+-- words
+
+starts-on : (p : ℕ → Bool) (w rest : List ℕ) → starts p w ≡ true → starts p (w ++ rest) ≡ true
+starts-on p [] rest h = absurd (true≢false (sym h))
+starts-on p (b ∷ w) rest h = h
+
+word-span : (w rest : List ℕ) → wordMore w ≡ length w → Loose rest → wordMore (w ++ rest) ≡ length w
+word-span [] [] h loose = refl
+word-span [] (b ∷ rest) h loose = rw (loose .0, loose .1)
+word-span (b ∷ w) rest h loose =
+    go (isIdByte b) (is "." b) (starts isIdStart w) refl refl refl h (λ g. word-span w rest g loose)
+  where
+    go : (x y z : Bool) → isIdByte b ≡ x → is "." b ≡ y → starts isIdStart w ≡ z → cond (x || y && z) (suc (wordMore w)) 0 ≡ suc (length w)
+        → (wordMore w ≡ length w → wordMore (w ++ rest) ≡ length w) → wordMore (b ∷ (w ++ rest)) ≡ suc (length w)
+    go true y z e f d h more = rw e (ap suc (more (suc-inj h)))
+    go false true true e f d h more = rw (e, f, starts-on isIdStart w rest d) (ap suc (more (suc-inj h)))
+    go false true false e f d h more = absurd (omega (arith, h))
+    go false false z e f d h more = absurd (omega (arith, h))
+
+letter-class : (b : ℕ) → isIdStart b ≡ true → classOf b ≡ isLetter
+letter-class b h =
+    rw (
+      unlike isIdStart b 32 h refl,
+      unlike isIdStart b 9 h refl,
+      unlike isIdStart b 13 h refl,
+      unlike isIdStart b 10 h refl,
+      unlike isIdStart b 47 h refl,
+      unlike isIdStart b 39 h refl,
+      h,
+    )
+
+pub scan-word : (b : ℕ) (w rest : List ℕ) → isKey (b ∷ w) ≡ true → Loose rest → scan b (w ++ rest) ≡ token (word (b ∷ w)) (length w)
+unfolding scan
+scan-word b w rest h loose =
+    let both = and-eq-true-iff (isIdStart b) (eqb (wordMore w) (length w)) .0 h in
+    let n = word-span w rest (eqb-true (wordMore w) (length w) (both .1)) loose in
+    rw (letter-class b (both .0), n, take-at w rest (length w) refl)
+
+-- numerals
+
+module _ (d : ℕ) where
+  low-digit : d < 10 → digitByte d ≡ 48 + d
+  low-digit h = rw (lt-ltb d 10 h)
+
+  high-digit : 10 ≤ d → digitByte d ≡ 87 + d
+  high-digit h = rw (le-ltb d 10 h)
+
+  pub low-is-digit : d < 10 → isDigit (digitByte d) ≡ true
+  low-is-digit h = rw (low-digit h, le-leb 48 (48 + d) (omega arith), le-leb (48 + d) 57 (omega arith))
+
+  pub digit-back : d < 16 → digitOf (digitByte d) ≡ d
+  digit-back h = go (ltb d 10) refl
+    where
+      go : (t : Bool) → ltb d 10 ≡ t → digitOf (cond t (48 + d) (87 + d)) ≡ d
+      go true e =
+          let l = ltb-true d 10 e in
+          rw (le-leb 48 (48 + d) (omega arith), le-leb (48 + d) 57 (omega arith)) (omega arith)
+      go false e =
+          let l = ltb-false d 10 e in
+          rw (
+            lt-leb (87 + d) 57 (omega arith),
+            le-leb 48 (87 + d) (omega arith),
+            le-leb 97 (87 + d) (omega arith),
+            le-leb (87 + d) 102 (omega arith),
+          )
+          (omega arith)
+
+  pub digit-id : d < 16 → isIdByte (digitByte d) ≡ true
+  digit-id h = go (ltb d 10) refl
+    where
+      go : (t : Bool) → ltb d 10 ≡ t → isIdByte (cond t (48 + d) (87 + d)) ≡ true
+      go true e =
+          let l = ltb-true d 10 e in
+          rw (
+            lt-leb 97 (48 + d) (omega arith),
+            lt-leb 65 (48 + d) (omega arith),
+            ne-eqb (48 + d) 95 (λ f. omega arith),
+            le-leb 48 (48 + d) (omega arith),
+            le-leb (48 + d) 57 (omega arith),
+          )
+      go false e =
+          let l = ltb-false d 10 e in
+          rw (le-leb 97 (87 + d) (omega arith), le-leb (87 + d) 122 (omega arith))
+
+abbrev Stops : (ℕ → Bool) → List ℕ → Type 0
+Stops p [] = Unit {0}
+Stops p (b ∷ s) = p b ≡ false
+
+loose-stops : (rest : List ℕ) → Loose rest → Stops isIdByte rest
+loose-stops [] h = tt
+loose-stops (b ∷ s) h = h .0
+
+span-all : (p : ℕ → Bool) (s rest : List ℕ) → All (λ b. p b ≡ true) s → Stops p rest → span p (s ++ rest) ≡ length s
+span-all p [] [] h stop = refl
+span-all p [] (b ∷ rest) h stop = rw stop
+span-all p (b ∷ s) rest h stop = rw (h .0) (ap suc (span-all p s rest (h .1) stop))
+
+all-map : (P Q : ℕ → Type 0) (f : ℕ → ℕ) → ((d : ℕ) → P d → Q (f d)) → (ds : List ℕ) → All P ds → All Q (map f ds)
+all-map P Q f g [] h = tt
+all-map P Q f g (d ∷ ds) h = (g d (h .0), all-map P Q f g ds (h .1))
+
+digits-same : (base : ℕ) → base ≤ 16 → (ds : List ℕ) → All (λ d. d < base) ds → map digitOf (map digitByte ds) ≡ ds
+digits-same base l [] h = refl
+digits-same base l (d ∷ ds) h = ap₂ _∷_ (digit-back d (omega (arith, h .0))) (digits-same base l ds (h .1))
+
+no-base : (b : ℕ) → isDigit b ≡ true → baseOf b ≡ none
+no-base b h =
+    rw (
+      unlike isDigit b 100 h refl,
+      unlike isDigit b 68 h refl,
+      unlike isDigit b 98 h refl,
+      unlike isDigit b 66 h refl,
+      unlike isDigit b 111 h refl,
+      unlike isDigit b 79 h refl,
+      unlike isDigit b 120 h refl,
+      unlike isDigit b 88 h refl,
+    )
+
+figure-class : (b : ℕ) → isDigit b ≡ true → classOf b ≡ isFigure
+figure-class b h =
+    let both = and-eq-true-iff (leb 48 b) (leb b 57) .0 h in
+    let low = leb-true b 57 (both .1) in
+    rw (
+      unlike isDigit b 32 h refl,
+      unlike isDigit b 9 h refl,
+      unlike isDigit b 13 h refl,
+      unlike isDigit b 10 h refl,
+      unlike isDigit b 47 h refl,
+      unlike isDigit b 39 h refl,
+      lt-leb 97 b (omega arith),
+      lt-leb 65 b (omega arith),
+      unlike isDigit b 95 h refl,
+      h,
+    )
+
+-- digits alone are spelled in decimal
+plain-spelling : (d : ℕ) (ds : List ℕ) → All (λ e. e < 10) ds
+    → spelling (map digitByte (d ∷ ds)) ≡ record { base = 10; digits = map digitByte (d ∷ ds) }
+plain-spelling d [] h = refl
+plain-spelling d (e ∷ ds) h = go (is "0" (digitByte d)) (baseOf (digitByte e)) (no-base (digitByte e) (low-is-digit e (h .0)))
+  where
+    go : (t : Bool) (o : Option ℕ) → o ≡ none
+        → spelled (cond t o none) (map digitByte (d ∷ e ∷ ds)) (map digitByte ds) ≡ record { base = 10; digits = map digitByte (d ∷ e ∷ ds) }
+    go true o h = rw h
+    go false o h = refl
+
+numeral-good : (base : ℕ) → base ≤ 16 → (d : ℕ) (ds : List ℕ) → All (λ e. e < base) (d ∷ ds)
+    → isNumeral (record { base = base; digits = map digitByte (d ∷ ds) }) ≡ true
+numeral-good base l d ds h =
+    let s = map digitByte (d ∷ ds) in
+    let below = all-map (λ e. e < base) (λ b. ltb (digitOf b) base ≡ true) digitByte
+    (λ e m. rw (digit-back e (omega (arith, m))) (lt-ltb e base m)) (d ∷ ds) h
+    in
+    let whole : span (λ b. ltb (digitOf b) base) s ≡ length s =
+    ap (span (λ b. ltb (digitOf b) base)) (sym (append-nil s)) ∙ span-all (λ b. ltb (digitOf b) base) s [] below tt
+    in
+    rw (whole, eq-eqb (length s) (length s) refl, lt-ltb 0 (length s) (omega arith))
+
+pub scan-decimal : (d : ℕ) (ds rest : List ℕ) → All (λ e. e < 10) (d ∷ ds) → inBase 10 (d ∷ ds) < 2 ^ 128 → Loose rest
+    → scan (digitByte d) (map digitByte ds ++ rest) ≡ token (numeral (plain (inBase 10 (d ∷ ds)))) (length (map digitByte ds))
+unfolding scan
+scan-decimal d ds rest h small loose =
+    let s = map digitByte ds in
+    let ids = all-map (λ e. e < 10) (λ b. isIdByte b ≡ true) digitByte (λ e m. digit-id e (omega arith)) ds (h .1) in
+    let value : numeralValue (record { base = 10; digits = map digitByte (d ∷ ds) }) ≡ inBase 10 (d ∷ ds) =
+    ap (inBase 10) (digits-same 10 (omega arith) (d ∷ ds) h)
+    in
+    rw (
+      figure-class (digitByte d) (low-is-digit d (h .0)),
+      span-all isIdByte s rest ids (loose-stops rest loose),
+      take-at s rest (length s) refl,
+      plain-spelling d ds (h .1),
+      numeral-good 10 (omega arith) d ds h,
+      value,
+      lt-ltb (inBase 10 (d ∷ ds)) (2 ^ 128) small,
+    )

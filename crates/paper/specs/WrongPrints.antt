@@ -1,0 +1,80 @@
+-- Printers that are wrong: one that copies the text, one without parentheses, one with all of them, and one that writes "&&" for ";".
+-- Each fails what 02 a asks of a print.
+use Prim.Native.Nat.{ℕ, _≤_}
+use mathlib.Core.Path.{_≡_}
+use mathlib.Core.Logic.{_↔_}
+use mathlib.Core.Bool.{Bool, true, false}
+use mathlib.Core.List.{List, _++_}
+use lib.ListN.{length}
+use Rattle.paper.specs.Answers.{ok}
+use Rattle.paper.specs.Tokens.{bytes, Join, sequel, implies, orElse, andAlso, Token, tokens}
+use Rattle.paper.specs.Grammar.{Tree, truth, number, key, field, attribute, prefixed, joined, compared}
+use Rattle.paper.specs.Print.{bare, literalBytes, prefixBytes, joinBytes, comparisonBytes, spaced, tightest, leftOf, rightOf, looser, enclosed, truthBytes, print}
+use Rattle.paper.specs.Calls.{tree}
+
+-- what a text is printed as
+abbrev pub Printer : Type 0
+Printer = List ℕ → List ℕ
+
+-- a read text is printed as its tree says
+abbrev pub PrintsBy : (Tree → List ℕ) → Printer → Type 0
+PrintsBy f p = (text : List ℕ) (t : Tree) → tree text ≡ ok t → p text ≡ f t
+
+-- what 02 asks of it
+
+abbrev pub ReadsBack : Printer → Type 0
+ReadsBack p = (text : List ℕ) (t : Tree) → tree text ≡ ok t → (r : Tree) × (tree (p text) ≡ ok r) × (bare r ≡ bare t)
+
+abbrev pub Tells : Printer → Type 0
+Tells p = (v w : List ℕ) (t r : Tree) → tree v ≡ ok t → tree w ≡ ok r → (p v ≡ p w) ↔ (bare t ≡ bare r)
+
+abbrev pub SparesNothing : Printer → Type 0
+SparesNothing p =
+    (v w : List ℕ) (t r : Tree) (ps ws : List Token) → tree v ≡ ok t → tokens (p v) ≡ ok ps → tree w ≡ ok r → tokens w ≡ ok ws
+    → bare r ≡ bare t → length ps ≤ length ws
+
+pub record Right (p : Printer) : Type 0 where
+  pub reads-back : ReadsBack p
+  pub tells : Tells p
+  pub spares-nothing : SparesNothing p
+
+-- a print with other signs for joins, or with parentheses by another rule
+abbrev pub printWith : (Join → List ℕ) → (ℕ → Tree → Bool) → Tree → List ℕ
+printWith signs needs (truth at b) = truthBytes b
+printWith signs needs (number at n) = literalBytes n
+printWith signs needs (key at w) = w
+printWith signs needs (field at w to f) = w ++ bytes "::" ++ f
+printWith signs needs (attribute at to f) = bytes "::" ++ f
+printWith signs needs (prefixed at o t) = prefixBytes o ++ enclosed (needs tightest t) (printWith signs needs t)
+printWith signs needs (joined at o l r) =
+    enclosed (needs (leftOf o) l) (printWith signs needs l) ++ spaced (signs o) ++ enclosed (needs (rightOf o) r) (printWith signs needs r)
+printWith signs needs (compared at c l r) =
+    enclosed (needs tightest l) (printWith signs needs l) ++ spaced (comparisonBytes c) ++ enclosed (needs tightest r) (printWith signs needs r)
+
+abbrev pub withoutParentheses : Tree → List ℕ
+withoutParentheses = printWith joinBytes (λ k t. false)
+
+abbrev pub withAllParentheses : Tree → List ℕ
+withAllParentheses = printWith joinBytes (λ k t. true)
+
+abbrev pub andForSequel : Join → List ℕ
+andForSequel sequel = bytes "&&"
+andForSequel implies = bytes "->"
+andForSequel orElse = bytes "||"
+andForSequel andAlso = bytes "&&"
+
+abbrev pub withAndForSequel : Tree → List ℕ
+withAndForSequel = printWith andForSequel looser
+
+-- each is real
+abbrev pub PrintersExist : Type 0
+PrintersExist = (f : Tree → List ℕ) → (p : Printer) × PrintsBy f p
+
+pub record WrongPrintsFail : Type 0 where
+  pub right : (p : Printer) → PrintsBy print p → Right p
+  -- with the signs and the rule of `print` it is the print
+  pub otherwise-same : (t : Tree) → printWith joinBytes looser t ≡ print t
+  pub copies-text : (p : Printer) → ((text : List ℕ) (t : Tree) → tree text ≡ ok t → p text ≡ text) → ¬ Tells p
+  pub without-parentheses : (p : Printer) → PrintsBy withoutParentheses p → ¬ ReadsBack p
+  pub with-all-parentheses : (p : Printer) → PrintsBy withAllParentheses p → ¬ SparesNothing p
+  pub and-for-sequel : (p : Printer) → PrintsBy withAndForSequel p → ¬ ReadsBack p

@@ -1,0 +1,3 @@
+pub mod FromTheStart
+pub mod Rows
+pub mod Shown

@@ -40,6 +40,3 @@ pub const INSTRUCTION: u8 = 18;
 pub const ENTRY_LENGTH: u8 = 19;
 
 pub const ENTRY_RULE: u8 = 20;
-
-// Or over the lent buffer.
-pub const PRINT_LONG: u8 = 21;

@@ -1,8 +1,8 @@
 // A text made into a typed tree: the stages that the calls on texts have in common.
 //
-// `read_tree` cuts a text of at most 4,096 bytes into tokens and these into a tree, or gives the first refusal from 5 to
-// 10 that document 01 gives the text. The tokens stand on a tape of its own. The tree stands in `nodes`; the definition `treeAt` (crate trees) says which it is, and it is
-// the one that the definition `tree` reads.
+// `read_tree` cuts a text of at most 4,096 bytes into tokens and these into a tree, or gives the first refusal from 5 to 10 that document 01
+// gives the text. The tokens stand on a tape of its own. The tree stands in `nodes`; the definition `treeAt` (crate trees) says which it is,
+// and it is the one that the definition `tree` reads.
 //
 // `restrict` takes a key list too. It gives the first refusal that document 01 gives the two (1; 2; 3 and 4; 5 to 10; 11 to 14), or
 // how many nodes stand before the root, which is its number. What it promises is the definition `restriction`. The names of the tree that

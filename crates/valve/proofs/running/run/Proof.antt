@@ -1,3 +1,5 @@
+-- `valve::run` meets its contract: the refusal of `load` (`load-refused`), the refusal of the entry (`entry-refused`), or what the loaded blocks
+-- leave on an entry that conforms (`ran`).
 use mathlib.Core.Path.{_≡_, sym, _∙_, ap}
 use borrow.Author.Needs.{needs}
 use Rattle.paper.specs.Answers.{ok, loadingSays, checkingSays}
@@ -7,42 +9,59 @@ use Rattle.valve.proofs.Runs.{load-refused, loads, entry-refused, confo
 use Rattle.valve.proofs.running.run.Statement.{statement}
 use Rattle.valve.proofs.running.run.Tie as tie
 
+-- where the blocks have been loaded, where their count is known, and where the entry has been looked at
+abbrev start : tie.After-load → tie.Start
+start c = c .before .before .before .before
+
+abbrev loaded : tie.After-count → tie.After-load
+loaded c = c .before .before
+
+abbrev counted : tie.After-check-entry → tie.After-count
+counted c = c .before .before
+
+abbrev looked : tie.After-enum-told → tie.After-check-entry
+looked c = c .before .before
+
 -- the blocks load
 loaded-there : (c : tie.After-count) →
-    let a = c .before .before .before .before .before .before .args in
+    let a = start (loaded c) .args in
     loadAnswer (a .list .now) (a .blocks .now) ≡ ok (c .count .given .0 .0)
-loaded-there c = sym (c .before .before .load .ensures) ∙ ap loadingSays (c .count .given .1)
+loaded-there c = sym (loaded c .load .ensures) ∙ ap loadingSays (c .count .given .1)
 
 -- and the entry conforms
 entered-there : (c : tie.After-enum-told) →
-    let a = c .before .before .before .before .before .before .before .before .before .before .args in
+    let a = start (loaded (counted (looked c))) .args in
     conforms (keysIn (a .list .now)) (a .entry .now) ≡ ok tt
-entered-there c = sym (c .before .before .check-entry .ensures) ∙ ap checkingSays (c .enum-told .given .1)
+entered-there c = sym (looked c .check-entry .ensures) ∙ ap checkingSays (c .enum-told .given .1)
 
 run-loaded-requires : tie.Need-run-loaded-requires
 run-loaded-requires c κs =
-    let a = c .before .before .before .before .before .before .before .before .before .before .args in
-    let l = loaded-there (c .before .before .before .before) in
+    let at-count = counted (looked c) in
+    let a = start (loaded at-count) .args in
+    let l = loaded-there at-count in
     (conforming (a .list .now) (a .blocks .now) (a .entry .now) l (entered-there c), loads (a .list .now) (a .blocks .now) (a .entry .now) l)
 
-returns : tie.Need-returns
-returns c =
-    let a = c .before .before .before .before .before .before .before .args in
-    load-refused (a .list .now) (a .blocks .now) (a .entry .now)
-    (sym (c .before .before .before .load .ensures) ∙ ap loadingSays (c .before .number .given .1))
+no-load : tie.Need-returns
+no-load c =
+    let at-load : tie.After-load = c .before .before .before in
+    let a = start at-load .args in
+    load-refused (a .list .now) (a .blocks .now) (a .entry .now) (sym (at-load .load .ensures) ∙ ap loadingSays (c .before .number .given .1))
 
-returns-2 : tie.Need-returns-2
-returns-2 c =
-    let a = c .before .before .before .before .before .before .before .before .before .before .before .args in
-    entry-refused (a .list .now) (a .blocks .now) (a .entry .now) (loaded-there (c .before .before .before .before .before))
-    (sym (c .before .before .before .check-entry .ensures) ∙ ap checkingSays (c .before .number2 .given .1))
+no-entry : tie.Need-returns-2
+no-entry c =
+    let at-entry : tie.After-check-entry = c .before .before .before in
+    let a = start (loaded (counted at-entry)) .args in
+    entry-refused (a .list .now) (a .blocks .now) (a .entry .now) (loaded-there (counted at-entry))
+    (sym (at-entry .check-entry .ensures) ∙ ap checkingSays (c .before .number2 .given .1))
 
-returns-3 : tie.Need-returns-3
-returns-3 c =
-    let a = c .before .before .before .before .before .before .before .before .before .before .before .before .args in
+runs : tie.Need-returns-3
+runs c =
+    let told : tie.After-enum-told = c .before .before in
+    let at-count = counted (looked told) in
+    let a = start (loaded at-count) .args in
     c .verdict .ensures
     ∙ ap ok (c .before .run-loaded .ensures)
-    ∙ ran (a .list .now) (a .blocks .now) (a .entry .now) (loaded-there (c .before .before .before .before .before .before)) (entered-there (c .before .before))
+    ∙ ran (a .list .now) (a .blocks .now) (a .entry .now) (loaded-there at-count) (entered-there told)
 
 pub run-spec : {M : Type 1} → statement M
 run-spec =
@@ -56,6 +75,6 @@ run-spec =
     (λ c. search needs)
     run-loaded-requires
     (λ c κs. search needs)
-    returns
-    returns-2
-    returns-3)
+    no-load
+    no-entry
+    runs)

@@ -14,7 +14,9 @@
 #include "plain.h"
 #include "tables.h"
 
-static const struct calls plain_calls = { plain_read, plain_check, plain_judge, plain_translate, plain_load, plain_run };
+static const struct calls plain_calls = {
+    plain_read, plain_check, plain_judge, plain_translate, plain_load, plain_run, plain_print,
+};
 
 /* ---- The requests that show what every version answers, in one order. */
 
@@ -25,6 +27,7 @@ static void each_request(const struct table *table, with_request *use)
     static uint8_t buffer[POLLUX_MAX_BLOCKS_SIZE];
     const struct input nothing = { buffer, 0 }, whole = { buffer, sizeof buffer };
     use(&(struct request){ READ, { table->text, nothing, nothing } }, table);
+    use(&(struct request){ PRINT, { table->text, nothing, whole } }, table);
     use(&(struct request){ CHECK, { table->text, table->list, nothing } }, table);
     use(&(struct request){ TRANSLATE, { table->text, table->list, whole } }, table);
     use(&(struct request){ LOAD, { table->list, table->blocks, nothing } }, table);
@@ -53,12 +56,12 @@ static _Noreturn void differs(const struct request *request, const struct table 
 static void hold(struct request *request, const struct table *table, const char *who, const struct calls *calls, const char *line)
 {
     char got[LINE_SIZE];
-    if (request->call == TRANSLATE)
+    if (writes(request->call))
         memset(request->inputs[2].at, 0, request->inputs[2].length);
     answer_line(got, request, make_call(calls, request));
     if (strcmp(got, line) != 0)
         differs(request, table, who, got, line);
-    if (request->call == TRANSLATE)
+    if (writes(request->call))
         memset(request->inputs[2].at, 0, request->inputs[2].length);
 }
 
@@ -117,6 +120,10 @@ WORK(load_pollux, pollux_load(LIST, BLOCKS).value)
 WORK(load_plain, plain_load(LIST, BLOCKS).value)
 WORK(translate_pollux, pollux_translate(TEXT, LIST, scratch, sizeof scratch).value)
 WORK(translate_plain, plain_translate(TEXT, LIST, scratch, sizeof scratch).value)
+WORK(read_pollux, pollux_read(TEXT).value)
+WORK(read_plain, plain_read(TEXT).value)
+WORK(print_pollux, pollux_print(TEXT, scratch, sizeof scratch).value)
+WORK(print_plain, plain_print(TEXT, scratch, sizeof scratch).value)
 
 enum { POLLUX, PLAIN, UNCHECKED, BY_HAND, VERSIONS };
 
@@ -128,7 +135,13 @@ static const struct measured {
     { "judge", { judge_pollux, judge_plain, NULL, NULL } },
     { "load", { load_pollux, load_plain, NULL, NULL } },
     { "translate", { translate_pollux, translate_plain, NULL, NULL } },
+    { "read", { read_pollux, read_plain, NULL, NULL } },
+    { "print", { print_pollux, print_plain, NULL, NULL } },
 };
+
+/* Two calls of Polluxvalve that take turns as two versions do. */
+enum { PRINTING, READING };
+static const struct measured print_beside_read = { "print", { [PRINTING] = print_pollux, [READING] = read_pollux } };
 
 /* ---- Time. */
 
@@ -209,6 +222,17 @@ static void measure_all(const struct table tables[TABLES])
         }
 }
 
+static void measure_print_beside_read(const struct table tables[TABLES])
+{
+    printf("\nTimes a second, Polluxvalve alone. Each ratio is how many times longer it takes to print a text than to read it.\n\n");
+    printf("%-13s %12s %12s %6s\n", "restriction", "print", "read", "ratio");
+    for (int i = 0; i < TABLES; i++) {
+        double best[VERSIONS] = { 0 };
+        measure(&print_beside_read, &tables[i], best);
+        printf("%-13s %12.0f %12.0f %6.2f\n", tables[i].name, best[PRINTING], best[READING], best[READING] / best[PRINTING]);
+    }
+}
+
 /* ---- One call, again and again. */
 
 static work *find_work(const char *call)
@@ -272,6 +296,7 @@ static int hold_and_measure(const struct table tables[TABLES], const char *path)
     for (int i = 0; i < TABLES; i++)
         each_request(&tables[i], hold_all);
     measure_all(tables);
+    measure_print_beside_read(tables);
     return 0;
 }
 

@@ -1,5 +1,5 @@
 /*
- * The six calls in plain C, as a careful engineer would write them without proofs: what the speed of Polluxvalve is held against.
+ * The calls in plain C, as a careful engineer would write them without proofs: what the speed of Polluxvalve is held against.
  * They give the same answers, refusals and places included.
  */
 #ifndef PLAIN_H
@@ -28,6 +28,9 @@ struct pollux_answer plain_load(const uint8_t *list, size_t list_length,
 struct pollux_answer plain_run(const uint8_t *list, size_t list_length,
                                const uint8_t *blocks, size_t blocks_length,
                                const uint8_t *entry, size_t entry_length);
+
+struct pollux_answer plain_print(const uint8_t *text, size_t text_length,
+                                 uint8_t *buffer, size_t buffer_length);
 
 /* Runs blocks that load on an entry that conforms, and checks nothing. */
 bool plain_accepts(const uint8_t *list, const uint8_t *blocks, size_t instructions, const uint8_t *entry);

@@ -31,6 +31,7 @@ static bool truth_of(const struct judged *judged, size_t index)
     switch (node->what) {
     case TRUTH: return node->value != 0;
     case OPPOSITE: return !truth_of(judged, node->left);
+    case SEQUENCE:
     case BOTH: return truth_of(judged, node->left) && truth_of(judged, node->right);
     case EITHER: return truth_of(judged, node->left) || truth_of(judged, node->right);
     case IMPLIES: return !truth_of(judged, node->left) || truth_of(judged, node->right);
@@ -41,6 +42,12 @@ static bool truth_of(const struct judged *judged, size_t index)
 static bool check_length(size_t text_length, struct pollux_answer *answer)
 {
     return text_length <= POLLUX_MAX_TEXT || refuse(answer, POLLUX_TEXT_TOO_LONG, POLLUX_TEXT, POLLUX_MAX_TEXT);
+}
+
+bool text_tree(const uint8_t *text, size_t text_length, struct tokens *tokens, struct tree *tree, struct pollux_answer *answer)
+{
+    return check_length(text_length, answer) && read_tokens(text, text_length, tokens, answer) &&
+           read_tree(text, tokens, tree, answer);
 }
 
 bool checked_tree(const uint8_t *text, size_t text_length, const uint8_t *list, size_t list_length, struct tree *tree,
@@ -57,10 +64,7 @@ struct pollux_answer plain_read(const uint8_t *text, size_t text_length)
     struct tokens tokens;
     struct tree tree;
     struct pollux_answer answer;
-    if (!check_length(text_length, &answer) || !read_tokens(text, text_length, &tokens, &answer) ||
-        !read_tree(text, &tokens, &tree, &answer))
-        return answer;
-    return done(tree.count);
+    return text_tree(text, text_length, &tokens, &tree, &answer) ? done(tree.count) : answer;
 }
 
 struct pollux_answer plain_check(const uint8_t *text, size_t text_length, const uint8_t *list, size_t list_length)

@@ -129,7 +129,8 @@ bool read_tokens(const uint8_t *text, size_t length, struct tokens *tokens, stru
 
 /* ---- Trees in postfix order (plain_tree.c), and their types (plain_types.c). */
 
-enum what { TRUTH, WHOLE, KEY, FIELD, ATTRIBUTE, OPPOSITE, NEGATIVE, COMPARISON, BOTH, EITHER, IMPLIES };
+/* SEQUENCE is ";", which means what BOTH, "&&", means. */
+enum what { TRUTH, WHOLE, KEY, FIELD, ATTRIBUTE, OPPOSITE, NEGATIVE, COMPARISON, SEQUENCE, BOTH, EITHER, IMPLIES };
 
 struct node {
     number value;           /* of a numeral or an address; 0 or 1 of a truth */
@@ -157,7 +158,8 @@ bool can_compare(unsigned comparison, struct type type);
 bool check_types(const uint8_t *text, const struct tokens *tokens, struct tree *tree, const uint8_t *list, size_t list_length,
                  struct pollux_answer *answer);
 
-/* Stages 1 to 14 (plain_judge.c). */
+/* The stages that need no key list, 1 and 5 to 10; and stages 1 to 14 (plain_judge.c). */
+bool text_tree(const uint8_t *text, size_t text_length, struct tokens *tokens, struct tree *tree, struct pollux_answer *answer);
 bool checked_tree(const uint8_t *text, size_t text_length, const uint8_t *list, size_t list_length, struct tree *tree,
                   struct pollux_answer *answer);
 

@@ -216,7 +216,7 @@ static int sequence(struct parser *parser, bool top)
         if (top && parser->next->sign == END)
             break;
         int right = implication(parser);
-        left = right == REFUSED ? REFUSED : add_join(parser, BOTH, place, left, right);
+        left = right == REFUSED ? REFUSED : add_join(parser, SEQUENCE, place, left, right);
     }
     return left;
 }

@@ -58,19 +58,19 @@ static void make_small(struct table *table)
     }
 }
 
-/* ---- At the limits: 4,096 bytes of text, 1,024 tokens, 32 keys of 128 bits. */
+/* ---- At the limits: 4,096 bytes of text, 1,024 tokens, 32 keys of 128 bits, and a print that is just not too long. */
 
-enum { COMPARISONS = POLLUX_MAX_TOKENS / 4, FIRST_NUMERAL = 100000000 };
+enum { COMPARISONS = POLLUX_MAX_TOKENS / 4, FIRST_NUMERAL = 10000 };
 
-/* kNN!=NNNNNNNNN, 256 times, with && between them, a ";" and a blank at the end. */
+/* kNN != NNNNN, 256 times, with && between them, a ";" and blanks at the end: in house style but for these. */
 static void make_limit_text(struct table *table)
 {
     table->text = room(POLLUX_MAX_TEXT);
     char piece[32];
     size_t at = 0;
     for (unsigned i = 0; i < COMPARISONS; i++) {
-        const char *joined = i + 1 < COMPARISONS ? "&&" : "; ";
-        snprintf(piece, sizeof piece, "k%02u!=%u%s", i % POLLUX_MAX_KEYS, FIRST_NUMERAL + i, joined);
+        const char *joined = i + 1 < COMPARISONS ? " && " : ";   ";
+        snprintf(piece, sizeof piece, "k%02u != %u%s", i % POLLUX_MAX_KEYS, FIRST_NUMERAL + i, joined);
         memcpy(table->text.at + at, piece, strlen(piece));
         at += strlen(piece);
     }

@@ -2,19 +2,20 @@
  * Polluxvalve for C: a restriction on the entries of a P4 table is read, checked, translated into blocks of 512 bytes,
  * loaded, and held against entries. Link with target/staticlib/libpollux.a, which `./pollux lib` makes.
  *
- *   On the author's desk     pollux_check, pollux_translate, pollux_judge: from the restriction's text
+ *   On the author's desk     pollux_check, pollux_print, pollux_translate, pollux_judge: from the restriction's text
  *   On the switch            pollux_load once for a table, then pollux_run for every entry
  *
  * Inputs
  *   Each input is a pointer and a length in bytes, in that order. It may have any length and any content: whatever does not
  *   conform is refused with a number and a place. No alignment is asked for.
  *   A pointer is never NULL. For an input of length 0 pass any other pointer; no byte there is touched.
- *   The buffer of pollux_translate must not overlap the text or the key list. Inputs that are only read may overlap.
+ *   The buffer of pollux_translate or pollux_print must not overlap the text or the key list. Inputs that are only read may
+ *   overlap.
  *
  * What a call touches
- *   A call reads no byte outside the inputs that it is given and writes none but those of pollux_translate's buffer. It keeps
- *   nothing: there are no globals, no heap and no system calls, and the same inputs always have the same answer. Threads may
- *   call at the same time, as long as nobody writes what another one's call has been given.
+ *   A call reads no byte outside the inputs that it is given and writes none but those of the buffer that pollux_translate or
+ *   pollux_print is given. It keeps nothing: there are no globals, no heap and no system calls, and the same inputs always have
+ *   the same answer. Threads may call at the same time, as long as nobody writes what another one's call has been given.
  *
  * What a call needs
  *   Stack: POLLUX_MAX_STACK bytes. This is measured and not proved: tests/c/run makes each call with the deepest texts that the
@@ -40,6 +41,7 @@ extern "C" {
 
 /* Sizes in bytes, and limits. What is over a limit is refused. */
 #define POLLUX_MAX_TEXT 4096 /* bytes */
+#define POLLUX_MAX_PRINT 4096 /* bytes */
 #define POLLUX_MAX_TOKENS 1024
 #define POLLUX_MAX_LEVELS 64 /* parentheses and prefix operators that are open at one time */
 
@@ -69,7 +71,7 @@ enum pollux_says {
     POLLUX_REFUSED = 0,
     POLLUX_ACCEPTED = 1, /* the restriction is true of the entry */
     POLLUX_VIOLATED = 2, /* it is false of the entry */
-    POLLUX_DONE = 3      /* read, passed, translated or loaded */
+    POLLUX_DONE = 3      /* read, passed, translated, loaded or printed */
 };
 
 /* The input that a refusal lies in. */
@@ -103,7 +105,8 @@ enum pollux_refusal {
     POLLUX_BLOCK_LAYOUT = 17,   /* at the block */
     POLLUX_INSTRUCTION = 18,    /* at the instruction, or at the blocks' length if what is left at the end is not one bool */
     POLLUX_ENTRY_LENGTH = 19,   /* at its length */
-    POLLUX_ENTRY_RULE = 20      /* at the priority (0) or at the key's record */
+    POLLUX_ENTRY_RULE = 20,     /* at the priority (0) or at the key's record */
+    POLLUX_PRINT_LONG = 21      /* over 4,096 bytes, or over the buffer; at the buffer's length */
 };
 
 /*
@@ -152,6 +155,15 @@ struct pollux_answer pollux_load(const uint8_t *list, size_t list_length,
 struct pollux_answer pollux_run(const uint8_t *list, size_t list_length,
                                 const uint8_t *blocks, size_t blocks_length,
                                 const uint8_t *entry, size_t entry_length);
+
+/*
+ * Prints a text in house style at the front of the buffer: one blank on each side of a binary operator and none elsewhere, decimal
+ * numerals, only the parentheses that the grammar needs. Reading the print gives the same tree, places aside, and two texts have
+ * equal prints exactly when their trees are equal in that sense. Done: value is the number of bytes written. Later bytes of the
+ * buffer stay as they were; on a refusal every byte does. A buffer of POLLUX_MAX_PRINT bytes is large enough for any print.
+ */
+struct pollux_answer pollux_print(const uint8_t *text, size_t text_length,
+                                  uint8_t *buffer, size_t buffer_length);
 
 #ifdef __cplusplus
 }

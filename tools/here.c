@@ -1,5 +1,5 @@
 /*
- * The six calls of pollux.h over the archive's code when that is compiled for Arm. The code takes the place of its answer as a first
+ * The calls of pollux.h over the archive's code when that is compiled for Arm. The code takes the place of its answer as a first
  * argument, as x86-64's convention has it; C on Arm passes it in a register of its own, x8. `tools/here` gives the code's functions the
  * names raw_..., so that these can have theirs.
  */
@@ -14,6 +14,7 @@ void raw_pollux_judge(answer *, bytes, size_t, bytes, size_t, bytes, size_t);
 void raw_pollux_translate(answer *, bytes, size_t, bytes, size_t, uint8_t *, size_t);
 void raw_pollux_load(answer *, bytes, size_t, bytes, size_t);
 void raw_pollux_run(answer *, bytes, size_t, bytes, size_t, bytes, size_t);
+void raw_pollux_print(answer *, bytes, size_t, uint8_t *, size_t);
 
 answer pollux_read(bytes text, size_t text_length)
 {
@@ -54,5 +55,12 @@ answer pollux_run(bytes list, size_t list_length, bytes blocks, size_t blocks_le
 {
     answer given;
     raw_pollux_run(&given, list, list_length, blocks, blocks_length, entry, entry_length);
+    return given;
+}
+
+answer pollux_print(bytes text, size_t text_length, uint8_t *buffer, size_t buffer_length)
+{
+    answer given;
+    raw_pollux_print(&given, text, text_length, buffer, buffer_length);
     return given;
 }

@@ -1,8 +1,10 @@
 //! Requests and answer lines of the program `answers`.
 //!
 //! A request is one byte for the call (1 read, 2 check, 3 judge, 4 translate,
-//! 5 load, 6 run) and three inputs, each a 4-byte big-endian length and its
-//! bytes. Each request gets one line.
+//! 5 load, 6 run, 7 print) and three inputs, each a 4-byte big-endian length and
+//! its bytes. Each request gets one line. For a call that is lent a buffer, the
+//! third input is what the buffer holds before, and the line ends in the sum of
+//! what it holds after.
 
 use std::io::{self, Read, Write};
 
@@ -19,16 +21,18 @@ pub enum Call {
     Translate,
     Load,
     Run,
+    Print,
 }
 
 impl Call {
-    pub const ALL: [Call; 6] = [
+    pub const ALL: [Call; 7] = [
         Call::Read,
         Call::Check,
         Call::Judge,
         Call::Translate,
         Call::Load,
         Call::Run,
+        Call::Print,
     ];
 
     pub fn from_byte(byte: u8) -> Option<Call> {
@@ -47,7 +51,13 @@ impl Call {
             Call::Translate => "translate",
             Call::Load => "load",
             Call::Run => "run",
+            Call::Print => "print",
         }
+    }
+
+    /// Is its third input a buffer that it may write to?
+    pub fn has_buffer(self) -> bool {
+        matches!(self, Call::Translate | Call::Print)
     }
 }
 
@@ -94,19 +104,21 @@ impl Request {
         let Some(call) = Call::from_byte(self.call) else {
             return "unknown".to_string();
         };
+        let mut buffer = third.clone();
         let answer = match call {
             Call::Read => reference::read(first),
             Call::Check => reference::check(first, second),
             Call::Judge => reference::judge(first, second, third),
-            Call::Translate => {
-                let mut buffer = third.clone();
-                let answer = reference::translate(first, second, &mut buffer);
-                return format!("{answer} {}", adler32(&buffer));
-            }
+            Call::Translate => reference::translate(first, second, &mut buffer),
             Call::Load => reference::load(first, second),
             Call::Run => reference::run(first, second, third),
+            Call::Print => reference::print(first, &mut buffer),
         };
-        answer.to_string()
+        if call.has_buffer() {
+            format!("{answer} {}", adler32(&buffer))
+        } else {
+            answer.to_string()
+        }
     }
 }
 

@@ -21,6 +21,7 @@ pub fn request(request: &Request) -> String {
         Call::Translate => text(first) + &list(second) + &buffer(third),
         Call::Load => list(first) + &blocks(second),
         Call::Run => list(first) + &blocks(second) + &entry(third, first),
+        Call::Print => text(first) + &passed_over(second) + &buffer(third),
     });
     lines
 }
@@ -116,8 +117,20 @@ fn instruction(bytes: &[u8], counted: bool) -> String {
 }
 
 fn buffer(buffer: &[u8]) -> String {
-    let start = &buffer[..buffer.len().min(8)];
-    format!("  buffer, {} bytes: {}...\n", buffer.len(), hex(start))
+    start_of("buffer", buffer)
+}
+
+/// An input that should play no part.
+fn passed_over(input: &[u8]) -> String {
+    if input.is_empty() {
+        return String::new();
+    }
+    start_of("passed over", input)
+}
+
+fn start_of(name: &str, bytes: &[u8]) -> String {
+    let start = &bytes[..bytes.len().min(8)];
+    format!("  {name}, {} bytes: {}...\n", bytes.len(), hex(start))
 }
 
 pub fn hex(bytes: &[u8]) -> String {

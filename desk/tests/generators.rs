@@ -7,9 +7,11 @@ use std::collections::BTreeMap;
 use desk::generate::{cases, entries, lists, programs, request, rng::Rng, snippets};
 use desk::lists::{list_bytes, NamedKey};
 use desk::reference::blocks::{blocks_of, bytes_needed};
+use desk::reference::calls::{text_tree, LONGEST_TEXT};
 use desk::reference::keys::Key;
+use desk::reference::printing::print_of;
 use desk::reference::{judge, load, run, translate, Answer};
-use desk::requests::{Call, Request};
+use desk::requests::{Call, Request, LONGEST_INPUT};
 
 /// "refused 13", "accepted" and so on, with how often it occurs.
 fn counts(requests: impl Iterator<Item = Request>) -> BTreeMap<String, usize> {
@@ -38,7 +40,7 @@ fn one_seed_gives_one_run() {
 #[test]
 fn every_refusal_occurs_often() {
     let counts = counts((0..20_000).map(|index| request(1, index)));
-    for number in 1..=20 {
+    for number in 1..=21 {
         let count = counts[&format!("refused {number}")];
         assert!(count >= 60, "refusal {number} occurs {count} times");
     }
@@ -49,6 +51,7 @@ fn every_refusal_occurs_often() {
         "violated",
         "translated",
         "loaded",
+        "printed",
     ] {
         assert!(counts[answer] >= 1_000, "{answer}: {}", counts[answer]);
     }
@@ -100,6 +103,36 @@ fn good_programs_load() {
         let code = programs::good(&mut rng, &keys, &entry, joins);
         let answer = load(&list_bytes(&keys), &blocks_of(&code, keys.len()));
         assert_eq!(answer, Answer::Loaded(code.len()));
+    }
+}
+
+/// Both sides of the print's own limit, and of the buffer's.
+#[test]
+fn prints_reach_their_limits() {
+    const OVER: usize = LONGEST_TEXT + 1;
+    let mut counts = BTreeMap::new();
+    for index in 0..4_000 {
+        let [text, _, buffer] = common::print_request(7, index).inputs;
+        let Ok(tree) = text_tree(&text) else {
+            continue;
+        };
+        let (length, room) = (print_of(&tree).len(), buffer.len());
+        let reached = match (length, room) {
+            (LONGEST_TEXT, LONGEST_TEXT..) => "the longest print",
+            (OVER, LONGEST_TEXT..) => "a byte over the longest print",
+            (OVER.., _) => "a print that is too long",
+            _ if room == length => "a buffer just long enough",
+            _ if room + 1 == length => "a buffer a byte too short",
+            (_, LONGEST_INPUT) => "the longest buffer",
+            (_, 0) => "no buffer",
+            _ => continue,
+        };
+        *counts.entry(reached).or_insert(0) += 1;
+        assert!(!buffer.contains(&0));
+    }
+    assert_eq!(counts.len(), 7, "{counts:?}");
+    for (reached, count) in counts {
+        assert!(count >= 10, "{reached}: {count}");
     }
 }
 

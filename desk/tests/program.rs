@@ -67,13 +67,18 @@ fn answer_lines() {
         Request::new(Call::Load, vec![0; 3], none(), none()),
         Request::new(Call::Run, list(), block.clone(), none()),
         Request::new(Call::Load, list(), none(), none()),
+        Request::new(Call::Print, text("a;b"), none(), vec![1; 6]),
+        Request::new(Call::Print, text("a;b"), vec![0; 3], vec![1; 3]),
+        Request::new(Call::Print, text("@"), none(), vec![1; 3]),
     ];
     let output = desk(&["answer"], &bytes(&requests));
     let sum = adler32(&block);
+    let print_sum = adler32(b"a ; b\x01");
     let wanted = format!(
         "read 3\npassed\naccepted\nviolated\ntranslated 4 {sum}\nrefused 15 buffer 3 589828\n\
          loaded 4\naccepted\nrefused 5 text 0\nrefused 2 list 3\nrefused 19 entry 0\n\
-         refused 16 blocks 0\n"
+         refused 16 blocks 0\nprinted 5 {print_sum}\nrefused 21 buffer 3 589828\n\
+         refused 5 text 0 589828\n"
     );
     assert_eq!(text_of(&output.stdout), wanted);
 }
@@ -94,7 +99,7 @@ fn odd_requests() {
         Request::new(Call::Read, long, Vec::new(), Vec::new()),
         Request::new(Call::Read, limit, Vec::new(), Vec::new()),
         Request {
-            call: 7,
+            call: 8,
             inputs: Default::default(),
         },
         Request {
@@ -147,6 +152,18 @@ fn show_a_request() {
 }
 
 #[test]
+fn show_a_print() {
+    let request = |between| Request::new(Call::Print, b"a;b".to_vec(), between, vec![1; 9]);
+    let requests = bytes(&[request(Vec::new()), request(vec![2; 3])]);
+    let shown = text_of(&desk(&["show"], &requests).stdout);
+    let sum = adler32(b"a ; b\x01\x01\x01\x01");
+    let text = "print\n  text, 3 bytes: \"a;b\"\n";
+    let between = "  passed over, 3 bytes: 020202...\n";
+    let rest = format!("  buffer, 9 bytes: 0101010101010101...\n  answer: printed 5 {sum}\n\n");
+    assert_eq!(shown, format!("{text}{rest}{text}{between}{rest}"));
+}
+
+#[test]
 fn compare_with_itself() {
     let output = desk(
         &[
@@ -189,6 +206,17 @@ fn differences_are_found_and_made_small() {
     assert!(length.parse::<usize>().unwrap() <= 6, "{smallest}");
     assert!(smallest.contains("reference: refused 13"));
     assert!(smallest.contains("program:   refused 11"));
+}
+
+/// Text, buffer and what is passed over: all become small.
+#[test]
+fn a_wrong_print_is_made_small() {
+    let found = compare_with_sed("s/^printed/Printed/");
+    let (_, smallest) = found.split_once("the smallest found:\n").expect("one");
+    let wanted = "print\n  text, 1 bytes: \"0\"\n  buffer, 1 bytes: 00...\n  \
+                  reference: printed 1 3211313\n  program:   Printed 1 3211313\n  \
+                  in hex: 070000000130000000000000000100\n";
+    assert_eq!(smallest, wanted);
 }
 
 #[test]

@@ -3,7 +3,7 @@
 mod common;
 
 use common::*;
-use desk::reference::{check, judge, load, read, run, translate};
+use desk::reference::{check, judge, load, print, read, run, translate};
 
 const LONG: [u8; 4097] = [b' '; 4097];
 
@@ -13,6 +13,7 @@ fn text_length_comes_first() {
     assert_eq!(short(check(&LONG, &[0; 3])), "1@4096");
     assert_eq!(short(judge(&LONG, &[0; 3], &[])), "1@4096");
     assert_eq!(short(translate(&LONG, &[0; 3], &mut [])), "1@4096");
+    assert_eq!(short(print(&LONG, &mut [])), "1@4096");
 }
 
 #[test]
@@ -42,6 +43,15 @@ fn buffer_comes_after_types() {
     assert_eq!(short(translate(b"d > 3", &list(), &mut [])), "13@2");
     assert_eq!(short(translate(b"1", &list(), &mut [])), "14@0");
     assert_eq!(short(translate(b"true", &list(), &mut [])), "15 buffer 0");
+}
+
+/// A print needs a tree first, and nothing else.
+#[test]
+fn buffer_of_a_print_comes_after_grammar() {
+    assert_eq!(short(print(b"true true @", &mut [])), "5@10");
+    assert_eq!(short(print(b"zz true", &mut [])), "8@3");
+    assert_eq!(short(print(b"ipv4('bad')", &mut [])), "10@5");
+    assert_eq!(short(print(b"zz > true", &mut [])), "21 buffer 0");
 }
 
 #[test]

@@ -229,12 +229,14 @@ static bool failed(const char *what)
     return false;
 }
 
-/* Only the blocks that a translation tells of may have changed, and after a refusal nothing. */
+/* Only the blocks or the print that an answer tells of may have changed, and after a refusal nothing. */
 static bool kept_rest(const struct request *request, const struct request *lent, struct pollux_answer answer)
 {
-    if (request->call != TRANSLATE)
+    if (!writes(request->call))
         return true;
-    size_t written = answer.says == POLLUX_DONE ? POLLUX_BLOCKS_SIZE(answer.value) : 0;
+    size_t written = request->call == PRINT ? answer.value : POLLUX_BLOCKS_SIZE(answer.value);
+    if (answer.says != POLLUX_DONE)
+        written = 0;
     const struct input *before = &request->inputs[2], *after = &lent->inputs[2];
     return written <= after->length && memcmp(before->at + written, after->at + written, after->length - written) == 0;
 }
@@ -256,7 +258,7 @@ static bool try_placing(const struct request *request, const char *line, unsigne
     now.placing = placing;
     for (unsigned i = 0; i < INPUTS; i++) {
         lent.inputs[i] = lend(&arenas[i], request->inputs[i], placing);
-        if (request->call != TRANSLATE || i != 2)
+        if (!writes(request->call) || i != 2)
             protect(&arenas[i], PROT_READ);
     }
     struct pollux_answer answer = make_call(&pollux_calls, &lent);

@@ -6,8 +6,8 @@
 
 const char *call_name(unsigned call)
 {
-    static const char *const names[] = { "no call", "read", "check", "judge", "translate", "load", "run" };
-    return names[call <= RUN ? call : 0];
+    static const char *const names[] = { "no call", "read", "check", "judge", "translate", "load", "run", "print" };
+    return names[call <= LAST_CALL ? call : 0];
 }
 
 const char *input_name(unsigned call, unsigned input)
@@ -19,8 +19,14 @@ const char *input_name(unsigned call, unsigned input)
         [TRANSLATE] = { "text", "list", "buffer" },
         [LOAD] = { "list", "blocks", "" },
         [RUN] = { "list", "blocks", "entry" },
+        [PRINT] = { "text", "", "buffer" },
     };
     return names[call][input];
+}
+
+bool writes(unsigned call)
+{
+    return call == TRANSLATE || call == PRINT;
 }
 
 static void read_exactly(FILE *file, uint8_t *into, size_t length)
@@ -52,7 +58,7 @@ bool read_request(FILE *file, struct request *request)
     static uint8_t memory[INPUTS][LONGEST_INPUT];
     int call;
     while ((call = getc(file)) != EOF) {
-        bool good = call >= READ && call <= RUN;
+        bool good = call >= READ && call <= LAST_CALL;
         request->call = (unsigned)call;
         for (int i = 0; i < INPUTS; i++)
             good &= read_input(file, memory[i], &request->inputs[i]);
@@ -75,7 +81,7 @@ void write_request(FILE *file, const struct request *request)
 }
 
 const struct calls pollux_calls = {
-    pollux_read, pollux_check, pollux_judge, pollux_translate, pollux_load, pollux_run,
+    pollux_read, pollux_check, pollux_judge, pollux_translate, pollux_load, pollux_run, pollux_print,
 };
 
 struct pollux_answer make_call(const struct calls *calls, const struct request *request)
@@ -87,6 +93,7 @@ struct pollux_answer make_call(const struct calls *calls, const struct request *
     case JUDGE: return calls->judge(a->at, a->length, b->at, b->length, c->at, c->length);
     case TRANSLATE: return calls->translate(a->at, a->length, b->at, b->length, c->at, c->length);
     case LOAD: return calls->load(a->at, a->length, b->at, b->length);
+    case PRINT: return calls->print(a->at, a->length, c->at, c->length);
     default: return calls->run(a->at, a->length, b->at, b->length, c->at, c->length);
     }
 }
@@ -117,7 +124,7 @@ static bool fits_call(unsigned call, struct pollux_answer answer)
 static void words_of(char line[LINE_SIZE], unsigned call, struct pollux_answer answer)
 {
     static const char *const inputs[] = { "", "text", "list", "entry", "blocks", "buffer" };
-    static const char *const counted[] = { [READ] = "read", [TRANSLATE] = "translated", [LOAD] = "loaded" };
+    static const char *const counted[] = { [READ] = "read", [TRANSLATE] = "translated", [LOAD] = "loaded", [PRINT] = "printed" };
     if (!fits_call(call, answer))
         snprintf(line, LINE_SIZE, "odd %" PRIu64 " %" PRIu64 " %" PRIu64 " %" PRIu64, answer.says, answer.number, answer.input,
                  answer.value);
@@ -132,7 +139,7 @@ static void words_of(char line[LINE_SIZE], unsigned call, struct pollux_answer a
 void answer_line(char line[LINE_SIZE], const struct request *request, struct pollux_answer answer)
 {
     words_of(line, request->call, answer);
-    if (request->call == TRANSLATE) {
+    if (writes(request->call)) {
         size_t end = strlen(line);
         snprintf(line + end, LINE_SIZE - end, " %u", adler32(&request->inputs[2]));
     }

@@ -1,8 +1,9 @@
 /*
- * Requests to the six calls, and the lines that tell their answers: the framing of the programs `answers` and `desk answer`.
+ * Requests to the calls, and the lines that tell their answers: the framing of the programs `answers` and `desk answer`.
  *
  * A request is a byte for the call and three inputs, each a length of 4 bytes, big-endian, and its bytes; a call that has fewer
- * inputs finds the rest empty. The line of a translation ends in the Adler-32 sum of the buffer as it stands after the call.
+ * inputs finds the rest empty. The line of a translation or a print ends in the Adler-32 sum of the buffer as it stands after
+ * the call.
  */
 #ifndef REQUESTS_H
 #define REQUESTS_H
@@ -12,7 +13,7 @@
 
 #include "pollux.h"
 
-enum { READ = 1, CHECK, JUDGE, TRANSLATE, LOAD, RUN };
+enum { READ = 1, CHECK, JUDGE, TRANSLATE, LOAD, RUN, PRINT, LAST_CALL = PRINT };
 enum { INPUTS = 3, LONGEST_INPUT = 65536, LINE_SIZE = 80 };
 
 struct input {
@@ -29,6 +30,9 @@ struct request {
 const char *call_name(unsigned call);
 const char *input_name(unsigned call, unsigned input);
 
+/* Does the call write into its third input? */
+bool writes(unsigned call);
+
 /*
  * Reads the next request into memory that the next one uses again; false at the end. Requests that name no call or have an input
  * over 65,536 bytes are passed over. A cut one ends the program with status 3.
@@ -36,7 +40,7 @@ const char *input_name(unsigned call, unsigned input);
 bool read_request(FILE *file, struct request *request);
 void write_request(FILE *file, const struct request *request);
 
-/* Someone's version of the six calls. */
+/* Someone's version of the calls. */
 struct calls {
     struct pollux_answer (*read)(const uint8_t *, size_t);
     struct pollux_answer (*check)(const uint8_t *, size_t, const uint8_t *, size_t);
@@ -44,6 +48,7 @@ struct calls {
     struct pollux_answer (*translate)(const uint8_t *, size_t, const uint8_t *, size_t, uint8_t *, size_t);
     struct pollux_answer (*load)(const uint8_t *, size_t, const uint8_t *, size_t);
     struct pollux_answer (*run)(const uint8_t *, size_t, const uint8_t *, size_t, const uint8_t *, size_t);
+    struct pollux_answer (*print)(const uint8_t *, size_t, uint8_t *, size_t);
 };
 
 extern const struct calls pollux_calls;

@@ -15,7 +15,7 @@
 
 enum { PAGE = 4096, STACK = 4 * 1024 * 1024, FILL = 0x5a };
 
-static uint8_t *stacks[RUN + 1];
+static uint8_t *stacks[LAST_CALL + 1];
 
 static uint8_t *make_stack(void)
 {
@@ -78,8 +78,10 @@ static void measure_text(uint8_t *text, size_t length)
     struct request request = { .inputs = { { text, length }, { entry, 0 }, { entry, sizeof entry } } };
     for (request.call = READ; request.call <= JUDGE; request.call++)
         measure(&request);
-    request.call = TRANSLATE;
     request.inputs[2] = (struct input){ buffer, sizeof buffer };
+    request.call = TRANSLATE;
+    measure(&request);
+    request.call = PRINT;
     measure(&request);
 }
 
@@ -101,17 +103,17 @@ static void measure_deepest(void)
 int main(void)
 {
     struct request request;
-    for (unsigned call = READ; call <= RUN; call++)
+    for (unsigned call = READ; call <= LAST_CALL; call++)
         stacks[call] = make_stack();
     measure_deepest();
     while (read_request(stdin, &request))
         measure(&request);
     unsigned failed = 0;
-    for (unsigned call = READ; call <= RUN; call++) {
+    for (unsigned call = READ; call <= LAST_CALL; call++) {
         size_t bytes = used(stacks[call]);
         printf("%s: %zu bytes of stack, of %d\n", call_name(call), bytes, POLLUX_MAX_STACK);
         failed += bytes > POLLUX_MAX_STACK;
     }
-    printf("%u passed, %u failed\n", RUN - failed, failed);
+    printf("%u passed, %u failed\n", LAST_CALL - failed, failed);
     return failed == 0 ? 0 : 1;
 }

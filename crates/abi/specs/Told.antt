@@ -1,12 +1,13 @@
--- An answer of the paper as four numbers: what it says (0 refused, 1 accepted, 2 violated, 3 passed, read, written or loaded), the
+-- An answer of the paper as four numbers: what it says (0 refused, 1 accepted, 2 violated, 3 passed, read, written, loaded or
+-- printed), the
 -- refusal's number or 0, its input (0 none, 1 text, 2 list, 3 entry, 4 blocks, 5 buffer), and the offset, or the count, or 0.
 use Prim.Native.Nat.{ℕ}
 use mathlib.Core.Path.{_≡_}
 use mathlib.Core.Bool.{Bool, true, false, cond}
 use lib.Dec.{eqb}
 use mathlib.Core.List.{List}
-use Rattle.paper.specs.Answers.{Answer, ok, refused, Input, inText, inList, inEntry, inBlocks, inBuffer, readingSays, checkingSays, judgementSays, translationSays, loadingSays}
-use Rattle.paper.specs.Promised.{ReadPromised, CheckPromised, JudgePromised, TranslateResult, TranslatePromised, LoadPromised, RunPromised, Sole}
+use Rattle.paper.specs.Answers.{Answer, ok, refused, Input, inText, inList, inEntry, inBlocks, inBuffer, readingSays, checkingSays, judgementSays, translationSays, loadingSays, printingSays}
+use Rattle.paper.specs.Promised.{ReadPromised, CheckPromised, JudgePromised, TranslateResult, TranslatePromised, LoadPromised, RunPromised, PrintPromised, Sole}
 use Rattle.abi.specs.declared.answer.PolluxAnswer.{PolluxAnswer}
 
 abbrev pub inputNo : Input → ℕ
@@ -65,7 +66,11 @@ LoadTold list blocks = Tells (LoadPromised list blocks) (λ r. counted (loadingS
 abbrev pub RunTold : List ℕ → List ℕ → List ℕ → PolluxAnswer → Type 0
 RunTold list blocks entry = Tells (RunPromised list blocks entry) (λ r. judged (judgementSays r))
 
--- so for all inputs C is told one thing, and no second; of `translate`, one answer with one buffer at exit
+-- with what the buffer holds at exit
+abbrev pub PrintTold : List ℕ → List ℕ → List ℕ → PolluxAnswer → Type 0
+PrintTold text buffer exit = Tells (λ r. PrintPromised text buffer (record { answer = r; buffer = exit })) (λ r. counted (printingSays r))
+
+-- so for all inputs C is told one thing, and no second; of `translate` and `print`, one answer with one buffer at exit
 pub record OneAnswerForC : Type 0 where
   pub read : (text : List ℕ) → Sole (ReadTold text)
   pub check : (text list : List ℕ) → Sole (CheckTold text list)
@@ -74,6 +79,8 @@ pub record OneAnswerForC : Type 0 where
       → TranslateTold text list buffer other b → (a ≡ b) × (exit ≡ other)
   pub load : (list blocks : List ℕ) → Sole (LoadTold list blocks)
   pub run : (list blocks entry : List ℕ) → Sole (RunTold list blocks entry)
+  pub print : (text buffer exit other : List ℕ) (a b : PolluxAnswer) → PrintTold text buffer exit a → PrintTold text buffer other b
+      → (a ≡ b) × (exit ≡ other)
 
 -- the way back, by which a caller reads an answer
 

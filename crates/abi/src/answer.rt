@@ -1,11 +1,12 @@
 // An answer as four numbers.
 ghost use mathlib.Core.Path.{_≡_};
-ghost use Rattle.paper.specs.Answers.{inputOf, offsetOf, readingSays, checkingSays, judgementSays, translationSays, loadingSays};
+ghost use Rattle.paper.specs.Answers.{inputOf, offsetOf, readingSays, checkingSays, judgementSays, translationSays, loadingSays, printingSays};
 ghost use Rattle.abi.specs.Told.{turnedAway, counted, passed, judged};
 use paper::Checking;
 use paper::Judgement;
 use paper::Loading;
 use paper::Place;
+use paper::Printing;
 use paper::Reading;
 use paper::Translation;
 
@@ -94,5 +95,14 @@ pub(crate) fn of_loading(r: Loading) -> PolluxAnswer
     match r {
         Loading::Loaded(n) => answer(3, n),
         Loading::Refused(number, place) => refusal(number, place),
+    }
+}
+
+pub(crate) fn of_printing(r: Printing) -> PolluxAnswer
+    ensures { λ a. ⌜ a ≡ counted (printingSays r) ⌝ }
+{
+    match r {
+        Printing::Printed(n) => answer(3, n),
+        Printing::Refused(number, place) => refusal(number, place),
     }
 }

@@ -1,11 +1,11 @@
-// The six calls for C: include/pollux.h says the same in its words.
+// The calls for C: include/pollux.h says the same in its words.
 //
 // Each takes every input as a pointer and a length, and answers four numbers by value, which stand for a result that keeps the promise of
-// the call of `valve` below it (specs/Told); `translate` also promises what each byte of the buffer holds afterwards.
+// the call of `valve` below it (specs/Told); `translate` and `print` also promise what each byte of the buffer holds afterwards.
 mod answer;
 mod told;
 
-ghost use Rattle.abi.specs.Told.{ReadTold, CheckTold, JudgeTold, TranslateTold, LoadTold, RunTold};
+ghost use Rattle.abi.specs.Told.{ReadTold, CheckTold, JudgeTold, TranslateTold, LoadTold, RunTold, PrintTold};
 use crate::answer::PolluxAnswer;
 
 // How many nodes the text's tree has.
@@ -54,4 +54,12 @@ pub extern "C" fn pollux_run(list: &[u8], blocks: &[u8], entry: &[u8]) -> Pollux
     ensures { λ r. ⌜ RunTold (now (list .entry)) (now (blocks .entry)) (now (entry .entry)) r ⌝ }
 {
     answer::of_judgement(valve::run(list, blocks, entry))
+}
+
+// How many bytes the text's print has, which stands in the buffer.
+#[no_mangle]
+pub extern "C" fn pollux_print(text: &[u8], buffer: &mut [u8]) -> PolluxAnswer
+    ensures { λ r. ⌜ PrintTold (now (text .entry)) (now (buffer .entry)) (now (buffer .exit)) r ⌝ }
+{
+    answer::of_printing(valve::print(text, buffer))
 }

@@ -1,11 +1,15 @@
--- What a call leaves in the bytes lent for its third input: call 4 alone writes, into the first n of them.
+-- What a call leaves in the bytes lent for its third input: calls 4 and 7 alone write, into the first n of them.
 use Prim.Native.Nat.{ℕ}
-use mathlib.Core.Bool.{cond, _&&_}
+use mathlib.Core.Bool.{cond}
 use mathlib.Core.List.{List, _++_}
 use lib.ListN.{length, take, drop}
 use lib.Dec.{eqb, leb}
-use Rattle.paper.specs.Calls.{translateBuffer}
+use Rattle.paper.specs.Calls.{translateBuffer, printBuffer}
+
+-- what a call leaves in its buffer
+abbrev pub written : ℕ → List ℕ → List ℕ → List ℕ → List ℕ
+written call text list buffer =
+    cond (eqb call 4) (translateBuffer text list buffer) (cond (eqb call 7) (printBuffer text buffer) buffer)
 
 abbrev pub afterCall : ℕ → List ℕ → List ℕ → List ℕ → ℕ → List ℕ
-afterCall call text list third n =
-    cond (eqb call 4 && leb n (length third)) (translateBuffer text list (take n third) ++ drop n third) third
+afterCall call text list third n = cond (leb n (length third)) (written call text list (take n third) ++ drop n third) third

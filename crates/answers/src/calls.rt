@@ -1,7 +1,7 @@
 // A call by its number, and its answer as a line.
 ghost use mathlib.Core.Path.{_≡_};
-ghost use Rattle.paper.specs.Calls.{translateBuffer};
-ghost use Rattle.answers.specs.Calls.{afterCall};
+ghost use Rattle.paper.specs.Calls.{translateBuffer, printBuffer};
+ghost use Rattle.answers.specs.Calls.{afterCall, written};
 use crate::adler;
 use crate::framing;
 
@@ -18,7 +18,9 @@ const LOAD: u8 = 5;
 
 const RUN: u8 = 6;
 
-// Any call but `translate`, which alone writes.
+const PRINT: u8 = 7;
+
+// A call that only reads.
 fn reading_call(call: u8, first: &[u8], second: &[u8], third: &[u8]) {
     match call {
         READ => lines::say_reading(valve::read(first)),
@@ -31,23 +33,43 @@ fn reading_call(call: u8, first: &[u8], second: &[u8], third: &[u8]) {
     lines::say(b"\n");
 }
 
+// What the buffer holds after a call, by its sum.
+fn say_sum(buffer: &[u8]) {
+    lines::say(b" ");
+    lines::say_number(adler::adler_of(buffer));
+    lines::say(b"\n");
+}
+
 fn translate(text: &[u8], list: &[u8], buffer: &mut [u8])
     ensures { λ _. ⌜ now (buffer .exit) ≡ translateBuffer (now (text .entry)) (now (list .entry)) (now (buffer .entry)) ⌝ }
 {
     lines::say_translation(valve::translate(text, list, buffer));
-    lines::say(b" ");
-    lines::say_number(adler::adler_of(buffer));
-    lines::say(b"\n");
+    say_sum(buffer)
+}
+
+fn print(text: &[u8], buffer: &mut [u8])
+    ensures { λ _. ⌜ now (buffer .exit) ≡ printBuffer (now (text .entry)) (now (buffer .entry)) ⌝ }
+{
+    lines::say_printing(valve::print(text, buffer));
+    say_sum(buffer)
+}
+
+// A call that writes into the buffer.
+fn writing_call(call: u8, first: &[u8], second: &[u8], buffer: &mut [u8])
+    ensures { λ _. ⌜ now (buffer .exit) ≡ written call (now (first .entry)) (now (second .entry)) (now (buffer .entry)) ⌝ }
+{
+    match call {
+        TRANSLATE => translate(first, second, buffer),
+        PRINT => print(first, buffer),
+        _ => reading_call(call, first, second, buffer),
+    }
 }
 
 // Makes a call, and writes its answer as a line. The third input is the first n bytes of what is lent for it.
 pub(crate) fn answer(call: u8, first: &[u8], second: &[u8], third: &mut [u8], n: usize)
     ensures { λ _. ⌜ now (third .exit) ≡ afterCall call (now (first .entry)) (now (second .entry)) (now (third .entry)) n ⌝ }
 {
-    if call != TRANSLATE {
-        return reading_call(call, first, second, lines::start(third, n));
-    }
     if n <= third.len() {
-        translate(first, second, &mut third[..n])
+        writing_call(call, first, second, &mut third[..n])
     }
 }

@@ -21,8 +21,9 @@ abbrev pub placeIn : List (List ℕ) → List ℕ → ℕ
 placeIn [] word = 0
 placeIn (w ∷ ws) word = cond (sameBytes w word) 0 (suc (placeIn ws word))
 
+abbrev pub commands : List (List ℕ)
+commands = wordsOf (bytes "text list entry room title change show code blocks translate print read check judge load run")
+
 -- the command of the line at an offset
 abbrev pub commandAt : List ℕ → ℕ → ℕ
-commandAt file at =
-    placeIn (wordsOf (bytes "text list entry room title change code blocks translate read check judge load run"))
-    (partOf file at (nameEnd file at))
+commandAt file at = placeIn commands (partOf file at (nameEnd file at))

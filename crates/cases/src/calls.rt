@@ -6,12 +6,14 @@ use crate::names::ENTRY;
 use crate::names::JUDGE;
 use crate::names::LIST;
 use crate::names::LOAD;
+use crate::names::PRINT;
 use crate::names::READ;
 use crate::names::TEXT;
 use crate::names::TRANSLATE;
 use crate::scan::not_understood;
 use crate::scan::part;
 use blocks::Block;
+use paper::Printing;
 use paper::Translation;
 
 // The blocks of instructions, for a list without keys.
@@ -32,12 +34,26 @@ fn say_translation(call: usize, translation: Translation) {
     }
 }
 
+// The longest print that is shown.
+const SHOWN: usize = 100;
+
+fn say_print(printing: Printing, room: &[u8]) {
+    lines::say_printing(printing);
+    if let Printing::Printed(n) = printing {
+        if n <= SHOWN {
+            lines::say(b": ");
+            lines::say(lines::start(room, n))
+        }
+    }
+}
+
 // The calls that write into the room.
 fn write(call: usize, text: &[u8], list: &[u8], room: &mut [u8]) {
-    if call == CODE {
-        return write_code(text, room);
+    match call {
+        CODE => write_code(text, room),
+        PRINT => say_print(valve::print(text, room), room),
+        _ => say_translation(call, valve::translate(text, list, room)),
     }
-    say_translation(call, valve::translate(text, list, room))
 }
 
 // Those that only read.
@@ -64,7 +80,7 @@ pub(crate) fn make(call: usize, file: &[u8], at: usize, room: &mut [u8]) {
     let e = put_input(file, at, ENTRY, &mut all, l);
     let text = part(&all, 0, t);
     let list = part(&all, t, l);
-    if call <= TRANSLATE {
+    if call <= PRINT {
         return write(call, text, list, room);
     }
     answer(call, text, list, part(&all, l, e), room)

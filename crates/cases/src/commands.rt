@@ -8,6 +8,7 @@ use crate::names::CHANGE;
 use crate::names::CODE;
 use crate::names::ROOM;
 use crate::names::RUN;
+use crate::names::SHOW;
 use crate::names::TEXT;
 use crate::names::TITLE;
 use crate::names::TRANSLATE;
@@ -28,6 +29,12 @@ fn title(name: &[u8]) {
 // Changes bytes of the room: their offset, and words.
 fn change(rest: &[u8], room: &mut [u8]) {
     put_words(rest, scan(rest, 0, b' '), room, number(rest, 0));
+}
+
+// Prints so many bytes of the room as they stand.
+fn show(rest: &[u8], room: &[u8]) {
+    lines::say(lines::start(room, number(rest, 0)));
+    lines::say(b"\n")
 }
 
 fn case(command: usize, file: &[u8], at: usize, room: &mut [u8])
@@ -59,6 +66,7 @@ fn act(command: usize, file: &[u8], at: usize, room: &mut [u8])
         TEXT..=ROOM => {}
         TITLE => title(rest_of(file, at)),
         CHANGE => change(rest_of(file, at), room),
+        SHOW => show(rest_of(file, at), room),
         CODE..=BLOCKS => calls::make(command, file, at, room),
         TRANSLATE..=RUN => case(command, file, at, room),
         _ => unknown(file, at),

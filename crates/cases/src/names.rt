@@ -1,4 +1,4 @@
-// The commands, by the places of their names in a list: the first four give what calls are lent, and the last six print an answer.
+// The commands, by the places of their names in a list: the first four give what calls are lent, and the last seven print an answer.
 ghost use Prim.Native.Nat.{_≤_};
 ghost use mathlib.Core.Path.{_≡_};
 ghost use lib.ListN.{length};
@@ -19,21 +19,25 @@ pub const TITLE: usize = 4;
 
 pub const CHANGE: usize = 5;
 
-pub const CODE: usize = 6;
+pub const SHOW: usize = 6;
 
-pub const BLOCKS: usize = 7;
+pub const CODE: usize = 7;
 
-pub const TRANSLATE: usize = 8;
+pub const BLOCKS: usize = 8;
 
-pub const READ: usize = 9;
+pub const TRANSLATE: usize = 9;
 
-pub const CHECK: usize = 10;
+pub const PRINT: usize = 10;
 
-pub const JUDGE: usize = 11;
+pub const READ: usize = 11;
 
-pub const LOAD: usize = 12;
+pub const CHECK: usize = 12;
 
-pub const RUN: usize = 13;
+pub const JUDGE: usize = 13;
+
+pub const LOAD: usize = 14;
+
+pub const RUN: usize = 15;
 
 // Which of some words a word is, counted from 0; their count for none of them.
 fn place_in(words: &[u8], word: &[u8]) -> usize
@@ -58,7 +62,7 @@ pub(crate) fn command_at(file: &[u8], at: usize) -> usize
     ensures { λ r. ⌜ r ≡ commandAt (now (file .entry)) at ⌝ }
 {
     place_in(
-        b"text list entry room title change code blocks translate read check judge load run",
+        b"text list entry room title change show code blocks translate print read check judge load run",
         part(file, at, scan(file, at, b':')),
     )
 }

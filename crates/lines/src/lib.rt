@@ -1,5 +1,5 @@
 // What the calls answer, in the words of a line on standard output: `read N`, `passed`, `accepted`, `violated`, `translated N`,
-// `loaded N`, or `refused NUMBER INPUT OFFSET` with INPUT one of text, list, entry, blocks, buffer. The programs share these words.
+// `loaded N`, `printed N`, or `refused NUMBER INPUT OFFSET` with INPUT one of text, list, entry, blocks, buffer. The programs share these words.
 //
 // These only write, and a line's end is written by the caller. `start` is for programs that fill a room and use as much of it as they
 // filled.
@@ -10,6 +10,7 @@ use paper::Checking;
 use paper::Judgement;
 use paper::Loading;
 use paper::Place;
+use paper::Printing;
 use paper::Reading;
 use paper::Translation;
 
@@ -78,6 +79,14 @@ pub fn say_loading(loading: Loading) {
     match loading {
         Loading::Loaded(n) => say_count(b"loaded ", n),
         Loading::Refused(number, place) => say_refused(number, place),
+    }
+}
+
+// Writes what `print` answered.
+pub fn say_printing(printing: Printing) {
+    match printing {
+        Printing::Printed(n) => say_count(b"printed ", n),
+        Printing::Refused(number, place) => say_refused(number, place),
     }
 }
 

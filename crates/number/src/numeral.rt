@@ -3,7 +3,8 @@ ghost use mathlib.Core.Path.{_≡_};
 ghost use Prim.Native.Nat.{_+_, _*_, _^_, _<_, _≤_};
 ghost use lib.Dec.{ltb};
 ghost use Rattle.paper.specs.Print.{digitByte, numeralIn};
-ghost use Rattle.number.specs.Values.{value};
+ghost use mathlib.Core.Bool.{true};
+ghost use Rattle.number.specs.Values.{limb, value};
 ghost use Rattle.number.specs.Numerals.{Divides, Holds};
 use crate::magnitude::Magnitude;
 
@@ -31,6 +32,13 @@ fn divide_limb(limb: u32, over: u32, base: u32) -> Split
 {
     let both = over as u64 * 0x1_0000_0000 + limb as u64;
     let by = base as u64;
+    // A division is slow, and of a number's upper limbs there is mostly nothing to divide.
+    if both < by {
+        return Split {
+            limb: 0,
+            rest: both as u32,
+        };
+    }
     Split {
         limb: (both / by) as u32,
         rest: (both % by) as u32,
@@ -49,8 +57,21 @@ fn digit_byte(digit: u32) -> u8
 }
 
 impl Magnitude {
-    // The number divided by a base, limb by limb from the highest, and what is left over.
-    pub fn divide(self, base: u32) -> Divided
+    // Whether the number has no limb but the lowest.
+    fn is_small(self) -> bool
+        ensures { λ r. ⌜ (r ≡ true → value self ≡ limb self 0) ⌝ }
+    {
+        if self.limbs[1] != 0 {
+            return false;
+        }
+        if self.limbs[2] != 0 {
+            return false;
+        }
+        self.limbs[3] == 0
+    }
+
+    // Limb by limb from the highest.
+    fn divide_limbs(self, base: u32) -> Divided
         requires { ⌜ 0 < base ⌝ }
         ensures { λ r. ⌜ Divides (value self) base r ⌝ }
     {
@@ -64,6 +85,20 @@ impl Magnitude {
             },
             rest: a.rest,
         }
+    }
+
+    // The number divided by a base, and what is left over. Most numbers are small, and one short division is enough for them.
+    pub fn divide(self, base: u32) -> Divided
+        requires { ⌜ 0 < base ⌝ }
+        ensures { λ r. ⌜ Divides (value self) base r ⌝ }
+    {
+        if self.is_small() {
+            return Divided {
+                number: Magnitude::of(self.limbs[0] / base),
+                rest: self.limbs[0] % base,
+            };
+        }
+        self.divide_limbs(base)
     }
 
     // Whether the number is one digit of a base.

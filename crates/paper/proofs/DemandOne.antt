@@ -6,14 +6,15 @@ use Rattle.paper.specs.declared.Reading.{Reading}
 use Rattle.paper.specs.declared.Checking.{Checking}
 use Rattle.paper.specs.declared.Judgement.{Judgement}
 use Rattle.paper.specs.declared.Loading.{Loading}
-use Rattle.paper.specs.Answers.{Input, inText, inList, inEntry, inBlocks, inBuffer, Answer, inputOf, offsetOf, readingSays, checkingSays, judgementSays, translationSays, loadingSays}
-use Rattle.paper.specs.Calls.{readAnswer, checkAnswer, judgeAnswer, translateAnswer, loadAnswer, runAnswer}
-use Rattle.paper.specs.Table.{ByTable, Stage, sizeStages, listStages, treeStages, entryStages, blockStages, bufferStages, checkStages, readStages, judgeStages, translateStages, loadStages, runStages}
-use Rattle.paper.specs.Promised.{ReadPromised, CheckPromised, JudgePromised, TranslateResult, TranslatePromised, LoadPromised, RunPromised}
-use Rattle.paper.specs.Demands.{Lent, lent, Refusal, Answered, ReadAnswered, CheckAnswered, JudgeAnswered, TranslateAnswered, LoadAnswered, RunAnswered, DemandOneMet}
+use Rattle.paper.specs.Answers.{Input, inText, inList, inEntry, inBlocks, inBuffer, Answer, inputOf, offsetOf, readingSays, checkingSays, judgementSays, translationSays, loadingSays, printingSays}
+use Rattle.paper.specs.Calls.{readAnswer, checkAnswer, judgeAnswer, translateAnswer, loadAnswer, runAnswer, printAnswer}
+use Rattle.paper.specs.Table.{ByTable, Stage, sizeStages, listStages, treeStages, entryStages, blockStages, bufferStages, printingStages, checkStages, readStages, judgeStages, translateStages, loadStages, runStages, printStages}
+use Rattle.paper.specs.Promised.{ReadPromised, CheckPromised, JudgePromised, TranslateResult, TranslatePromised, LoadPromised, RunPromised, PrintResult, PrintPromised}
+use Rattle.paper.specs.Demands.{Lent, lent, Refusal, Answered, ReadAnswered, CheckAnswered, JudgeAnswered, TranslateAnswered, LoadAnswered, RunAnswered, PrintAnswered, DemandOneMet}
 use Rattle.paper.proofs.TranslationCorrect.{refused-unchanged}
-use Rattle.paper.proofs.RefusalsLocated.{AllLocated, LiesIn, located-then, decided-lies, size-located, list-located, tree-located, check-located, buffer-located, block-located, entry-located}
+use Rattle.paper.proofs.RefusalsLocated.{AllLocated, LiesIn, located-then, decided-lies, size-located, list-located, tree-located, check-located, buffer-located, block-located, entry-located, printing-located}
 use Rattle.paper.proofs.Table.{table-holds}
+use Rattle.paper.proofs.PrintDemands.{print-unchanged}
 
 lies-refusal : (inputs : List Lent) (n : ℕ) (i : Input) (at : ℕ) → LiesIn inputs n i at → Refusal inputs n i at
 lies-refusal inputs n i at l =
@@ -45,11 +46,15 @@ second = List·Memᴰ·tail here
 third : {x y z : Lent} {xs : List Lent} → List·Memᴰ x (y ∷ z ∷ x ∷ xs)
 third = List·Memᴰ·tail second
 
+read-located : (inputs : List Lent) (text : List ℕ) → List·Memᴰ (lent inText text) inputs → AllLocated inputs (readStages text)
+read-located inputs text m =
+    located-then inputs (sizeStages text) (treeStages text) (size-located inputs text m) (λ _. tree-located inputs text m)
+
 pub read-answered : (text : List ℕ) (r : Reading) → ReadPromised text r → ReadAnswered text r
 read-answered text r promised =
     let inputs = lent inText text ∷ [] in
     answered-by inputs (readAnswer text) (readingSays r) (readStages text) (table-holds .read text)
-    (located-then inputs (sizeStages text) (treeStages text) (size-located inputs text here) (λ _. tree-located inputs text here)) promised
+    (read-located inputs text here) promised
 
 pub check-answered : (text list : List ℕ) (r : Checking) → CheckPromised text list r → CheckAnswered text list r
 check-answered text list r promised =
@@ -97,6 +102,17 @@ run-answered list blocks entry r promised =
     (located-then inputs (loadStages list blocks) (entryStages list entry) (load-located inputs list blocks here second)
     (λ _. entry-located inputs list entry third)) promised
 
+pub print-answered : (text buffer : List ℕ) (r : PrintResult) → PrintPromised text buffer r → PrintAnswered text buffer r
+print-answered text buffer r promised =
+    let inputs = lent inText text ∷ lent inBuffer buffer ∷ [] in
+    record {
+      says =
+          answered-by inputs (printAnswer text buffer) (printingSays (r .answer)) (printStages text buffer) (table-holds .print text buffer)
+          (located-then inputs (readStages text) (printingStages text buffer) (read-located inputs text here)
+          (λ _. printing-located inputs text buffer second)) (promised .says);
+      unchanged = print-unchanged text buffer r promised;
+    }
+
 pub demand-one-met : DemandOneMet
 demand-one-met p kept =
     record {
@@ -107,4 +123,5 @@ demand-one-met p kept =
           translate-answered text list buffer (p .translate text list buffer) (kept .translate text list buffer t l b);
       load = λ list blocks l s. load-answered list blocks (p .load list blocks) (kept .load list blocks l s);
       run = λ list blocks entry l s e. run-answered list blocks entry (p .run list blocks entry) (kept .run list blocks entry l s e);
+      print = λ text buffer t b. print-answered text buffer (p .print text buffer) (kept .print text buffer t b);
     }

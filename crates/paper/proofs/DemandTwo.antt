@@ -17,55 +17,26 @@ use Rattle.paper.specs.declared.Judgement.{Judgement}
 use Rattle.paper.specs.declared.Judgement.the-variants as J
 use Rattle.paper.specs.declared.Translation.the-variants as T
 use Rattle.paper.specs.Answers.{inText, Answer, ok, refused, _>>=_, readingSays, checkingSays, judgementSays, translationSays}
-use Rattle.paper.specs.Tokens.{tokens, mostText}
+use Rattle.paper.specs.Tokens.{mostText}
 use Rattle.paper.specs.Keys.{keys}
 use Rattle.paper.specs.Entry.{entryOf}
-use Rattle.paper.specs.Grammar.{Tree, nodes, parsed}
+use Rattle.paper.specs.Grammar.{nodes}
 use Rattle.paper.specs.Types.{typeOf, rootType, typed}
 use Rattle.paper.specs.Meaning.{Value, truth, valueOf, isTrue}
 use Rattle.paper.specs.Code.{Walk, ends}
 use Rattle.paper.specs.Blocks.{blockSize, blocksNeeded}
 use Rattle.paper.specs.Loading.{program, loaded, valuesAlong, leftTrue}
 use Rattle.paper.specs.Translating.{codeOf, conversions}
-use Rattle.paper.specs.Calls.{sized, tree, Restriction, restriction, readAnswer, checkAnswer, judgeAnswer, runAnswer}
+use Rattle.paper.specs.Calls.{sized, tree, Restriction, restriction, checkAnswer, judgeAnswer, runAnswer}
 use Rattle.paper.specs.Promised.{verdict, ReadPromised, CheckPromised, JudgePromised, TranslateResult, TranslatePromised, RunPromised}
-use Rattle.paper.specs.Demands.{WellFormed, Checkable, Judgeable, Runnable, Refuses, ReadRight, CheckedRight, JudgedRight, TranslatedRight, RanRight, DemandTwoMet}
+use Rattle.paper.specs.Demands.{Checkable, Judgeable, Runnable, Refuses, ReadRight, CheckedRight, JudgedRight, TranslatedRight, RanRight, DemandTwoMet}
 use Rattle.paper.proofs.Stages.{never-ok, ok-same, bind-ok, require-ok}
-use Rattle.paper.proofs.Refusals.{read-is-valid}
 use Rattle.paper.proofs.LoadedBlocksRun.{conforming, loaded-runs}
 use Rattle.paper.proofs.TypeSoundness.{judged, bool-root}
 use Rattle.paper.proofs.TranslationCorrect.{passing, counted, translating, translates, translated}
 use Rattle.paper.proofs.Promised.{verdict-says, reading-same, checking-same, judgement-same, translation-same}
-use Rattle.paper.proofs.TokenFaults.{tokens-are-cut}
-
--- a text that passes, in the words of the grammar
-
-module _ (text : List ℕ) where
-  two-stages : tree text ≡ (tokens text >>= parsed (length text))
-  unfolding tree
-  two-stages = refl
-
-  pub formed-tree : (root : Tree) → WellFormed text root → tree text ≡ ok root
-  formed-tree root f =
-      two-stages ∙ rw (tokens-are-cut text (f .words) .1 (f .cut)) (read-is-valid (length text) (f .words) root .1 (f .sentence))
-
-  pub tree-formed : (root : Tree) → length text ≤ mostText → tree text ≡ ok root → WellFormed text root
-  tree-formed root short e =
-      let (ts, cut, read) = bind-ok (tokens text) (parsed (length text)) root (sym two-stages ∙ e) in
-      record { short = short; words = ts; cut = tokens-are-cut text ts .0 cut; sentence = read-is-valid (length text) ts root .0 read }
-
-  -- it is read
-  formed-answer : (root : Tree) → WellFormed text root → readAnswer text ≡ ok (nodes root)
-  unfolding readAnswer
-  formed-answer root f = rw (le-leb (length text) mostText (f .short), formed-tree root f)
-
-  answer-formed : (n : ℕ) → readAnswer text ≡ ok n → (root : Tree) × WellFormed text root × (nodes root ≡ n)
-  unfolding readAnswer
-  answer-formed n e =
-      let (u, short, rest) = bind-ok (sized text) (λ _. tree text >>= λ t. ok (nodes t)) n e in
-      let few = require-ok (leb (length text) mostText) 1 inText mostText u short in
-      let (root, read, same) = bind-ok (tree text) (λ t. ok (nodes t)) n rest in
-      (root, tree-formed root (leb-true (length text) mostText few) read, ok-same (nodes root) n same)
+use Rattle.paper.proofs.WellFormed.{formed-tree, tree-formed, formed-answer, answer-formed}
+use Rattle.paper.proofs.PrintDemands.{printed-right}
 
 -- with a list, it passes a check: this is its restriction
 
@@ -265,5 +236,6 @@ demand-two-met p kept =
       judges = λ text list entry t l e. judged-right text list entry (p .judge text list entry) (kept .judge text list entry t l e);
       translates = λ text list buffer t l b.
           translated-right text list buffer (p .translate text list buffer) (kept .translate text list buffer t l b);
+      prints = λ text buffer t b. printed-right text buffer (p .print text buffer) (kept .print text buffer t b);
       runs = λ list blocks entry l s e. ran-right list blocks entry (p .run list blocks entry) (kept .run list blocks entry l s e);
     }

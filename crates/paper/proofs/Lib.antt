@@ -70,9 +70,7 @@ pub mod InOrder
 pub mod TypeFaults
 pub mod Table
 pub mod RefusalsLocated
-pub mod DemandOne
-pub mod DemandTwo
-pub mod DemandThree
+pub mod WellFormed
 pub mod DigitsReadBack
 pub mod Rungs
 pub mod WordsScanned
@@ -81,6 +79,9 @@ pub mod PrintIsPhrase
 pub mod PrintIsShortest
 pub mod PrintReadsBack
 pub mod PrintDemands
+pub mod DemandOne
+pub mod DemandTwo
+pub mod DemandThree
 pub mod WrongPrints
 pub mod WrongPrograms
 pub mod WrongProgramsExist

@@ -1,23 +1,22 @@
--- A call that keeps the promise of `print` refuses exactly by the table, and leaves the buffer then as it is; else it writes the print of
--- a well-formed text, exactly where that may be lent.
+-- A result that keeps the promise of `print` leaves the buffer as it is where it is a refusal; else the print of a well-formed text stands
+-- there, exactly where that may be lent.
 use Prim.Native.Nat.{ℕ}
-use mathlib.Core.Path.{_≡_, refl, sym, ap, subst, _∙_}
+use mathlib.Core.Path.{_≡_, refl, sym, ap, _∙_}
 use mathlib.Core.List.{List}
 use lib.ListN.{length}
 use lib.Dec.{leb}
 use borrow.Author.Tests.{leb-true, le-leb}
+use Rattle.paper.specs.declared.Place.{Place}
 use Rattle.paper.specs.declared.Printing.the-variants as W
 use Rattle.paper.specs.Answers.{Input, inText, Answer, ok, refused, _>>=_, inputOf, offsetOf, printingSays}
 use Rattle.paper.specs.Tokens.{mostText}
 use Rattle.paper.specs.Print.{print}
 use Rattle.paper.specs.Calls.{printable, printAnswer, laid, printBuffer}
-use Rattle.paper.specs.Table.{ByTable, printStages}
 use Rattle.paper.specs.Promised.{PrintResult, PrintPromised}
-use Rattle.paper.specs.Demands.{Printable, PrintAnswered, PrintedRight, PrintDemandsMet}
+use Rattle.paper.specs.Demands.{Printable, PrintedRight}
 use Rattle.paper.proofs.Stages.{never-ok, ok-same, bind-ok, require-ok}
 use Rattle.paper.proofs.Promised.{printing-same}
-use Rattle.paper.proofs.Table.{table-holds}
-use Rattle.paper.proofs.DemandTwo.{formed-tree, tree-formed}
+use Rattle.paper.proofs.WellFormed.{formed-tree, tree-formed}
 use Rattle.paper.proofs.PrintReadsBack.{printable-is, lent-has}
 
 module _ (text buffer : List ℕ) where
@@ -60,16 +59,12 @@ module _ (text buffer : List ℕ) where
       }
 
   module _ (r : PrintResult) (promised : PrintPromised text buffer r) where
-    print-answered : PrintAnswered text buffer r
-    print-answered =
-        record {
-          table = subst (λ a. ByTable a (printStages text buffer)) (sym (promised .says)) (table-holds .print text buffer);
-          unchanged = λ n at e.
-              promised .holds ∙ buffer-is
-              ∙ refused-before (printable text buffer) n (inputOf at) (offsetOf at) (sym answer-is ∙ sym (promised .says) ∙ ap printingSays e);
-        }
+    pub print-unchanged : (n : ℕ) (at : Place) → r .answer ≡ W.Refused n at → r .buffer ≡ buffer
+    print-unchanged n at e =
+        promised .holds ∙ buffer-is
+        ∙ refused-before (printable text buffer) n (inputOf at) (offsetOf at) (sym answer-is ∙ sym (promised .says) ∙ ap printingSays e)
 
-    printed-right : PrintedRight text buffer r
+    pub printed-right : PrintedRight text buffer r
     printed-right =
         record {
           prints = λ n. (
@@ -80,6 +75,3 @@ module _ (text buffer : List ℕ) where
           );
           written = λ n p. promised .holds ∙ buffer-is ∙ ap (λ x. laid x buffer) (printable-bytes n p);
         }
-
-pub print-demands-met : PrintDemandsMet
-print-demands-met text buffer r promised = (print-answered text buffer r promised, printed-right text buffer r promised)

@@ -22,7 +22,7 @@ use Rattle.paper.specs.Promised.{verdict, Sole, NoSecondResult, CanBeKep
 
 -- places
 
-abbrev placeAt : Input → ℕ → Place
+abbrev pub placeAt : Input → ℕ → Place
 placeAt inText at = P.Text at
 placeAt inList at = P.List at
 placeAt inEntry at = P.Entry at
@@ -184,6 +184,7 @@ can-be-kept =
         translate = λ text list buffer. s .translate text list buffer .result;
         load = λ list blocks. s .load list blocks .result;
         run = λ list blocks entry. s .run list blocks entry .result;
+        print = λ text buffer. s .print text buffer .result;
       },
       record {
         read = λ text _. s .read text .satisfies;
@@ -192,5 +193,6 @@ can-be-kept =
         translate = λ text list buffer _ _ _. s .translate text list buffer .satisfies;
         load = λ list blocks _ _. s .load list blocks .satisfies;
         run = λ list blocks entry _ _ _. s .run list blocks entry .satisfies;
+        print = λ text buffer _ _. s .print text buffer .satisfies;
       },
     )

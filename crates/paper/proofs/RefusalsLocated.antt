@@ -1,4 +1,4 @@
--- Every refusal has a number from 1 to 20, and lies in an input that the call was lent, or at its length.
+-- Every refusal has a number of the table, and lies in an input that the call was lent, or at its length.
 use Prim.Native.Nat.{ℕ, suc, _+_, _*_, _≤_, _<_}
 use native.Mathlib.Decide.{ℕ-discrete}
 use native.Mathlib.Omega.{arith}
@@ -14,9 +14,10 @@ use Rattle.paper.specs.Grammar.{Tree, truth, number, key, field, attribu
 use Rattle.paper.specs.Sentences.{Number, text-ends, no-sentence, too-deep, bad-string}
 use Rattle.paper.specs.Places.{Everywhere}
 use Rattle.paper.specs.Blocks.{inBlock, blocksIn, totalOf, blockTest}
+use Rattle.paper.specs.Print.{print}
 use Rattle.paper.specs.Calls.{tree, restriction}
-use Rattle.paper.specs.Faults.{TextSize, text-over, ListSize, list-uneven, list-over, ListRecords, record-broken, name-repeated, TextTokens, no-token, numeral-large, one-more-token, TextGrammar, TreeTypes, key-unknown, key-of-field-unknown, field-unknown, attribute-unknown, prefix-wrong, join-wrong, comparison-wrong, in-operand, join-left, join-right, comparison-left, comparison-right, RootType, not-bool, BufferSize, buffer-short, BlocksSize, no-blocks, blocks-uneven, blocks-over, BlocksLayout, block-broken, BlocksCode, instruction-fails, end-not-bool, EntrySize, entry-wrong, EntryRules, priority-broken, match-broken}
-use Rattle.paper.specs.Table.{lastNumber, Free, Stage, Given, Decided, Clear, sizeStages, listStages, treeStages, typeStages, bufferStages, blockStages, entryStages, checkStages}
+use Rattle.paper.specs.Faults.{TextSize, text-over, ListSize, list-uneven, list-over, ListRecords, record-broken, name-repeated, TextTokens, no-token, numeral-large, one-more-token, TextGrammar, TreeTypes, key-unknown, key-of-field-unknown, field-unknown, attribute-unknown, prefix-wrong, join-wrong, comparison-wrong, in-operand, join-left, join-right, comparison-left, comparison-right, RootType, not-bool, BufferSize, buffer-short, BlocksSize, no-blocks, blocks-uneven, blocks-over, BlocksLayout, block-broken, BlocksCode, instruction-fails, end-not-bool, EntrySize, entry-wrong, EntryRules, priority-broken, match-broken, LendingSize, over-limit, over-buffer}
+use Rattle.paper.specs.Table.{lastNumber, Free, Stage, Given, Decided, Clear, sizeStages, listStages, treeStages, typeStages, bufferStages, blockStages, entryStages, printingStages, checkStages}
 use Rattle.paper.specs.Demands.{Lent, lent}
 use Rattle.paper.proofs.Basics.{some-below}
 use Rattle.paper.proofs.Stages.{bind-ok}
@@ -194,6 +195,13 @@ rules-bounded list entry free n at (ks, listed, h) = go n at h
     go n at (priority-broken l) = bound (omega arith) (omega arith) (omega arith)
     go n at (match-broken k x e f) = bound (omega arith) (omega arith) (omega (arith, right, some-below ks k x e))
 
+lending-bounded : (text buffer : List ℕ) (n at : ℕ) → Given (tree text) (λ t. LendingSize (print t) buffer) n at → Bounded buffer n at
+lending-bounded text buffer n at (t, read, h) = go n at h
+  where
+    go : (n at : ℕ) → LendingSize (print t) buffer n at → Bounded buffer n at
+    go n at (over-limit l) = bound (omega arith) (omega arith) (omega arith)
+    go n at (over-buffer l) = bound (omega arith) (omega arith) (omega arith)
+
 -- stages
 
 module _ (inputs : List Lent) where
@@ -246,3 +254,6 @@ module _ (inputs : List Lent) where
     record { bytes = entry; among = m; bounded = entry-size-bounded list entry },
     λ free. (record { bytes = entry; among = m; bounded = rules-bounded list entry free }, λ _. tt),
   )
+
+  pub printing-located : (text buffer : List ℕ) → There inBuffer buffer → AllLocated inputs (printingStages text buffer)
+  printing-located text buffer m = (record { bytes = buffer; among = m; bounded = lending-bounded text buffer }, λ _. tt)

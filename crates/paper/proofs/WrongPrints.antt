@@ -4,24 +4,15 @@ use native.Mathlib.Omega.{arith}
 use mathlib.Core.Path.{_≡_, refl, sym, ap, _∙_}
 use mathlib.Core.List.{List, [], _∷_}
 use lib.ListN.{length}
-use Rattle.paper.specs.Answers.{Answer, ok, refused}
+use Rattle.paper.specs.Answers.{ok}
 use Rattle.paper.specs.Tokens.{bytes, notSign, sequel, andAlso, equal, closing, opening, join, word, Token, tokens}
 use Rattle.paper.specs.Grammar.{Tree, truth, number, key, field, attribute, prefixed, joined, compared}
 use Rattle.paper.specs.Sentences.{tokenAt, signAt}
 use Rattle.paper.specs.Print.{bare, joinBytes, looser, print, rung}
 use Rattle.paper.specs.Calls.{tree}
-use Rattle.paper.specs.WrongPrints.{Printer, PrintsBy, ReadsBack, SparesNothing, printWith, withAllParentheses, PrintersExist, WrongPrintsFail}
+use Rattle.paper.specs.WrongPrints.{Printer, PrintsBy, ReadsBack, SparesNothing, printWith, withAllParentheses, WrongPrintsFail}
 use Rattle.paper.proofs.Stages.{ok-same}
 use Rattle.paper.proofs.PrintReadsBack.{print-reads-back, prints-tell, nothing-to-spare}
-
--- a printer for each print
-
-abbrev orNothing : (Tree → List ℕ) → Answer Tree → List ℕ
-orNothing f (ok t) = f t
-orNothing f (refused n i at) = []
-
-pub printers-exist : PrintersExist
-printers-exist f = (λ text. orNothing f (tree text), λ text t e. ap (orNothing f) e)
 
 same-print : (t : Tree) → printWith joinBytes looser t ≡ print t
 unfolding print
@@ -39,7 +30,7 @@ same-print (compared at c l r) = rw (same-print l, same-print r)
 abbrev a : Tree
 a = key 0 (bytes "a")
 
-abbrev close : Tree
+abbrev pub close : Tree
 close = joined 1 sequel a (key 2 (bytes "b"))
 
 abbrev apart : Tree
@@ -48,13 +39,13 @@ apart = joined 2 sequel a (key 4 (bytes "b"))
 abbrev both : Tree
 both = joined 2 andAlso a (key 5 (bytes "b"))
 
-abbrev negated : Tree
+abbrev pub negated : Tree
 negated = prefixed 0 notSign (compared 3 equal (key 2 (bytes "a")) (key 5 (bytes "b")))
 
 abbrev negated-left : Tree
 negated-left = compared 3 equal (prefixed 0 notSign (key 1 (bytes "a"))) (key 6 (bytes "b"))
 
-reads-close : tree (bytes "a;b") ≡ ok close
+pub reads-close : tree (bytes "a;b") ≡ ok close
 unfolding tree
 reads-close = refl
 
@@ -66,7 +57,7 @@ reads-both : tree (bytes "a && b") ≡ ok both
 unfolding tree
 reads-both = refl
 
-reads-negated : tree (bytes "!(a==b)") ≡ ok negated
+pub reads-negated : tree (bytes "!(a==b)") ≡ ok negated
 unfolding tree
 reads-negated = refl
 

@@ -1,4 +1,5 @@
--- The wrong programs fail, each at an input: the cases 2 and 7 of the marked judgements, `true` with no keys, and `true; v == 0`.
+-- The wrong programs fail, each at an input: the cases 2 and 7 of the marked judgements, `true` with no keys, `true; v == 0`, and for
+-- printers `a;b` and `!(a==b)`.
 use Prim.Native.Nat.{ℕ, zero, suc, _+_, _*_, _≤_}
 use native.Mathlib.Omega.{arith}
 use mathlib.Core.Path.{_≡_, refl, sym, ap, _∙_}
@@ -6,25 +7,28 @@ use mathlib.Core.Bool.{Bool, true, false, true≢false}
 use mathlib.Core.Option.{some}
 use mathlib.Core.List.{List, [], _∷_}
 use lib.ListN.{length, take, replicate, length-replicate}
-use lib.Dec.{lit<}
+use lib.Dec.{leb, lit<}
+use borrow.Author.Tests.{leb-true}
 use Rattle.paper.specs.declared.Checking.the-variants as C
 use Rattle.paper.specs.declared.Judgement.the-variants as J
 use Rattle.paper.specs.declared.Loading.the-variants as L
 use Rattle.paper.specs.declared.Translation.the-variants as T
-use Rattle.paper.specs.Answers.{ok, refused, inBlocks, judgementSays, translationSays, loadingSays}
+use Rattle.paper.specs.Answers.{ok, refused, inBlocks, judgementSays, translationSays, loadingSays, printingSays}
 use Rattle.paper.specs.Numbers.{byteAt}
-use Rattle.paper.specs.Tokens.{bytes, is}
+use Rattle.paper.specs.Tokens.{bytes, is, mostText}
 use Rattle.paper.specs.Keys.{keys}
 use Rattle.paper.specs.Meaning.{truth, isTrue}
 use Rattle.paper.specs.Code.{invert}
 use Rattle.paper.specs.Blocks.{blockSize, mostBlocks, blocksNeeded, blocksOf, countAt, layout}
-use Rattle.paper.specs.Grammar.{nodes}
+use Rattle.paper.specs.Grammar.{Tree, nodes}
 use Rattle.paper.specs.Translating.{conversions}
-use Rattle.paper.specs.Calls.{Restriction, checkAnswer, translateAnswer, judgeAnswer, loadAnswer, runAnswer}
+use Rattle.paper.specs.Print.{print}
+use Rattle.paper.specs.Calls.{tree, Restriction, checkAnswer, translateAnswer, judgeAnswer, loadAnswer, runAnswer}
 use Rattle.paper.specs.MarkedJudgements.{theKeys, theEntry}
-use Rattle.paper.specs.Promised.{verdict, Bytes, Programs, KeepsCheck, KeepsLoad}
+use Rattle.paper.specs.Promised.{verdict, PrintResult, Bytes, Programs, KeepsCheck, KeepsLoad}
 use Rattle.paper.specs.Demands.{DemandOne, DemandTwo, DemandThree}
-use Rattle.paper.specs.WrongPrograms.{RefusesAll, AcceptsAll, WritesNothing, FirstPartOnly, PassesNothing, PassesAll, WantsAllBlocks, CountsRight, WrongProgramsFail, NoWrongProgram, paddedText, paddedBlocks, PaddingSeen}
+use Rattle.paper.specs.WrongPrints.{withoutParentheses, withAllParentheses, withAndForSequel}
+use Rattle.paper.specs.WrongPrograms.{RefusesAll, AcceptsAll, WritesNothing, FirstPartOnly, PassesNothing, PassesAll, WantsAllBlocks, CountsRight, Lends, CopiesText, LeavesParentheses, EnclosesAll, WritesAndForSequel, WrongProgramsFail, NoWrongProgram, paddedText, paddedBlocks, PaddingSeen}
 use Rattle.paper.proofs.Stages.{never-ok, ok-same}
 use Rattle.paper.proofs.LayoutPassed.{first-counted}
 use Rattle.paper.proofs.Table.{table-holds}
@@ -34,6 +38,8 @@ use Rattle.paper.proofs.ByteLists.{take-bytes, zero-bytes, all-bytes, b
 use Rattle.paper.proofs.DemandOne.{demand-one-met}
 use Rattle.paper.proofs.DemandTwo.{restricts, checkable-restriction, worth as value, judgeable-answer, answer-judgeable, judgeable-truth, demand-two-met}
 use Rattle.paper.proofs.DemandThree.{demand-three-met}
+use Rattle.paper.proofs.WellFormed.{tree-formed}
+use Rattle.paper.proofs.WrongPrints.{close, negated, reads-close, reads-negated}
 
 -- what demand 2 says of an entry that is judged
 by-demand-two : (p : Programs) → DemandTwo p → (text list entry : List ℕ) → Bytes text → Bytes list → Bytes entry → (b : Bool) → judgeAnswer text list entry ≡ ok b
@@ -240,6 +246,54 @@ counts-right p two text list buffer t l b n written r passed =
     let same = ok-same (restricts text list (can .passes)) r (sym (checkable-restriction text list (can .passes)) ∙ passed) in
     can .count ∙ ap (λ (x : Restriction). nodes (x .root) + conversions (x .keys) (x .root)) same
 
+-- a printer that lends other bytes gives another count
+
+same-count : (p : Programs) → DemandTwo p → (made : List ℕ → Tree → List ℕ) → Lends made p → (text : List ℕ) → Bytes text → (t : Tree)
+    → tree text ≡ ok t → leb (length text) 512 ≡ true → leb (length (made text t)) 512 ≡ true → leb (length (print t)) 512 ≡ true
+    → length (made text t) ≡ length (print t)
+same-count p two made lends text b t read short few small =
+    let room : length little ≡ 512 = length-replicate {A = ℕ} 512 0 in
+    let under : length text ≤ mostText = omega (arith, leb-true (length text) 512 short) in
+    let fits = leb-true (length (made text t)) 512 few in
+    let printed = leb-true (length (print t)) 512 small in
+    let zero : Bytes little = zero-bytes 512 in
+    let lent = lends text little b zero under t read (omega (arith, fits)) (omega (arith, fits, room)) in
+    let right =
+    two .prints text little b zero .prints (length (print t)) .1
+    (record { root = t; formed = tree-formed text t under read; count = refl; short = omega (arith, printed); room = omega (arith, printed, room) })
+    in
+    ok-same (length (made text t)) (length (print t)) (ap (λ (r : PrintResult). printingSays (r .answer)) (sym lent) ∙ ap printingSays right)
+
+copying-fails : (p : Programs) → DemandTwo p → ¬ CopiesText p
+unfolding print
+copying-fails p two copies =
+    let z : _≡_ {A = ℕ} 3 5 = same-count p two (λ text t. text) copies (bytes "a;b") (all-bytes (bytes "a;b") refl) close reads-close refl refl refl in
+    omega arith
+
+leaving-fails : (p : Programs) → DemandTwo p → ¬ LeavesParentheses p
+unfolding print
+leaving-fails p two leaves =
+    let z : _≡_ {A = ℕ} 7 9 =
+    same-count p two (λ text t. withoutParentheses t) leaves (bytes "!(a==b)") (all-bytes (bytes "!(a==b)") refl) negated reads-negated refl refl refl
+    in
+    omega arith
+
+enclosing-fails : (p : Programs) → DemandTwo p → ¬ EnclosesAll p
+unfolding print
+enclosing-fails p two encloses =
+    let z : _≡_ {A = ℕ} 9 5 =
+    same-count p two (λ text t. withAllParentheses t) encloses (bytes "a;b") (all-bytes (bytes "a;b") refl) close reads-close refl refl refl
+    in
+    omega arith
+
+confusing-fails : (p : Programs) → DemandTwo p → ¬ WritesAndForSequel p
+unfolding print
+confusing-fails p two confuses =
+    let z : _≡_ {A = ℕ} 6 5 =
+    same-count p two (λ text t. withAndForSequel t) confuses (bytes "a;b") (all-bytes (bytes "a;b") refl) close reads-close refl refl refl
+    in
+    omega arith
+
 pub wrong-programs-fail : WrongProgramsFail
 wrong-programs-fail p =
     record {
@@ -251,6 +305,10 @@ wrong-programs-fail p =
       admitting = admitting-fails p;
       wanting = wanting-fails p;
       counting = counts-right p;
+      copying = copying-fails p;
+      leaving = leaving-fails p;
+      enclosing = enclosing-fails p;
+      confusing = confusing-fails p;
     }
 
 pub no-wrong-program : NoWrongProgram
@@ -266,6 +324,10 @@ no-wrong-program p kept =
       admitting = admitting-fails p (kept .load);
       wanting = wanting-fails p (demand-one-met p kept);
       counting = counts-right p two;
+      copying = copying-fails p two;
+      leaving = leaving-fails p two;
+      enclosing = enclosing-fails p two;
+      confusing = confusing-fails p two;
     }
 
 padded-loads : loadAnswer theKeys paddedBlocks ≡ ok 3

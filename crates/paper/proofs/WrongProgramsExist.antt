@@ -6,7 +6,7 @@ use mathlib.Core.Bool.{Bool, true, false, cond}
 use mathlib.Core.List.{List, [], _∷_, _++_}
 use lib.ListN.{length}
 use lib.Dec.{ltb}
-use borrow.Author.Tests.{lt-ltb}
+use borrow.Author.Tests.{lt-ltb, le-leb}
 use Rattle.paper.specs.declared.Place.the-variants as P
 use Rattle.paper.specs.declared.Judgement.{Judgement}
 use Rattle.paper.specs.declared.Judgement.the-variants as J
@@ -14,18 +14,20 @@ use Rattle.paper.specs.declared.Loading.{Loading}
 use Rattle.paper.specs.declared.Loading.the-variants as L
 use Rattle.paper.specs.declared.Translation.{Translation}
 use Rattle.paper.specs.declared.Translation.the-variants as T
-use Rattle.paper.specs.Answers.{ok}
-use Rattle.paper.specs.Tokens.{bytes, is}
+use Rattle.paper.specs.declared.Printing.the-variants as W
+use Rattle.paper.specs.Answers.{Answer, ok, refused, _>>=_}
+use Rattle.paper.specs.Tokens.{bytes, is, mostText}
 use Rattle.paper.specs.Keys.{keys}
 use Rattle.paper.specs.Blocks.{blockSize, mostBlocks, totalOf}
 use Rattle.paper.specs.Grammar as G
-use Rattle.paper.specs.Grammar.{nodes}
+use Rattle.paper.specs.Grammar.{Tree, nodes}
 use Rattle.paper.specs.Translating.{conversions}
-use Rattle.paper.specs.Calls.{Restriction, restriction}
-use Rattle.paper.specs.Promised.{TranslateResult, Bytes, Programs, Kept}
+use Rattle.paper.specs.Calls.{sized, tree, Restriction, restriction, over, lends}
+use Rattle.paper.specs.Promised.{TranslateResult, PrintResult, Bytes, Programs, Kept}
 use Rattle.paper.specs.Demands.{blocksWritten}
-use Rattle.paper.specs.WrongPrograms.{FirstPartOnly, WantsAllBlocks, CountsRight, partOf, judging, translating, loading, OthersKept, WrongProgramsExist}
-use Rattle.paper.proofs.Promised.{translation-same, can-be-kept}
+use Rattle.paper.specs.WrongPrints.{withoutParentheses, withAllParentheses, withAndForSequel}
+use Rattle.paper.specs.WrongPrograms.{FirstPartOnly, WantsAllBlocks, CountsRight, Lends, partOf, judging, translating, loading, printing, OthersKept, ThereIs, WrongProgramsExist}
+use Rattle.paper.proofs.Promised.{placeAt, translation-same, can-be-kept}
 use Rattle.paper.proofs.ByteLists.{zero-bytes, all-bytes}
 use Rattle.paper.proofs.DemandThree.{demand-three-met}
 use Rattle.paper.proofs.WrongPrograms.{little, plain-written}
@@ -62,29 +64,38 @@ module _ (q : Programs) (kept : Kept q) where
   -- with another judge
   judges : (List ℕ → List ℕ → List ℕ → Judgement) → Programs
   judges judge =
-      record { read = q .read; check = q .check; judge = judge; translate = q .translate; load = q .load; run = q .run }
+      record { read = q .read; check = q .check; judge = judge; translate = q .translate; load = q .load; run = q .run; print = q .print }
 
   others-than-judge : (judge : List ℕ → List ℕ → List ℕ → Judgement) → OthersKept judging (judges judge)
   unfolding judges
-  others-than-judge judge = (kept .read, kept .check, kept .translate, kept .load, kept .run)
+  others-than-judge judge = (kept .read, kept .check, kept .translate, kept .load, kept .run, kept .print)
 
   -- with another translator
   translators : (List ℕ → List ℕ → List ℕ → TranslateResult) → Programs
   translators translate =
-      record { read = q .read; check = q .check; judge = q .judge; translate = translate; load = q .load; run = q .run }
+      record { read = q .read; check = q .check; judge = q .judge; translate = translate; load = q .load; run = q .run; print = q .print }
 
   others-than-translate : (translate : List ℕ → List ℕ → List ℕ → TranslateResult) → OthersKept translating (translators translate)
   unfolding translators
-  others-than-translate translate = (kept .read, kept .check, kept .judge, kept .load, kept .run)
+  others-than-translate translate = (kept .read, kept .check, kept .judge, kept .load, kept .run, kept .print)
 
   -- with another loader
   loaders : (List ℕ → List ℕ → Loading) → Programs
   loaders load =
-      record { read = q .read; check = q .check; judge = q .judge; translate = q .translate; load = load; run = q .run }
+      record { read = q .read; check = q .check; judge = q .judge; translate = q .translate; load = load; run = q .run; print = q .print }
 
   others-than-load : (load : List ℕ → List ℕ → Loading) → OthersKept loading (loaders load)
   unfolding loaders
-  others-than-load load = (kept .read, kept .check, kept .judge, kept .translate, kept .run)
+  others-than-load load = (kept .read, kept .check, kept .judge, kept .translate, kept .run, kept .print)
+
+  -- with another printer
+  printers : (List ℕ → List ℕ → PrintResult) → Programs
+  printers print =
+      record { read = q .read; check = q .check; judge = q .judge; translate = q .translate; load = q .load; run = q .run; print = print }
+
+  others-than-print : (print : List ℕ → List ℕ → PrintResult) → OthersKept printing (printers print)
+  unfolding printers
+  others-than-print print = (kept .read, kept .check, kept .judge, kept .translate, kept .load, kept .run)
 
   -- the one that translates what stands before the first ";"
 
@@ -133,6 +144,28 @@ module _ (q : Programs) (kept : Kept q) where
       let two = right (bytes "true") [] little t tt b 2 (ap oneMore one) plain plain-restricts in
       omega (arith, two, plain-counts)
 
+  -- one that lends other bytes than the print, by the stages of `print`
+
+  abbrev lent : Answer (List ℕ) → List ℕ → PrintResult
+  lent (ok s) buffer = record { answer = W.Printed (length s); buffer = over s buffer }
+  lent (refused n i at) buffer = record { answer = W.Refused n (placeAt i at); buffer = buffer }
+
+  lender : (List ℕ → Tree → List ℕ) → List ℕ → List ℕ → PrintResult
+  lender made text buffer = lent (sized text >>= λ _. tree text >>= λ t. lends (made text t) buffer) buffer
+
+  lender-lends : (made : List ℕ → Tree → List ℕ) → Lends made (printers (lender made))
+  unfolding printers lender
+  lender-lends made text buffer _ _ short t read few room =
+      rw (
+        le-leb (length text) mostText short,
+        read,
+        le-leb (length (made text t)) mostText few,
+        le-leb (length (made text t)) (length buffer) room,
+      )
+
+  there-is : (made : List ℕ → Tree → List ℕ) → ThereIs (Lends made) printing
+  there-is made = (printers (lender made), lender-lends made, others-than-print (lender made))
+
 pub wrong-programs-exist : WrongProgramsExist
 unfolding judges translators loaders
 wrong-programs-exist =
@@ -157,4 +190,8 @@ wrong-programs-exist =
       admitting = (loaders q kept admits, λ list blocks _ _ _ _ _. (totalOf blocks, refl), others-than-load q kept admits);
       wanting = (translators q kept (greedy q kept), greedy-wants q kept, others-than-translate q kept (greedy q kept));
       counting = (translators q kept (inventor q kept), inventor-invents q kept, others-than-translate q kept (inventor q kept));
+      copying = there-is q kept (λ text t. text);
+      leaving = there-is q kept (λ text t. withoutParentheses t);
+      enclosing = there-is q kept (λ text t. withAllParentheses t);
+      confusing = there-is q kept (λ text t. withAndForSequel t);
     }

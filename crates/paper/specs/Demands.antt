@@ -1,4 +1,4 @@
--- The three demands on the six calls, each as one statement about what programs return for the bytes lent to them.
+-- The three demands on the calls, each as one statement about what programs return for the bytes lent to them.
 --
 -- 1. "Any text, key list, entry or blocks get an answer. Every public entry point tests its own input. A refusal gives its number and
 --    place as the documents fix them, and no byte of a lent buffer has changed."
@@ -43,7 +43,7 @@ use Rattle.paper.specs.Calls.{over}
 use Rattle.paper.specs.LoadedBlocksRun.{Runs}
 use Rattle.paper.specs.Faults.{Cuts}
 use Rattle.paper.specs.Table.{lastNumber, Stage, ByTable, readStages, checkStages, judgeStages, translateStages, loadStages, runStages, printStages}
-use Rattle.paper.specs.Promised.{verdict, TranslateResult, PrintResult, PrintPromised, Bytes, Programs, Kept}
+use Rattle.paper.specs.Promised.{verdict, TranslateResult, PrintResult, Bytes, Programs, Kept}
 
 -- Demand 1. An answer is one of the enum's cases. It is a refusal exactly as the table of 01 says, with that number at that place, and
 -- passes exactly when no stage of the call has a fault. The number is one of the table's, and the place lies in an input that was lent, or
@@ -94,9 +94,8 @@ abbrev pub RunAnswered : List ℕ → List ℕ → List ℕ → Judgement → Ty
 RunAnswered list blocks entry r =
     Answered (lent inList list ∷ lent inBlocks blocks ∷ lent inEntry entry ∷ []) (runStages list blocks entry) (judgementSays r)
 
--- `print` refuses by the table too, with its row 21
 pub record PrintAnswered (text buffer : List ℕ) (r : PrintResult) : Type 0 where
-  pub table : ByTable (printingSays (r .answer)) (printStages text buffer)
+  pub says : Answered (lent inText text ∷ lent inBuffer buffer ∷ []) (printStages text buffer) (printingSays (r .answer))
   pub unchanged : (n : ℕ) (at : Place) → r .answer ≡ W.Refused n at → r .buffer ≡ buffer
 
 pub record DemandOne (p : Programs) : Type 0 where
@@ -107,6 +106,7 @@ pub record DemandOne (p : Programs) : Type 0 where
       → TranslateAnswered text list buffer (p .translate text list buffer)
   pub load : (list blocks : List ℕ) → Bytes list → Bytes blocks → LoadAnswered list blocks (p .load list blocks)
   pub run : (list blocks entry : List ℕ) → Bytes list → Bytes blocks → Bytes entry → RunAnswered list blocks entry (p .run list blocks entry)
+  pub print : (text buffer : List ℕ) → Bytes text → Bytes buffer → PrintAnswered text buffer (p .print text buffer)
 
 -- Demand 2, for every call that takes a text or an entry. A text is refused exactly when it is over a limit or ill-formed, the list does
 -- not pass, or the text is ill-typed against it; an entry exactly when it does not conform to the list. Else it is accepted exactly when
@@ -197,6 +197,7 @@ pub record DemandTwo (p : Programs) : Type 0 where
   pub translates : (text list buffer : List ℕ) → Bytes text → Bytes list → Bytes buffer
       → TranslatedRight text list buffer (p .translate text list buffer)
   pub runs : (list blocks entry : List ℕ) → Bytes list → Bytes blocks → Bytes entry → RanRight list blocks entry (p .run list blocks entry)
+  pub prints : (text buffer : List ℕ) → Bytes text → Bytes buffer → PrintedRight text buffer (p .print text buffer)
 
 -- Demand 3. A text and a list that pass have a number of instructions, and are translated with it into every buffer that has room for
 -- its blocks; every other buffer is refused, 15 at its length. The blocks written load with that list, with the number returned, and
@@ -247,8 +248,3 @@ DemandTwoMet = (p : Programs) → Kept p → DemandTwo p
 
 abbrev pub DemandThreeMet : Type 0
 DemandThreeMet = (p : Programs) → Kept p → DemandThree p
-
--- and so does a result of `print` that keeps its promise
-abbrev pub PrintDemandsMet : Type 0
-PrintDemandsMet =
-    (text buffer : List ℕ) (r : PrintResult) → PrintPromised text buffer r → PrintAnswered text buffer r × PrintedRight text buffer r

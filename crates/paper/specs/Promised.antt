@@ -73,7 +73,7 @@ pub record NoSecondResult : Type 0 where
 abbrev pub Bytes : List ℕ → Type 0
 Bytes s = All (λ b. b < 256) s
 
--- the six calls as programs: any that return such results, and those that keep their promises on all bytes
+-- the calls as programs: any that return such results, and those that keep their promises on all bytes
 
 pub record Programs : Type 0 where
   pub read : List ℕ → Reading
@@ -82,6 +82,7 @@ pub record Programs : Type 0 where
   pub translate : List ℕ → List ℕ → List ℕ → TranslateResult
   pub load : List ℕ → List ℕ → Loading
   pub run : List ℕ → List ℕ → List ℕ → Judgement
+  pub print : List ℕ → List ℕ → PrintResult
 
 abbrev pub KeepsRead : Programs → Type 0
 KeepsRead p = (text : List ℕ) → Bytes text → ReadPromised text (p .read text)
@@ -105,6 +106,9 @@ abbrev pub KeepsRun : Programs → Type 0
 KeepsRun p =
     (list blocks entry : List ℕ) → Bytes list → Bytes blocks → Bytes entry → RunPromised list blocks entry (p .run list blocks entry)
 
+abbrev pub KeepsPrint : Programs → Type 0
+KeepsPrint p = (text buffer : List ℕ) → Bytes text → Bytes buffer → PrintPromised text buffer (p .print text buffer)
+
 pub record Kept (p : Programs) : Type 0 where
   pub read : KeepsRead p
   pub check : KeepsCheck p
@@ -112,6 +116,7 @@ pub record Kept (p : Programs) : Type 0 where
   pub translate : KeepsTranslate p
   pub load : KeepsLoad p
   pub run : KeepsRun p
+  pub print : KeepsPrint p
 
 -- there are such programs
 abbrev pub CanBeKept : Type 0

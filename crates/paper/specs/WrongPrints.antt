@@ -1,5 +1,5 @@
 -- Printers that are wrong: one that copies the text, one without parentheses, one with all of them, and one that writes "&&" for ";".
--- Each fails what 02 a asks of a print.
+-- Each fails what 02 a asks of a print; as programs they stand in WrongPrograms.
 use Prim.Native.Nat.{ℕ, _≤_}
 use mathlib.Core.Path.{_≡_}
 use mathlib.Core.Logic.{_↔_}
@@ -65,10 +65,6 @@ andForSequel andAlso = bytes "&&"
 
 abbrev pub withAndForSequel : Tree → List ℕ
 withAndForSequel = printWith andForSequel looser
-
--- each is real
-abbrev pub PrintersExist : Type 0
-PrintersExist = (f : Tree → List ℕ) → (p : Printer) × PrintsBy f p
 
 pub record WrongPrintsFail : Type 0 where
   pub right : (p : Printer) → PrintsBy print p → Right p

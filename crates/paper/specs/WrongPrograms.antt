@@ -1,5 +1,6 @@
--- 01, "Try these against it": programs that the promises must leave no room for. Each is refuted at an input, named in the proof.
-use Prim.Native.Nat.{ℕ, _+_, _*_, _<_}
+-- 01, "Try these against it": programs that the promises must leave no room for, and wrong printers (02 a). Each is refuted at an input,
+-- named in the proof.
+use Prim.Native.Nat.{ℕ, _+_, _*_, _≤_, _<_}
 use mathlib.Core.Path.{_≡_}
 use mathlib.Core.Bool.{true, false, cond}
 use mathlib.Core.List.{List, [], _∷_, _++_}
@@ -9,18 +10,20 @@ use Rattle.paper.specs.declared.Checking.the-variants as C
 use Rattle.paper.specs.declared.Judgement.the-variants as J
 use Rattle.paper.specs.declared.Translation.the-variants as T
 use Rattle.paper.specs.declared.Loading.the-variants as L
+use Rattle.paper.specs.declared.Printing.the-variants as W
 use Rattle.paper.specs.Answers.{ok}
-use Rattle.paper.specs.Tokens.{bytes, is}
+use Rattle.paper.specs.Tokens.{bytes, is, mostText}
 use Rattle.paper.specs.Keys.{Key, keys}
-use Rattle.paper.specs.Grammar.{nodes}
+use Rattle.paper.specs.Grammar.{Tree, nodes}
 use Rattle.paper.specs.Meaning.{both}
 use Rattle.paper.specs.Code.{pushBool, connects}
 use Rattle.paper.specs.Blocks.{blockSize, mostBlocks, blocksOf, layout}
 use Rattle.paper.specs.Translating.{conversions}
-use Rattle.paper.specs.Calls.{Restriction, restriction, judgeAnswer, loadAnswer, runAnswer}
+use Rattle.paper.specs.Calls.{tree, Restriction, restriction, over, judgeAnswer, loadAnswer, runAnswer}
 use Rattle.paper.specs.TranslationCorrect.{Carries}
 use Rattle.paper.specs.MarkedJudgements.{theKeys, theEntry}
-use Rattle.paper.specs.Promised.{Bytes, Programs, KeepsRead, KeepsCheck, KeepsJudge, KeepsTranslate, KeepsLoad, KeepsRun, Kept}
+use Rattle.paper.specs.Promised.{Bytes, Programs, KeepsRead, KeepsCheck, KeepsJudge, KeepsTranslate, KeepsLoad, KeepsRun, KeepsPrint, Kept}
+use Rattle.paper.specs.WrongPrints.{withoutParentheses, withAllParentheses, withAndForSequel}
 use Rattle.paper.specs.Demands.{Refuses, blocksWritten, DemandOne, DemandTwo, DemandThree}
 
 -- the bytes before the first ";"
@@ -76,15 +79,37 @@ WantsAllBlocks p =
     (text list buffer : List ℕ) → Bytes text → Bytes list → Bytes buffer → length buffer < mostBlocks * blockSize
     → (n : ℕ) × (at : Place) × (p .translate text list buffer .answer ≡ T.Refused n at)
 
+-- a printer that lends other bytes than the print, made from the text and its tree
+abbrev pub Lends : (List ℕ → Tree → List ℕ) → Programs → Type 0
+Lends made p =
+    (text buffer : List ℕ) → Bytes text → Bytes buffer → length text ≤ mostText → (t : Tree) → tree text ≡ ok t
+    → length (made text t) ≤ mostText → length (made text t) ≤ length buffer
+    → p .print text buffer ≡ record { answer = W.Printed (length (made text t)); buffer = over (made text t) buffer }
+
+-- the four of WrongPrints
+
+abbrev pub CopiesText : Programs → Type 0
+CopiesText = Lends (λ text t. text)
+
+abbrev pub LeavesParentheses : Programs → Type 0
+LeavesParentheses = Lends (λ text t. withoutParentheses t)
+
+abbrev pub EnclosesAll : Programs → Type 0
+EnclosesAll = Lends (λ text t. withAllParentheses t)
+
+abbrev pub WritesAndForSequel : Programs → Type 0
+WritesAndForSequel = Lends (λ text t. withAndForSequel t)
+
 -- each is real: there is such a program in which every other call keeps its promise
 
 pub data Call : Type 0 where
-  judging translating loading : Call
+  judging translating loading printing : Call
 
 abbrev pub OthersKept : Call → Programs → Type 0
-OthersKept judging p = KeepsRead p × KeepsCheck p × KeepsTranslate p × KeepsLoad p × KeepsRun p
-OthersKept translating p = KeepsRead p × KeepsCheck p × KeepsJudge p × KeepsLoad p × KeepsRun p
-OthersKept loading p = KeepsRead p × KeepsCheck p × KeepsJudge p × KeepsTranslate p × KeepsRun p
+OthersKept judging p = KeepsRead p × KeepsCheck p × KeepsTranslate p × KeepsLoad p × KeepsRun p × KeepsPrint p
+OthersKept translating p = KeepsRead p × KeepsCheck p × KeepsJudge p × KeepsLoad p × KeepsRun p × KeepsPrint p
+OthersKept loading p = KeepsRead p × KeepsCheck p × KeepsJudge p × KeepsTranslate p × KeepsRun p × KeepsPrint p
+OthersKept printing p = KeepsRead p × KeepsCheck p × KeepsJudge p × KeepsTranslate p × KeepsLoad p × KeepsRun p
 
 abbrev pub ThereIs : (Programs → Type 0) → Call → Type 0
 ThereIs Wrong c = (p : Programs) × Wrong p × OthersKept c p
@@ -98,6 +123,10 @@ pub record WrongProgramsExist : Type 0 where
   pub admitting : ThereIs PassesAll loading
   pub wanting : ThereIs WantsAllBlocks translating
   pub counting : ThereIs (λ p. ¬ CountsRight p) translating
+  pub copying : ThereIs CopiesText printing
+  pub leaving : ThereIs LeavesParentheses printing
+  pub enclosing : ThereIs EnclosesAll printing
+  pub confusing : ThereIs WritesAndForSequel printing
 
 -- what excludes each: a demand, beside the calls that it is tried with; or the promise of `load`, by 18
 pub record DemandsExclude (p : Programs) : Type 0 where
@@ -109,6 +138,10 @@ pub record DemandsExclude (p : Programs) : Type 0 where
   pub admitting : KeepsLoad p → ¬ PassesAll p
   pub wanting : DemandOne p → ¬ WantsAllBlocks p
   pub counting : DemandTwo p → CountsRight p
+  pub copying : DemandTwo p → ¬ CopiesText p
+  pub leaving : DemandTwo p → ¬ LeavesParentheses p
+  pub enclosing : DemandTwo p → ¬ EnclosesAll p
+  pub confusing : DemandTwo p → ¬ WritesAndForSequel p
 
 abbrev pub WrongProgramsFail : Type 0
 WrongProgramsFail = (p : Programs) → DemandsExclude p
@@ -123,6 +156,10 @@ pub record Excluded (p : Programs) : Type 0 where
   pub admitting : ¬ PassesAll p
   pub wanting : ¬ WantsAllBlocks p
   pub counting : CountsRight p
+  pub copying : ¬ CopiesText p
+  pub leaving : ¬ LeavesParentheses p
+  pub enclosing : ¬ EnclosesAll p
+  pub confusing : ¬ WritesAndForSequel p
 
 abbrev pub NoWrongProgram : Type 0
 NoWrongProgram = (p : Programs) → Kept p → Excluded p

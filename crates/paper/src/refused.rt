@@ -40,3 +40,5 @@ pub const INSTRUCTION: u8 = 18;
 pub const ENTRY_LENGTH: u8 = 19;
 
 pub const ENTRY_RULE: u8 = 20;
+
+pub const PRINT_LONG: u8 = 21;

@@ -1,4 +1,4 @@
-// The five calls, on the files that arguments 2 to 4 name.
+// The calls, on the files that arguments 2 to 4 name.
 use crate::entries::Form;
 use crate::entries::judge_file;
 use crate::files::read_argument;
@@ -12,6 +12,7 @@ use lines::say;
 use lines::start;
 use paper::Checking;
 use paper::Loading;
+use paper::Printing;
 use paper::Translation;
 
 // Where a call finds its files among the arguments.
@@ -120,5 +121,30 @@ pub(crate) fn answer(call: Call) {
                 b.size,
             )
         }
+    }
+}
+
+// The longest print.
+const MOST_PRINT: usize = 4096;
+
+// The count of its bytes stands before a print, so that no print is taken for another answer.
+fn print_text(text: &[u8], size: usize) {
+    let mut buffer = [0u8; MOST_PRINT];
+    match valve::print(text, &mut buffer) {
+        Printing::Printed(n) => {
+            say_count(b"printed # byte:\n", b"printed # bytes:\n", n);
+            say(start(&buffer, n));
+            say(b"\n")
+        }
+        Printing::Refused(number, place) => refused(number, place, text, b"", size, 0),
+    }
+}
+
+// Reads TEXT, and shows it in house style.
+pub(crate) fn print() {
+    let mut room = [0u8; 4097];
+    let file = read_argument(FIRST, &mut room);
+    if file.read {
+        print_text(start(&room, file.held), file.size)
     }
 }

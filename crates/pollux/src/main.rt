@@ -1,7 +1,7 @@
-// Polluxvalve for people: checks, translates, loads, judges and runs what stands in files, and tells the answer in words.
+// Polluxvalve for people: checks, prints, translates, loads, judges and runs what stands in files, and tells the answer in words.
 //
-// Each answer is a line on standard output whose first word is passed, translated, loaded, accepted, violated, refused, cannot or
-// usage; the script `pollux` at the root makes an exit status of it. A refusal of a text is followed by the line and a caret under
+// Each answer is a line on standard output whose first word is passed, translated, loaded, printed, accepted, violated, refused,
+// cannot or usage; the script `pollux` at the root makes an exit status of it. A refusal of a text is followed by the line and a caret under
 // the place. Files may have any length: a place that is a length is the file's true length, and entries stream through one buffer.
 // No output file is touched unless the whole call passes, and it is written whole or not at all.
 mod calls;
@@ -16,17 +16,28 @@ mod writing;
 
 use calls::Call;
 use calls::answer;
+use calls::print;
 use spelling::bytes::same_bytes;
 
 fn usage() {
     lines::say(
         b"usage: pollux check TEXT KEYS
+       pollux print TEXT
        pollux translate TEXT KEYS OUT
        pollux load KEYS BLOCKS
        pollux judge TEXT KEYS ENTRIES
        pollux run KEYS BLOCKS ENTRIES
 ",
     )
+}
+
+// A call of one file.
+fn with_one(call: &[u8]) {
+    if same_bytes(call, b"print") {
+        print()
+    } else {
+        usage()
+    }
 }
 
 // A call of two files.
@@ -57,6 +68,7 @@ fn main() {
     let mut call = [0u8; 16];
     let n = os::arg(1, &mut call);
     match os::arg_count() {
+        3 => with_one(&call[..n]),
         4 => with_two(&call[..n]),
         5 => with_three(&call[..n]),
         _ => usage(),

@@ -32,13 +32,13 @@ fn reason(number: u8, at_end: bool) -> u8 {
         return number;
     }
     match number {
-        8 => 21,
-        18 => 22,
+        8 => 22,
+        18 => 23,
         _ => number,
     }
 }
 
-// Line N is the reason of refusal N, line 20 that of a wrong priority; 21 and 22 are those of 8 and 18 at the input's end.
+// Line N is the reason of refusal N, line 20 that of a wrong priority; 22 and 23 are those of 8 and 18 at the input's end.
 pub(crate) fn say_reason(number: u8, at_end: bool) {
     say_line(
         b"the text has more than 4,096 bytes
@@ -61,6 +61,7 @@ a block that breaks its layout
 an instruction that fails the load check
 the entry's length is not that of an entry for the key list
 a priority of 2^31 or more
+the print has more than 4,096 bytes
 the text ends too soon
 the instructions do not leave one bool at their end
 ",

@@ -27,8 +27,8 @@ fn say_refused(form: &[u8], number: u8, at: usize, held: usize, size: usize) {
     say_reason(number, place == size)
 }
 
-// Refused before any entry is judged, so in the text, the key list or the blocks: the buffer has room for the blocks of every text.
-// `rule` is the text or the blocks.
+// Refused before any entry is judged, so in the text, the key list or the blocks, or for the length of a print: the buffer has room for
+// the blocks of every text. `rule` is the text or the blocks.
 pub(crate) fn refused(
     number: u8,
     place: Place,
@@ -56,6 +56,7 @@ pub(crate) fn refused(
             list.len(),
             list_size,
         ),
+        Place::Buffer(_) => say_refused(b"refused #: print, byte #: ", number, at, at, at),
         _ => say_refused(
             b"refused #: blocks, byte #: ",
             number,

@@ -29,9 +29,7 @@ fn write_number(n: Magnitude, from: Reached, out: &mut [u8]) -> Reached
     ensures { λ r. ⌜ Wrote (now (out .entry)) from (numeralIn 10 (value n)) (now (out .exit)) r ⌝ }
 {
     let digits = n.digits_in(DECIMAL);
-    let first = digits.first;
-    let bytes = digits.bytes;
-    write_rest(&bytes, first, from, out)
+    write_rest(&digits.bytes, digits.first, from, out)
 }
 
 fn write_truth(truth: bool, from: Reached, out: &mut [u8]) -> Reached

@@ -7,7 +7,8 @@ use Rattle.paper.specs.declared.Judgement.{Judgement}
 use Rattle.paper.specs.declared.Translation.{Translation}
 use Rattle.paper.specs.declared.Translation.the-variants as T
 use Rattle.paper.specs.declared.Loading.{Loading}
-use Rattle.paper.specs.Promised.{JudgePromised, TranslateResult, TranslatePromised, LoadPromised, RunPromised}
+use Rattle.paper.specs.declared.Printing.{Printing}
+use Rattle.paper.specs.Promised.{JudgePromised, TranslateResult, TranslatePromised, LoadPromised, RunPromised, PrintResult}
 use Rattle.paper.specs.Demands.{TranslateAnswered, blocksWritten, Carried}
 use Rattle.promises.specs.declared.calls.Carrying.{Carrying}
 use Rattle.promises.specs.declared.calls.Carrying.the-variants as W
@@ -15,6 +16,10 @@ use Rattle.promises.specs.declared.calls.Carrying.the-variants as W
 -- an answer of `translate`, and what the buffer holds at its exit
 abbrev pub gave : Translation → List ℕ → TranslateResult
 gave r exit = record { answer = r; buffer = exit }
+
+-- the same of `print`
+abbrev pub lent : Printing → List ℕ → PrintResult
+lent r exit = record { answer = r; buffer = exit }
 
 -- each answer keeps its call's promise; the blocks load with the number returned, and say of the entry what the text says
 pub record Held (text list entry buffer exit : List ℕ) (n : ℕ) (loaded : Loading) (ran judged : Judgement) : Type 0 where

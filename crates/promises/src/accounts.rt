@@ -1,9 +1,9 @@
-// The promises of the six public calls, held to account.
+// The promises of the public calls, held to account.
 ghost use Rattle.paper.specs.Promised.{NoSecondResult, CanBeKept};
-ghost use Rattle.paper.specs.WrongPrints.{PrintersExist, WrongPrintsFail};
+ghost use Rattle.paper.specs.WrongPrints.{WrongPrintsFail};
 ghost use Rattle.paper.specs.WrongPrograms.{WrongProgramsExist, WrongProgramsFail, NoWrongProgram, PaddingSeen};
 
-// For all inputs one result keeps the promise of a call, and no second; of `translate`, one answer with one buffer at exit.
+// For all inputs one result keeps the promise of a call, and no second; of `translate` and `print`, one answer with one buffer at exit.
 pub fn no_second_result()
     ensures { λ _. ⌜ NoSecondResult ⌝ }
 {}
@@ -19,7 +19,8 @@ pub fn wrong_programs_exist()
 {}
 
 // A judge that refuses or accepts everything, a translator that writes nothing or only the first part, that wants 82 blocks or invents its
-// count, a loader that passes nothing or all that is laid out well: each fails a demand, or refusal 18.
+// count, a loader that passes nothing or all that is laid out well, a printer that copies the text, leaves out or puts in all parentheses or
+// writes "&&" for ";": each fails a demand, or refusal 18.
 pub fn wrong_programs_fail()
     ensures { λ _. ⌜ WrongProgramsFail ⌝ }
 {}
@@ -32,11 +33,6 @@ pub fn no_wrong_program_keeps_them()
 // The first part of `true; v == 0`, padded with true: its blocks load, and run to another answer than the text has.
 pub fn padding_is_seen()
     ensures { λ _. ⌜ PaddingSeen ⌝ }
-{}
-
-// Any print of trees is that of some printer, wrong ones included.
-pub fn wrong_printers_exist()
-    ensures { λ _. ⌜ PrintersExist ⌝ }
 {}
 
 // A printer that copies the text, one without parentheses, one with all of them, one that writes "&&" for ";": each fails what is asked of a

@@ -1,12 +1,13 @@
 // The real calls, held to the demands. Each function calls `valve`, and its contract states for its own inputs what is demanded of what was
 // answered, in the words of `paper` (specs/Demands). It holds by the contracts of `valve` alone, so one that is weakened fails here.
-ghost use Rattle.paper.specs.Demands.{ReadAnswered, ReadRight, CheckAnswered, CheckedRight, JudgeAnswered, JudgedRight, TranslateAnswered, TranslatedRight, LoadAnswered, RunAnswered, RanRight};
-ghost use Rattle.promises.specs.Held.{gave, Carries};
+ghost use Rattle.paper.specs.Demands.{ReadAnswered, ReadRight, CheckAnswered, CheckedRight, JudgeAnswered, JudgedRight, TranslateAnswered, TranslatedRight, LoadAnswered, RunAnswered, RanRight, PrintAnswered, PrintedRight};
+ghost use Rattle.promises.specs.Held.{gave, lent, Carries};
 use blocks::Block;
 use paper::Checking;
 use paper::Judgement;
 use paper::Loading;
 use paper::Place;
+use paper::Printing;
 use paper::Reading;
 use paper::Translation;
 
@@ -55,6 +56,14 @@ pub fn run(list: &[u8], blocks: &[u8], entry: &[u8]) -> Judgement
     ensures { λ r. ⌜ RanRight (now (list .entry)) (now (blocks .entry)) (now (entry .entry)) r ⌝ }
 {
     valve::run(list, blocks, entry)
+}
+
+// Demands 1 and 2 of `print`.
+pub fn print(text: &[u8], buffer: &mut [u8]) -> Printing
+    ensures { λ r. ⌜ PrintAnswered (now (text .entry)) (now (buffer .entry)) (lent r (now (buffer .exit))) ⌝ }
+    ensures { λ r. ⌜ PrintedRight (now (text .entry)) (now (buffer .entry)) (lent r (now (buffer .exit))) ⌝ }
+{
+    valve::print(text, buffer)
 }
 
 // What a text, a list and an entry come to by way of blocks, and by the text alone.

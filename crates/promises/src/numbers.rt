@@ -1,4 +1,4 @@
-// The refusal numbers 1 to 20.
+// The refusal numbers.
 ghost use Rattle.paper.specs.Table.{TableHolds, TokensAreCut};
 
 // Each call gives each number exactly when the table says, at the place that it says: stages in order, in a stage the earliest place, at

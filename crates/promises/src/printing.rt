@@ -1,5 +1,4 @@
 // The print of a text in house style.
-ghost use Rattle.paper.specs.Demands.{PrintDemandsMet};
 ghost use Rattle.paper.specs.PrintReadsBack.{PrintReadsBack, PrintsTell, NothingToSpare, PrintNoLarger, LentPrintReads, CleanPrintReads};
 
 // Reading the print of a text gives the same tree, places aside.
@@ -30,10 +29,4 @@ pub fn a_lent_print_reads()
 // A tree within the limits, wherever it came from, is read back from its print.
 pub fn clean_trees_read_back()
     ensures { λ _. ⌜ CleanPrintReads ⌝ }
-{}
-
-// A result that keeps the promise of `print` is a refusal exactly where and when the table says, with the buffer as it was; else the print
-// stands in the buffer before the bytes that stay.
-pub fn printed_as_the_text_means()
-    ensures { λ _. ⌜ PrintDemandsMet ⌝ }
 {}

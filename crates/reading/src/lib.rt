@@ -10,7 +10,7 @@
 ghost use Prim.Native.Nat.{_≤_};
 ghost use lib.ListN.{length};
 ghost use Rattle.paper.specs.Tokens.{mostText};
-ghost use Rattle.reading.specs.Grown.{Room, Short, Grows};
+ghost use Rattle.reading.specs.Grown.{Room, Short, CutOn, Grows};
 ghost use Rattle.reading.specs.Restricted.{Types, Restricts};
 use paper::Checking;
 use paper::Counted;
@@ -32,19 +32,21 @@ pub const SHORT_TEXT: usize = 256;
 // The words of its nodes.
 pub const SHORT_NODE_WORDS: usize = Node::WORDS * SHORT_TEXT;
 
-// The number of nodes, of which the last is the root; or a refusal. The tokens stand on a tape that is lent.
-fn read_on(text: &[u8], tape: &mut [u32], nodes: &mut [u32]) -> Counted
-    requires { ⌜ length (now text) ≤ mostText ⌝ }
+// The number of nodes, of which the last is the root; or a refusal. What was cut from the text stands on a tape that is lent.
+fn grow(text: &[u8], tape: &[u32], tokenized: Counted, nodes: &mut [u32]) -> Counted
+    requires { ⌜ CutOn (now text) (now tape) tokenized ⌝ }
     requires { ⌜ Room (now text) (now tape) ⌝ }
     requires { ⌜ Room (now text) (now nodes) ⌝ }
     ensures { λ r. ⌜ Grows (now (text .entry)) (now (nodes .exit)) r ⌝ }
 {
-    let tokenized = tokens::tokenize(text, tape);
     let Counted::Count(count) = tokenized else {
         return tokenized;
     };
     grammar::parse(text, tape, count, nodes)
 }
+
+// Two functions cut the text, each on a tape of its own length. That makes them too large for the compiler to put them into their callers, so
+// that no walk over the tree has a tape under it.
 
 fn read_short(text: &[u8], nodes: &mut [u32]) -> Counted
     requires { ⌜ Short (now text) ⌝ }
@@ -52,7 +54,8 @@ fn read_short(text: &[u8], nodes: &mut [u32]) -> Counted
     ensures { λ r. ⌜ Grows (now (text .entry)) (now (nodes .exit)) r ⌝ }
 {
     let mut tape = [0u32; Row::WORDS * SHORT_TEXT];
-    read_on(text, &mut tape, nodes)
+    let tokenized = tokens::tokenize(text, &mut tape);
+    grow(text, &tape, tokenized, nodes)
 }
 
 fn read_long(text: &[u8], nodes: &mut [u32]) -> Counted
@@ -61,7 +64,8 @@ fn read_long(text: &[u8], nodes: &mut [u32]) -> Counted
     ensures { λ r. ⌜ Grows (now (text .entry)) (now (nodes .exit)) r ⌝ }
 {
     let mut tape = [0u32; Row::WORDS * MOST_TOKENS];
-    read_on(text, &mut tape, nodes)
+    let tokenized = tokens::tokenize(text, &mut tape);
+    grow(text, &tape, tokenized, nodes)
 }
 
 // The number of nodes, of which the last is the root; or a refusal.

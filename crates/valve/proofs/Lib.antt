@@ -1,4 +1,5 @@
 mod Loads
+mod Prints
 mod Runs
 mod Texts
 mod Translates

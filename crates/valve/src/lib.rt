@@ -6,12 +6,14 @@
 mod account;
 mod loading;
 mod running;
+mod style;
 mod text;
 mod verdict;
 mod writing;
 
 pub use loading::load;
 pub use running::run;
+pub use style::print;
 pub use text::check;
 pub use text::read;
 pub use verdict::judge;

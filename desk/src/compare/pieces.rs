@@ -159,7 +159,7 @@ fn non_zeros(bytes: &[u8]) -> impl Iterator<Item = usize> + '_ {
 /// The input that holds the key list.
 fn list_input(request: &Request) -> Option<usize> {
     match Call::from_byte(request.call)? {
-        Call::Read => None,
+        Call::Read | Call::Print => None,
         Call::Check | Call::Judge | Call::Translate => Some(1),
         Call::Load | Call::Run => Some(0),
     }
@@ -177,7 +177,7 @@ fn blocks_input(request: &Request) -> Option<usize> {
 fn token_pieces(request: &Request) -> Vec<Vec<u8>> {
     let has_text = matches!(
         Call::from_byte(request.call),
-        Some(Call::Read | Call::Check | Call::Judge | Call::Translate)
+        Some(Call::Read | Call::Check | Call::Judge | Call::Translate | Call::Print)
     );
     let text = &request.inputs[0];
     if !has_text {

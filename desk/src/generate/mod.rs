@@ -1,11 +1,13 @@
-//! Seeded requests: all six calls, inputs good, damaged and at the limits.
+//! Seeded requests: all calls, inputs good, damaged and at the limits.
 
 pub mod blocks;
+pub mod buffers;
 pub mod cases;
 pub mod damage;
 pub mod entries;
 pub mod limits;
 pub mod lists;
+pub mod prints;
 pub mod programs;
 pub mod rng;
 pub mod scenes;
@@ -18,13 +20,14 @@ use rng::Rng;
 use scenes::Scene;
 
 /// How often each call is made, in so many parts.
-const SHARES: [(Call, usize); 6] = [
+const SHARES: [(Call, usize); 7] = [
     (Call::Read, 2),
     (Call::Check, 3),
     (Call::Judge, 5),
     (Call::Translate, 3),
     (Call::Load, 3),
     (Call::Run, 4),
+    (Call::Print, 3),
 ];
 
 /// Request `index` of the run with this seed.
@@ -46,11 +49,12 @@ pub fn request(seed: u64, index: u64) -> Request {
 fn odd_request(rng: &mut Rng) -> Request {
     let mut inputs = [b"true".to_vec(), Vec::new(), vec![0; 4]];
     if rng.one_in(2) {
-        let call = rng.pick(&[0, 7, 8, 255]);
+        let beyond = Call::ALL.len() as u8 + 1;
+        let call = rng.pick(&[0, beyond, beyond + 1, 255]);
         return Request { call, inputs };
     }
     let length = LONGEST_INPUT + rng.below(2);
     inputs[rng.below(3)] = vec![b' '; length];
-    let call = rng.between(1, 6) as u8;
+    let call = rng.pick(&Call::ALL).byte();
     Request { call, inputs }
 }

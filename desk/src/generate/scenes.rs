@@ -1,14 +1,16 @@
 //! Requests about one key list and one entry.
 
 use super::rng::Rng;
-use super::{blocks, damage, entries, limits, lists, programs, snippets, spelling, texts};
+use super::{
+    blocks, buffers, damage, entries, limits, lists, prints, programs, snippets, spelling, texts,
+};
 use crate::lists::{list_bytes, NamedKey};
 use crate::reference;
 use crate::reference::blocks::{blocks_of, bytes_needed};
 use crate::reference::code::Parts;
 use crate::reference::entries::Entry;
 use crate::reference::Answer;
-use crate::requests::{Call, Request, LONGEST_INPUT};
+use crate::requests::{Call, Request};
 
 /// A good key list with a conforming entry.
 pub struct Scene {
@@ -48,6 +50,7 @@ impl Scene {
             Call::Translate => self.translate(rng),
             Call::Load => Request::new(call, self.list(rng), self.blocks(rng), none()),
             Call::Run => self.run(rng),
+            Call::Print => self.print(rng),
         }
     }
 
@@ -64,7 +67,7 @@ impl Scene {
 
     fn translate(&self, rng: &mut Rng) -> Request {
         let (text, list) = (self.text(rng), self.list(rng));
-        let buffer = buffer(rng, &text, &list);
+        let buffer = buffers::for_translation(rng, &text, &list);
         Request::new(Call::Translate, text, list, buffer)
     }
 
@@ -76,6 +79,22 @@ impl Scene {
             (self.list(rng), self.blocks(rng), self.entry(rng))
         };
         Request::new(Call::Run, list, blocks, entry)
+    }
+
+    fn print(&self, rng: &mut Rng) -> Request {
+        let text = if rng.one_in(3) {
+            prints::text(rng, &self.keys, &self.entry)
+        } else {
+            self.text(rng)
+        };
+        // A print takes no list, and passes over whatever stands in its place.
+        let passed_over = if rng.one_in(10) {
+            self.list(rng)
+        } else {
+            Vec::new()
+        };
+        let buffer = buffers::for_print(rng, &text);
+        Request::new(Call::Print, text, passed_over, buffer)
     }
 
     pub fn list(&self, rng: &mut Rng) -> Vec<u8> {
@@ -107,7 +126,7 @@ impl Scene {
 
     fn text(&self, rng: &mut Rng) -> Vec<u8> {
         if self.marked && rng.one_in(2) {
-            return snippet(rng);
+            return snippets::any(rng, snippets::TEXTS);
         }
         if rng.one_in(10) {
             return self.text_at_limit(rng);
@@ -191,37 +210,4 @@ impl Scene {
         }
         code
     }
-}
-
-/// A short text for document 01's keys, now and then damaged.
-fn snippet(rng: &mut Rng) -> Vec<u8> {
-    let mut text = rng.pick(snippets::TEXTS).as_bytes().to_vec();
-    if rng.one_in(3) {
-        damage::any(rng, &mut text);
-    }
-    text
-}
-
-/// A buffer for the translation of this text: of the size that it needs, one
-/// byte less, or another; what it holds before the call is anything.
-fn buffer(rng: &mut Rng, text: &[u8], list: &[u8]) -> Vec<u8> {
-    let mut large = vec![0; bytes_needed(2 * text.len() + 1).min(LONGEST_INPUT)];
-    let needed = match reference::translate(text, list, &mut large) {
-        Answer::Translated(count) => bytes_needed(count),
-        _ => 512,
-    };
-    let length = match rng.below(10) {
-        0..=3 => needed,
-        4 => needed - 1,
-        5 => needed + rng.between(1, 600),
-        6 => rng.below(needed),
-        7 => needed + 512,
-        8 => 0,
-        _ => rng.below(2048),
-    };
-    let filling = rng.byte();
-    let step = rng.pick(&[0, 1, 7]);
-    (0..length)
-        .map(|index| filling.wrapping_add((index as u8).wrapping_mul(step)))
-        .collect()
 }

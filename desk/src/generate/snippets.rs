@@ -1,9 +1,19 @@
-//! Short texts at which hasty readings of the documents go wrong. They are meant
-//! for the key list of document 01's marked judgements.
+//! Short texts at which hasty readings of the documents go wrong.
 
+use super::damage;
+use super::rng::Rng;
 use crate::lists::NamedKey;
 use crate::reference::entries::{Entry, Record};
 use crate::reference::keys::Kind;
+
+/// One of these texts, now and then damaged.
+pub fn any(rng: &mut Rng, texts: &[&str]) -> Vec<u8> {
+    let mut text = rng.pick(texts).as_bytes().to_vec();
+    if rng.one_in(3) {
+        damage::any(rng, &mut text);
+    }
+    text
+}
 
 /// Document 01's keys: v exact 1, d ternary 8, p lpm 8, r range 16,
 /// o optional 4.
@@ -38,7 +48,7 @@ pub fn marked_entry() -> Entry {
     }
 }
 
-/// Texts for those keys.
+/// Texts for the keys of document 01's marked judgements.
 pub const TEXTS: &[&str] = &[
     // The marked judgements.
     "",
@@ -224,4 +234,101 @@ pub const TEXTS: &[&str] = &[
     "v == 340282366920938463463374607431768211455",
     "v == 340282366920938463463374607431768211456",
     "v == -340282366920938463463374607431768211455",
+];
+
+/// Texts to print; what their words name plays no part.
+pub const PRINTS: &[&str] = &[
+    // Blanks and signs at the end.
+    "a;b",
+    "a;b;",
+    "a\t->\r\n b",
+    " a&&b // remark",
+    "// remark\na||b",
+    "a; // remark",
+    "k :: value",
+    ":: priority",
+    "k // remark\n :: // remark\n value == 1",
+    // Parentheses that the grammar needs, and some that it does not.
+    "(a;b);c",
+    "a;(b;c)",
+    "(a->b)->c",
+    "a->(b->c)",
+    "a->b->c",
+    "a->b;c",
+    "a->(b;c)",
+    "(a;b)->c",
+    "(a->b);(c->d)",
+    "a||b->c||d",
+    "(a->b)||c",
+    "a||(b->c)",
+    "a||b||c",
+    "a||(b||c)",
+    "(a||b)||c",
+    "a&&b&&c",
+    "a&&(b&&c)",
+    "(a&&b)&&c",
+    "(a||b)&&(c||d)",
+    "a&&b||c&&d",
+    "(a&&b)||(c&&d)",
+    "a&&(b;c)",
+    "(a==b)==c",
+    "a==(b==c)",
+    "(a<b)!=(c>=d)",
+    "a==(b&&c)",
+    "(a==b)&&(c==d)",
+    "((a))",
+    "((((a;b))));((c))",
+    "!(a==b)",
+    "!a==b",
+    "(!a)==(!b)",
+    "!(!a)",
+    "!(a;b)",
+    "-(a||b)",
+    "- -2",
+    "-(-2)",
+    "--2",
+    "!-!x",
+    "a- -b",
+    "a - b",
+    "1<-1",
+    "a->-1",
+    // Numbers and addresses.
+    "0",
+    "007",
+    "0x1F",
+    "0X0a",
+    "0b101",
+    "0B00",
+    "0o17",
+    "0O0",
+    "0d9",
+    "0D010",
+    "10 == 0xa",
+    "9999999999",
+    "10000000000000000000000000000000000000",
+    "18446744073709551616",
+    "340282366920938463463374607431768211455",
+    "0xffffffffffffffffffffffffffffffff",
+    "340282366920938463463374607431768211456",
+    "ipv4('0.0.0.1')",
+    "ipv4 ( '255.255.255.255' )",
+    "mac('0a:1B:2c:3D:4e:5F') != 0",
+    "ipv6('::')",
+    "ipv6('f::')",
+    "-ipv6('ffff:ffff:ffff:ffff:ffff:ffff:ffff:ffff')",
+    "ipv6('f::')==ipv6('f::')&&ipv6('f::')==ipv6('f::')",
+    // Words as they are written.
+    "true;false",
+    "True",
+    "a.b.c",
+    "true.x",
+    "ipv4",
+    "ipv6::mac",
+    "k::true",
+    "k::priority",
+    "a.b::c",
+    "::true",
+    "::mac",
+    "zz::foo",
+    "_",
 ];

@@ -8,39 +8,12 @@ use crate::lists::NamedKey;
 use crate::reference::entries::{Entry, Record};
 use crate::reference::fields::Field;
 use crate::reference::keys::Kind;
+use crate::reference::ladder::Rung;
 use crate::reference::numbers::{all_ones, negate_bits};
+use crate::reference::tree::Join;
 use crate::reference::types::Type;
 
 pub type Tokens = Vec<Vec<u8>>;
-
-/// The rungs of the ladder, loosest first.
-#[derive(Clone, Copy, PartialEq, Eq, PartialOrd, Ord)]
-enum Rung {
-    Sequence,
-    Implication,
-    Disjunction,
-    Conjunction,
-    Comparison,
-    Prefix,
-}
-
-/// The joins: spelling, own rung, and the rungs that its operands may have.
-const JOINS: [(&str, Rung, Rung, Rung); 4] = [
-    (";", Rung::Sequence, Rung::Sequence, Rung::Implication),
-    (
-        "->",
-        Rung::Implication,
-        Rung::Disjunction,
-        Rung::Disjunction,
-    ),
-    (
-        "||",
-        Rung::Disjunction,
-        Rung::Disjunction,
-        Rung::Conjunction,
-    ),
-    ("&&", Rung::Conjunction, Rung::Conjunction, Rung::Comparison),
-];
 
 const ORDERINGS: [&str; 4] = [">", ">=", "<", "<="];
 const EQUALITIES: [&str; 2] = ["==", "!="];
@@ -108,19 +81,19 @@ impl Writer<'_> {
             self.put("!");
             return self.boolean(Rung::Prefix, joins);
         }
-        let (spelling, own, left, right) = self.rng.pick(&JOINS);
-        if own < rung {
+        let join = self.rng.pick(&Join::ALL);
+        if join.rung() < rung {
             return self.in_parentheses(|w| w.boolean(Rung::Sequence, joins));
         }
         // A fault leaves out parentheses that the operands may need.
         let (left, right) = if self.fault() {
-            (own, own)
+            (join.rung(), join.rung())
         } else {
-            (left, right)
+            join.operand_rungs()
         };
         let of_left = self.rng.below(joins);
         self.boolean(left, of_left);
-        self.put(spelling);
+        self.put(join.spelling());
         if self.fault() {
             return self.number(None);
         }

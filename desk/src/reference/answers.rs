@@ -34,6 +34,8 @@ pub enum Answer {
     Translated(usize),
     /// The blocks load; they hold this many instructions.
     Loaded(usize),
+    /// The text was printed in this many bytes.
+    Printed(usize),
     Refused {
         number: u8,
         input: Input,
@@ -83,7 +85,8 @@ impl fmt::Display for Input {
     }
 }
 
-/// The line of the program `answers`, without the sum that a translation adds.
+/// The line of the program `answers`, without the sum that a call with a
+/// buffer adds.
 impl fmt::Display for Answer {
     fn fmt(&self, out: &mut fmt::Formatter) -> fmt::Result {
         match self {
@@ -93,6 +96,7 @@ impl fmt::Display for Answer {
             Answer::Violated => out.write_str("violated"),
             Answer::Translated(count) => write!(out, "translated {count}"),
             Answer::Loaded(count) => write!(out, "loaded {count}"),
+            Answer::Printed(length) => write!(out, "printed {length}"),
             Answer::Refused {
                 number,
                 input,

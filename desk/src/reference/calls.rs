@@ -1,6 +1,8 @@
 //! Document 01, "Refusal numbers": "Stages run in the order below, those that a
 //! call has." "Stages: 1; 2; 3 and 4; 5 to 7; 8 to 10; 11 to 13; 14; 15; 16; 17;
-//! 18; 19; 20. A refusal changes nothing lent."
+//! 18; 19; 20. A refusal changes nothing lent." Document 02, request a: "A print
+//! over 4,096 bytes, or over the lent buffer, is refused with number 21, placed
+//! in the buffer at its length".
 
 use super::answers::{Answer, Input, Refusal};
 use super::blocks::{blocks_of, bytes_needed, checked_layout};
@@ -10,12 +12,14 @@ use super::grammar::tree;
 use super::keys::{key_list, Key};
 use super::loading::checked_code;
 use super::meaning::holds;
+use super::printing::print_of;
 use super::running::accepts;
 use super::tokens::tokens;
 use super::translating::instructions;
 use super::tree::Node;
 use super::types::{typed_text, Typed};
 
+/// The longest text, and the longest print: a print is a text again.
 pub const LONGEST_TEXT: usize = 4096;
 
 /// Reads a text; the answer is the number of nodes of its tree.
@@ -75,6 +79,22 @@ pub fn run(list: &[u8], blocks: &[u8], entry: &[u8]) -> Answer {
     running().into()
 }
 
+/// Prints a text at the front of the buffer. Every later byte stays, and on a
+/// refusal every byte.
+pub fn print(text: &[u8], buffer: &mut [u8]) -> Answer {
+    let mut printing = || {
+        text_length(text)?;
+        let print = print_of(&text_tree(text)?);
+        let length = print.len();
+        if length > LONGEST_TEXT || length > buffer.len() {
+            return Err(Refusal::new(21, Input::Buffer, buffer.len()));
+        }
+        buffer[..length].copy_from_slice(&print);
+        Ok(Answer::Printed(length))
+    };
+    printing().into()
+}
+
 /// Stage 1.
 fn text_length(text: &[u8]) -> Result<(), Refusal> {
     if text.len() > LONGEST_TEXT {
@@ -84,7 +104,7 @@ fn text_length(text: &[u8]) -> Result<(), Refusal> {
 }
 
 /// Stages 5 to 7 and 8 to 10.
-fn text_tree(text: &[u8]) -> Result<Node<'_>, Refusal> {
+pub fn text_tree(text: &[u8]) -> Result<Node<'_>, Refusal> {
     tree(&tokens(text)?, text.len())
 }
 

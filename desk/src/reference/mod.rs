@@ -1,10 +1,12 @@
-//! An implementation of document 01, written from its words alone.
+//! An implementation of document 01, and of what document 02 changes in it,
+//! written from their words alone.
 //!
 //! "Wanted: reading a restriction, checking its types against a key list,
 //! judging one entry directly from the text, translating a text into blocks,
-//! loading blocks, running loaded blocks on an entry."
+//! loading blocks, running loaded blocks on an entry." And document 02's "Print
+//! a restriction in house style".
 //!
-//! The files follow the document's sections. Plainness comes before speed:
+//! The files follow the documents' sections. Plainness comes before speed:
 //! what stands here is meant to be held against the paper, line by line.
 
 pub mod addresses;
@@ -16,9 +18,11 @@ pub mod entries;
 pub mod fields;
 pub mod grammar;
 pub mod keys;
+pub mod ladder;
 pub mod loading;
 pub mod meaning;
 pub mod numbers;
+pub mod printing;
 pub mod running;
 pub mod tokens;
 pub mod translating;
@@ -28,4 +32,4 @@ pub mod values;
 pub mod words;
 
 pub use answers::{Answer, Input};
-pub use calls::{check, judge, load, read, run, translate};
+pub use calls::{check, judge, load, print, read, run, translate};

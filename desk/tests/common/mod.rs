@@ -2,10 +2,13 @@
 
 #![allow(dead_code)]
 
+use desk::generate::{rng::Rng, scenes::Scene};
 use desk::lists::list_bytes;
 use desk::pack::entries::Rules;
 use desk::pack::{entries_from_text, keys_from_text};
-use desk::reference::{check, judge, load, read, run, translate, Answer, Input};
+use desk::reference::calls::LONGEST_TEXT;
+use desk::reference::{check, judge, load, print, read, run, translate, Answer, Input};
+use desk::requests::{Call, Request};
 
 pub const KEYS: &str = "v exact 1\nd ternary 8\np lpm 8\nr range 16\no optional 4\n";
 pub const ENTRY: &str = "priority 10; v 1; d 0x20 &&& 0xf0; p 0xc0/2; r 80..443; o *";
@@ -88,6 +91,21 @@ pub fn translated(text: &str, list: &[u8]) -> Vec<u8> {
         refused => panic!("{text}: {refused}"),
     }
     buffer
+}
+
+/// The print of a text in a buffer that is long enough, or its refusal.
+pub fn printing(text: impl AsRef<[u8]>) -> String {
+    let mut buffer = vec![0; LONGEST_TEXT];
+    match print(text.as_ref(), &mut buffer) {
+        Answer::Printed(length) => buffer[..length].escape_ascii().to_string(),
+        refused => short(refused),
+    }
+}
+
+/// Generated request `index` to print, of the run with this seed.
+pub fn print_request(seed: u64, index: u64) -> Request {
+    let mut rng = Rng::for_item(seed, index);
+    Scene::new(&mut rng, 8, 7).request(&mut rng, Call::Print)
 }
 
 /// Holds each text against its wanted answer.

@@ -2,11 +2,11 @@
 use mathlib.Core.Path.{_≡_, refl, sym, ap, _∙_}
 use mathlib.Core.List.{List}
 use Prim.Native.Nat.{ℕ}
-use Rattle.paper.specs.Answers.{readingSays, checkingSays, judgementSays, translationSays, loadingSays}
-use Rattle.paper.specs.Promised.{TranslateResult, Sole}
+use Rattle.paper.specs.Answers.{readingSays, checkingSays, judgementSays, translationSays, loadingSays, printingSays}
+use Rattle.paper.specs.Promised.{TranslateResult, TranslatePromised, PrintResult, PrintPromised, Sole}
 use Rattle.paper.proofs.Promised.{no-second-result}
 use Rattle.abi.specs.declared.answer.PolluxAnswer.{PolluxAnswer}
-use Rattle.abi.specs.Told.{counted, passed, judged, Tells, TranslateTold, OneAnswerForC}
+use Rattle.abi.specs.Told.{counted, passed, judged, Tells, OneAnswerForC}
 use Rattle.abi.proofs.told.one_answer_for_c.Statement.{statement}
 use Rattle.abi.proofs.told.one_answer_for_c.Tie as tie
 
@@ -18,17 +18,18 @@ told-once Promised numbers one =
       no-second = λ a t. t .same ∙ ap numbers (one .no-second (t .result) (t .promised));
     }
 
-translated-once : (text list buffer exit other : List ℕ) (a b : PolluxAnswer) → TranslateTold text list buffer exit a
-    → TranslateTold text list buffer other b → (a ≡ b) × (exit ≡ other)
-translated-once text list buffer exit other a b t u =
-    let one = no-second-result .translate text list buffer in
-    let same : _≡_ {A = TranslateResult} (record { answer = t .result; buffer = exit }) (record { answer = u .result; buffer = other }) =
-    one .no-second (record { answer = t .result; buffer = exit }) (t .promised)
-    ∙ sym (one .no-second (record { answer = u .result; buffer = other }) (u .promised))
-    in (
-      t .same ∙ ap (λ (r : TranslateResult). counted (translationSays (r .answer))) same ∙ sym (u .same),
-      ap (λ (r : TranslateResult). r .buffer) same,
-    )
+-- of an answer and a buffer at exit that make up a result
+module _ {A R : Type 0} (whole : A → List ℕ → R) (answer : R → A) (buffer : R → List ℕ)
+    (answered : (r : A) (s : List ℕ) → answer (whole r s) ≡ r) (holds : (r : A) (s : List ℕ) → buffer (whole r s) ≡ s) where
+  told-with-buffer : (Promised : R → Type 0) (numbers : A → PolluxAnswer) → Sole Promised → (exit other : List ℕ) (a b : PolluxAnswer)
+      → Tells (λ r. Promised (whole r exit)) numbers a → Tells (λ r. Promised (whole r other)) numbers b → (a ≡ b) × (exit ≡ other)
+  told-with-buffer Promised numbers one exit other a b t u =
+      let same : whole (t .result) exit ≡ whole (u .result) other =
+      one .no-second (whole (t .result) exit) (t .promised) ∙ sym (one .no-second (whole (u .result) other) (u .promised))
+      in (
+        t .same ∙ ap numbers (sym (answered (t .result) exit) ∙ ap answer same ∙ answered (u .result) other) ∙ sym (u .same),
+        sym (holds (t .result) exit) ∙ ap buffer same ∙ holds (u .result) other,
+      )
 
 one-answer : OneAnswerForC
 one-answer =
@@ -37,9 +38,14 @@ one-answer =
       read = λ text. told-once _ (λ r. counted (readingSays r)) (one .read text);
       check = λ text list. told-once _ (λ r. passed (checkingSays r)) (one .check text list);
       judge = λ text list entry. told-once _ (λ r. judged (judgementSays r)) (one .judge text list entry);
-      translate = translated-once;
+      translate = λ text list buffer.
+          told-with-buffer (λ r s. record { answer = r; buffer = s }) (λ (r : TranslateResult). r .answer) (λ (r : TranslateResult). r .buffer) (λ r s. refl) (λ r s. refl)
+          (TranslatePromised text list buffer) (λ r. counted (translationSays r)) (one .translate text list buffer);
       load = λ list blocks. told-once _ (λ r. counted (loadingSays r)) (one .load list blocks);
       run = λ list blocks entry. told-once _ (λ r. judged (judgementSays r)) (one .run list blocks entry);
+      print = λ text buffer.
+          told-with-buffer (λ r s. record { answer = r; buffer = s }) (λ (r : PrintResult). r .answer) (λ (r : PrintResult). r .buffer) (λ r s. refl) (λ r s. refl)
+          (PrintPromised text buffer) (λ r. counted (printingSays r)) (one .print text buffer);
     }
 
 pub one-answer-for-c-spec : {M : Type 1} → statement M

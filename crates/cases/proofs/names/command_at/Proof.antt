@@ -1,9 +1,8 @@
 -- The name of a line, looked for among those of the commands.
 use mathlib.Core.Path.{ap, _∙_}
 use borrow.Author.Needs.{needs}
-use Rattle.paper.specs.Tokens.{bytes}
 use Rattle.cases.specs.Places.{partOf}
-use Rattle.cases.specs.Names.{wordsOf, placeIn}
+use Rattle.cases.specs.Names.{commands, placeIn}
 use Rattle.cases.proofs.names.command_at.Statement.{statement}
 use Rattle.cases.proofs.names.command_at.Tie as tie
 
@@ -11,8 +10,7 @@ returns : tie.Need-returns
 returns c =
     let a = c .before .before .before .before .before .args in
     let name = c .before .part .ensures ∙ ap (partOf (a .file .now) (a .at)) (c .before .before .scan .ensures .here) in
-    c .place-in .ensures
-    ∙ ap (placeIn (wordsOf (bytes "text list entry room title change code blocks translate read check judge load run"))) name
+    c .place-in .ensures ∙ ap (placeIn commands) name
 
 pub command-at-spec : {M : Type 1} → statement M
 command-at-spec =

@@ -1,24 +1,51 @@
--- The limb after what was left over is below 2^32 times the base, so the quotient is a limb again.
+-- What is below the base is left over whole. Else the limb after what was left over is below 2^32 times the base, so the quotient is a limb
+-- again.
 use borrow.Author.Needs.{needs}
 use native.Mathlib.Nat.{div-add-mod', mod-lt}
-use Prim.Native.Nat.{_+_, _*_, _^_, _<_}
+use Prim.Native.Nat.{ℕ, _+_, _*_, _^_, _<_}
 use native.Mathlib.Omega.{arith}
 use Rattle.number.proofs.Quotients.{quotient-fits}
 use Rattle.number.proofs.numeral.divide_limb.Statement.{statement}
 use Rattle.number.proofs.numeral.divide_limb.Tie as tie
 
-limb-fits : tie.Need-cast-t9
-limb-fits c = record { fits = quotient-fits (c .args .limb) (c .args .over) (c .args .base) (c .fits .limb .fits) (c .pre) }
+-- what is divided, and by what
+abbrev both : tie.Start → ℕ
+both s = s .args .over * 2 ^ 32 + s .args .limb
 
-rest-fits : tie.Need-cast-t10
+some-base : (s : tie.Start) → 0 < s .args .base
+some-base s = omega (arith, s .pre)
+
+whole-fits : tie.Need-cast-t10
+whole-fits c = record { fits = omega (arith, c .if1 .taken, c .before .fits .base .fits) }
+
+left-whole : tie.Need-returns
+left-whole c = (omega arith, c .if1 .taken)
+
+limb-fits : tie.Need-cast-t11
+limb-fits c =
+    let s : tie.Start = c .before in
+    record { fits = quotient-fits (s .args .limb) (s .args .over) (s .args .base) (s .fits .limb .fits) (s .pre) }
+
+rest-fits : tie.Need-cast-t12
 rest-fits c =
-    let h = mod-lt (c .args .over * 2 ^ 32 + c .args .limb) (let p : 0 < c .args .base = omega arith in p) in
-    record { fits = omega (arith, h, c .fits .base .fits) }
+    let s : tie.Start = c .before in
+    record { fits = omega (arith, mod-lt (both s) (some-base s), s .fits .base .fits) }
 
-returns : tie.Need-returns
-returns c =
-    let n = c .args .over * 2 ^ 32 + c .args .limb in
-    (div-add-mod' n (c .args .base), mod-lt n (omega arith))
+divided : tie.Need-returns-2
+divided c =
+    let s : tie.Start = c .before in
+    (div-add-mod' (both s) (s .args .base), mod-lt (both s) (some-base s))
 
 pub divide-limb-spec : {M : Type 1} → statement M
-divide-limb-spec = tie.close (tie.spec (λ c. search needs) (λ c. search needs) (λ c. search needs) limb-fits (λ c. search needs) rest-fits returns)
+divide-limb-spec =
+    tie.close
+    (tie.spec
+    (λ c. search needs)
+    (λ c. search needs)
+    whole-fits
+    left-whole
+    (λ c. search needs)
+    limb-fits
+    (λ c. search needs)
+    rest-fits
+    divided)

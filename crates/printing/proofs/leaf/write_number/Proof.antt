@@ -6,8 +6,11 @@ use Rattle.printing.proofs.leaf.write_number.Statement.{statement}
 use Rattle.printing.proofs.leaf.write_number.Tie as tie
 
 -- where the digits are known
-abbrev digits : tie.After-write-rest-arg → tie.After-digits-in
-digits c = c .before .before .before
+abbrev digits : tie.After-write-rest-arg3 → tie.After-digits-in
+digits c = c .before .before .before .before
+
+first-inside : tie.Need-write-rest-requires
+first-inside c κs = omega (arith, digits c .digits-in .ensures)
 
 written : tie.Need-returns
 written c =
@@ -15,11 +18,4 @@ written c =
     wrote-as (digits (write-at .before) .digits-in .ensures .bytes) (write-at .write-rest .ensures)
 
 pub write-number-spec : {M : Type 1} → statement M
-write-number-spec =
-    tie.close
-    (tie.spec
-    (λ c κs. search needs)
-    (λ c. search needs)
-    (λ c κs. omega (arith, digits c .digits-in .ensures))
-    (λ c. search needs)
-    written)
+write-number-spec = tie.close (tie.spec (λ c κs. search needs) first-inside (λ c. search needs) written)

@@ -1,50 +1,30 @@
--- The four divisions go from the highest limb down, each after what the one before it left over: the number is divided as a whole
--- (`quotient`, `remainder`).
+-- A small number is its lowest limb, which is divided alone; any other is divided limb by limb.
+use Prim.Native.Nat.{ℕ, _/_, _%_}
+use mathlib.Core.Path.{_≡_, sym, ap, _∙_}
 use borrow.Author.Needs.{needs}
-use Rattle.number.specs.Values.{value}
-use Rattle.number.proofs.Quotients.{quotient, remainder}
 use Rattle.number.proofs.magnitude.Magnitude.divide.Statement.{statement}
 use Rattle.number.proofs.magnitude.Magnitude.divide.Tie as tie
 
-abbrev Done : Type 0
-Done = tie.After-divide-limb4
-
-abbrev second : Done → tie.After-divide-limb3
-second c = c .before .before
-
-abbrev third : Done → tie.After-divide-limb2
-third c = second c .before .before
-
-abbrev highest : Done → tie.After-divide-limb
-highest c = third c .before .before
-
-abbrev start : Done → tie.Start
-start c = highest c .before .before
-
-divided : tie.Need-returns
-unfolding value
-divided c =
-    let n = start c .args .t1 in
-    let base = start c .args .base in
-    let d = highest c .divide-limb in
-    let t = third c .divide-limb2 in
-    let s = second c .divide-limb3 in
-    let a = c .divide-limb4 in
+small-divided : tie.Need-returns
+small-divided c =
+    let there : tie.Then1 = c .before .before .before in
+    let s : tie.Start = there .before .before in
+    let lowest = there .before .is-small .ensures (there .if1 .taken) in
     record {
-      whole = quotient n base (a .result) (s .result) (t .result) (d .result) (d .ensures) (t .ensures) (s .ensures) (a .ensures);
-      rest = remainder n base (a .result) (s .result) (t .result) (d .result) (d .ensures) (t .ensures) (s .ensures) (a .ensures);
+      whole = c .before .of .ensures ∙ ap (λ (n : ℕ). n / s .args .base) (sym lowest);
+      rest = ap (λ (n : ℕ). n % s .args .base) (sym lowest);
     }
 
 pub divide-spec : {M : Type 1} → statement M
 divide-spec =
     tie.close
     (tie.spec
+    (λ c κs. search needs)
+    (λ c. search needs)
     (λ c. search needs)
     (λ c κs. search needs)
     (λ c. search needs)
-    (λ c κs. search needs)
     (λ c. search needs)
+    small-divided
     (λ c κs. search needs)
-    (λ c. search needs)
-    (λ c κs. search needs)
-    divided)
+    (λ c. search needs))

@@ -1,0 +1,58 @@
+//! Buffers that a call may write to: of the size that it needs, one byte less,
+//! or another; what they hold before the call is anything but zeros.
+
+use super::rng::Rng;
+use crate::reference;
+use crate::reference::blocks::bytes_needed;
+use crate::reference::calls::{text_tree, LONGEST_TEXT};
+use crate::reference::printing::print_of;
+use crate::reference::Answer;
+use crate::requests::LONGEST_INPUT;
+
+/// A buffer for the translation of this text.
+pub fn for_translation(rng: &mut Rng, text: &[u8], list: &[u8]) -> Vec<u8> {
+    let mut large = vec![0; bytes_needed(2 * text.len() + 1).min(LONGEST_INPUT)];
+    let needed = match reference::translate(text, list, &mut large) {
+        Answer::Translated(count) => bytes_needed(count),
+        _ => 512,
+    };
+    let length = match rng.below(10) {
+        0..=3 => needed,
+        4 => needed - 1,
+        5 => needed + rng.between(1, 600),
+        6 => rng.below(needed),
+        7 => needed + 512,
+        8 => 0,
+        _ => rng.below(2048),
+    };
+    filled(rng, length)
+}
+
+/// A buffer for the print of this text.
+pub fn for_print(rng: &mut Rng, text: &[u8]) -> Vec<u8> {
+    let needed = text_tree(text).map_or(20, |tree| print_of(&tree).len());
+    let length = match rng.below(40) {
+        0 => LONGEST_INPUT,
+        1 | 2 => 0,
+        3 | 4 => 1,
+        5..=7 => rng.below(needed),
+        8..=13 => needed - 1,
+        14..=23 => needed,
+        24..=27 => needed + 1,
+        28..=31 => needed + rng.below(600),
+        32 | 33 => LONGEST_TEXT - 1,
+        34..=37 => LONGEST_TEXT,
+        _ => LONGEST_TEXT + 1,
+    };
+    filled(rng, length)
+}
+
+/// So many bytes. None is zero, so that a byte which becomes zero shows.
+fn filled(rng: &mut Rng, length: usize) -> Vec<u8> {
+    let filling = rng.byte();
+    let step = rng.pick(&[0, 1, 7]);
+    (0..length)
+        .map(|index| filling.wrapping_add((index as u8).wrapping_mul(step)))
+        .map(|byte| byte.max(1))
+        .collect()
+}

@@ -81,7 +81,7 @@ static bool keeps_kind_rule(struct type key, unsigned prefix_length, number firs
     case EXACT: return prefix_length == 0 && second == 0;
     case TERNARY: return prefix_length == 0 && (first & ~second) == 0;
     case OPTIONAL: return prefix_length == 0 && (first & ~second) == 0 && (second == 0 || second == all_ones(key.width));
-    case RANGE: return prefix_length == 0 && (first < second || (first == 0 && second == 0));
+    case RANGE: return prefix_length == 0 && first <= second;
     default: /* LPM */
         if (second != 0 || prefix_length > key.width)
             return false;

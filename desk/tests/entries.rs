@@ -151,9 +151,14 @@ fn rules_of_each_kind() {
         ("k lpm 128", "k 8000::/1"),
         ("k range 16", "k *"),
         ("k range 16", "k 80..443"),
+        ("k range 16", "k 443..443"),
         ("k range 16", "k 0..0"),
         ("k range 16", "k 0..65535"),
+        ("k range 16", "k 65535..65535"),
+        ("k range 1", "k 0..0"),
         ("k range 1", "k 0..1"),
+        ("k range 1", "k 1..1"),
+        ("k range 128", "k 340282366920938463463374607431768211455"),
     ];
     for (keys, entry) in good {
         assert_eq!(judging_on("true", keys, entry), "A", "{keys}: {entry}");
@@ -177,11 +182,16 @@ fn rules_of_each_kind() {
         ("k lpm 8", "k 256/8"),
         ("k lpm 128", "k 0/129"),
         ("k lpm 128", "k ::1/127"),
-        ("k range 16", "k 443..443"),
-        ("k range 16", "k 2..1"),
+        ("k range 16", "k 444..443"),
         ("k range 16", "k 1..0"),
+        ("k range 16", "k 65535..0"),
         ("k range 16", "k 0..65536"),
-        ("k range 1", "k 1..1"),
+        ("k range 16", "k 65536..65536"),
+        ("k range 1", "k 1..0"),
+        (
+            "k range 128",
+            "k 340282366920938463463374607431768211455..340282366920938463463374607431768211454",
+        ),
     ];
     for (keys, entry) in bad {
         assert_eq!(
@@ -241,6 +251,22 @@ fn absent_keys_read_as_the_widest_match() {
     assert_eq!(judging_on(text, keys, spelled_out), "A");
     // Both numbers 0 is another range than the absent one.
     assert_eq!(judging_on("r::high == 0", keys, "r 0..0"), "A");
-    // In the base no range of one port conforms, so this is never true.
-    assert_eq!(judging("r == 443"), "V");
+}
+
+/// A number meeting a range is the range of that one value, which an entry
+/// may hold; 0 to 0 is one of them, and no absent key.
+#[test]
+fn a_range_of_one_port_equals_it() {
+    let judged = |text, entry| judging_on(text, "r range 16", entry);
+    for (entry, wanted) in [
+        ("r 443..443", "A"),
+        ("r 443..444", "V"),
+        ("r 442..443", "V"),
+        ("r 444..443", "20 entry 4"),
+    ] {
+        assert_eq!(judged("r == 443", entry), wanted, "{entry}");
+    }
+    assert_eq!(judged("r == 0", "r 0..0"), "A");
+    assert_eq!(judged("r == 0", "r *"), "V");
+    assert_eq!(judged("r != r::low", "r 443..443"), "V");
 }

@@ -8,7 +8,8 @@ use desk::generate::{cases, entries, lists, programs, request, rng::Rng, snippet
 use desk::lists::{list_bytes, NamedKey};
 use desk::reference::blocks::{blocks_of, bytes_needed};
 use desk::reference::calls::{text_tree, LONGEST_TEXT};
-use desk::reference::keys::Key;
+use desk::reference::entries::Entry;
+use desk::reference::keys::{Key, Kind};
 use desk::reference::printing::print_of;
 use desk::reference::{judge, load, run, translate, Answer};
 use desk::requests::{Call, Request, LONGEST_INPUT};
@@ -91,6 +92,26 @@ fn good_lists_and_entries_conform() {
         let answer = judge(b"true", &list_bytes(&keys), &entry.to_bytes());
         assert_eq!(answer, Answer::Accepted);
     }
+}
+
+/// Ranges of one value, and ranges whose low is just above their high.
+#[test]
+fn ranges_reach_their_limit() {
+    let keys = [NamedKey::new(b"r", Kind::Range, 16)];
+    let (mut equal, mut above) = (0, 0);
+    for index in 0..3_000 {
+        let mut rng = Rng::for_item(8, index);
+        let entry = entries::good(&mut rng, &keys);
+        let [low, high] = [entry.records[0].first, entry.records[0].second];
+        equal += usize::from(low == high && low > 0);
+        let damaged = entries::damaged(&mut rng, &keys, &entry);
+        if damaged.len() == Entry::size(1) {
+            let number = |at: usize| u16::from_be_bytes([damaged[at], damaged[at + 1]]);
+            above += usize::from(number(22).checked_sub(number(38)) == Some(1));
+        }
+    }
+    assert!(equal >= 200, "{equal} ranges of one value");
+    assert!(above >= 200, "{above} ranges with low just above high");
 }
 
 #[test]

@@ -139,8 +139,8 @@ fn forms_of_numbers() {
 fn short_forms() {
     let keys = "d ternary 8\no optional 4\np lpm 8\nr range 8";
     assert_eq!(
-        entry_of(keys, "d 1; o 1; p 1; r 0"),
-        entry_of(keys, "d 1 &&& 0xff; o 1 &&& 15; p 1/8; r 0..0")
+        entry_of(keys, "d 1; o 1; p 1; r 1"),
+        entry_of(keys, "d 1 &&& 0xff; o 1 &&& 15; p 1/8; r 1..1")
     );
     assert_eq!(
         entry_of(keys, "priority 0"),
@@ -204,10 +204,7 @@ fn wrong_entries() {
             "line 1: p: prefix length 9 is over the width 8",
         ),
         ("v 1; p 0/256", "line 1: prefix length 256 is over 128"),
-        (
-            "v 1; r 443..443",
-            "line 1: r: low 443 is not below high 443 (only 0..0 may be equal)",
-        ),
+        ("v 1; r 444..443", "line 1: r: low 444 is above high 443"),
         (
             "v 1; r 1..65536",
             "line 1: r: 0x10000 does not fit in 16 bits",

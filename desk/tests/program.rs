@@ -311,12 +311,12 @@ fn trouble_is_told_with_its_line() {
         told.ends_with("keys-wrong:2: 200 is no width from 1 to 128\n"),
         "{told}"
     );
-    let single = file("single-port", b"v 1\nv 1; r 443..443\n");
-    let output = desk(&["pack", "entries", &keys, &single], &[]);
+    let turned = file("turned-range", b"v 1\nv 1; r 444..443\n");
+    let output = desk(&["pack", "entries", &keys, &turned], &[]);
     assert_eq!(output.status.code(), Some(2));
     assert!(output.stdout.is_empty());
-    assert!(text_of(&output.stderr).contains("single-port:2: r: low 443"));
-    let any = desk(&["pack", "entries", "--any", &keys, &single], &[]);
+    assert!(text_of(&output.stderr).contains("turned-range:2: r: low 444"));
+    let any = desk(&["pack", "entries", "--any", &keys, &turned], &[]);
     assert_eq!(any.stdout.len(), 2 * 184);
     let cut = file("cut-list", &list()[..100]);
     let output = desk(&["unpack", "keys", &cut], &[]);

@@ -1,14 +1,14 @@
 -- A key's record in an entry.
 use Prim.Native.Nat.{ℕ, _+_, _*_, _-_, _^_, _≤_, _<_}
-use mathlib.Core.Path.{_≡_, refl}
-use mathlib.Core.Bool.{Bool, true, false, cond}
+use mathlib.Core.Path.{_≡_, refl, sym}
+use mathlib.Core.Bool.{Bool, true, false, not, cond}
 use mathlib.Core.List.{List}
 use native.Mathlib.Omega.{arith}
-use lib.Dec.{eqb}
+use lib.Dec.{eqb, ltb, leb}
 use lib.ListN.{length, drop, length-drop}
 use lib.Pow.{pow-lt}
 use lib.Seq.{length-take-le}
-use borrow.Author.Tests.{ne-eqb}
+use borrow.Author.Tests.{ltb-true, ltb-false, le-leb, lt-leb, ne-eqb}
 use Rattle.paper.specs.Keys.{exact, ternary, lpm, range, optional, kindOf}
 use Rattle.paper.specs.Entry.{headSize, matchSize, matchAt, isExact, absent}
 
@@ -37,6 +37,15 @@ but-range w false false false = refl
 
 pub not-range : (n w : ℕ) → (n ≡ 3 → ⊥) → absent (kindOf n) w ≡ record { first = 0; second = 0; length = 0 }
 not-range n w h = rw (ne-eqb n 3 h) (but-range w (eqb n 0) (eqb n 1) (eqb n 2))
+
+-- low at most high is high not below low
+
+pub not-below : (low high : ℕ) → not (ltb high low) ≡ leb low high
+not-below low high = go (ltb high low) refl
+  where
+    go : (t : Bool) → ltb high low ≡ t → not t ≡ leb low high
+    go true e = sym (lt-leb low high (ltb-true high low e))
+    go false e = sym (le-leb low high (ltb-false high low e))
 
 -- 128 bits are no row of more than 128 ones
 

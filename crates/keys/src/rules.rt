@@ -56,13 +56,7 @@ fn range_ok(m: Matched) -> bool
     if m.length != 0 {
         return false;
     }
-    if first.less(second) {
-        return true;
-    }
-    if !first.is_zero() {
-        return false;
-    }
-    second.is_zero()
+    !second.less(first)
 }
 
 fn all_ones(mask: Magnitude, width: u8) -> bool

@@ -36,6 +36,7 @@ pub mod Walks
 pub mod Stages
 pub mod LoadedBlocksRun
 pub mod MeetingTypes
+pub mod Ranges
 pub mod TypeSoundness
 pub mod CodeCorrect
 pub mod CodeLength

@@ -15,7 +15,7 @@ lists = refl
 
 pub entries : Entries
 unfolding judgeAnswer
-entries = record { priority = refl; one = refl; all = refl }
+entries = record { priority = refl; one = refl; all = refl; range-of-one = refl; range-of-all = refl }
 
 pub held : Held
 unfolding typesAlong

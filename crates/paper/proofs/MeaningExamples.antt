@@ -1,7 +1,7 @@
 -- Each example of a value is computed from the definitions.
 use mathlib.Core.Path.{refl}
 use Rattle.paper.specs.Calls.{judgeAnswer}
-use Rattle.paper.specs.MeaningExamples.{Bools, Ints, Bits, Matches, OneValue, MeaningExamples}
+use Rattle.paper.specs.MeaningExamples.{Bools, Ints, Bits, Matches, OneValue, Ports, MeaningExamples}
 
 bools : Bools
 unfolding judgeAnswer
@@ -22,6 +22,10 @@ matches = record { ternary = refl; lpm = refl; range = refl; optional = refl; un
 one-value : OneValue
 one-value = record { bits = refl; masked = refl; prefixed = refl; ranged = refl; optionally = refl }
 
+ports : Ports
+unfolding judgeAnswer
+ports = record { port-443 = refl; port-0 = refl }
+
 pub meaningExamples : MeaningExamples
 unfolding judgeAnswer
 meaningExamples =
@@ -33,5 +37,6 @@ meaningExamples =
       on-the-marked-entry = refl;
       of-one-value = refl;
       one-value = one-value;
+      of-ports = ports;
       of-absent-keys = refl;
     }

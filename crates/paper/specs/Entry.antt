@@ -42,12 +42,12 @@ spelledOut r = record { first = numberAt r 4 16; second = numberAt r 20 16; leng
 -- "The conditions of 004's table are enforced here", and "Fields a kind lacks are zero"
 -- ternary, optional: "the value has no bit outside the mask; an optional mask is 0 or 2^W − 1"
 -- lpm: "prefix length at most W, and the low W − length bits of the value are zero"
--- range: "low < high, or both 0"
+-- range: "The condition becomes low <= high" (02 b)
 abbrev pub kindRule : Kind → ℕ → Match → Bool
 kindRule exact w m = eqb (m .length) 0 && eqb (m .second) 0
 kindRule ternary w m = eqb (m .length) 0 && eqb (bitAnd (m .first) (m .second)) (m .first)
 kindRule lpm w m = eqb (m .second) 0 && leb (m .length) w && eqb (m .first % 2 ^ (w - m .length)) 0
-kindRule range w m = eqb (m .length) 0 && (ltb (m .first) (m .second) || eqb (m .first) 0 && eqb (m .second) 0)
+kindRule range w m = eqb (m .length) 0 && leb (m .first) (m .second)
 kindRule optional w m =
     eqb (m .length) 0 && eqb (bitAnd (m .first) (m .second)) (m .first)
     && (eqb (m .second) 0 || eqb (m .second) (2 ^ w - 1))

@@ -137,20 +137,25 @@ lpmRules =
     ∷ broken (matchRecord 0 1 0 0)
     ∷ []
 
--- "low < high, or both 0"
+-- "low <= high"; 0 to 0 is one value, and no absent key
 abbrev pub rangeRules : List (On Entry)
 rangeRules =
     kept (matchRecord 1 0 4 5) (match 4 5 0)
-    ∷ broken (matchRecord 1 0 5 5)
-    ∷ broken (matchRecord 1 0 5 4)
+    ∷ kept (matchRecord 1 0 5 5) (match 5 5 0)
+    ∷ broken (matchRecord 1 0 6 5)
     ∷ broken (matchRecord 1 0 5 0)
+    ∷ broken (matchRecord 1 0 1 0)
     ∷ kept (matchRecord 1 0 0 0) (match 0 0 0)
     ∷ kept (matchRecord 1 0 0 1) (match 0 1 0)
     ∷ kept (matchRecord 1 0 0 255) (match 0 255 0)
+    ∷ kept (matchRecord 1 0 255 255) (match 255 255 0)
     ∷ broken (matchRecord 1 0 0 256)
+    ∷ broken (matchRecord 1 0 256 256)
     ∷ broken (matchRecord 1 1 4 5)
+    ∷ broken (matchRecord 1 1 5 5)
     ∷ kept (matchRecord 0 0 0 0) (match 0 255 0)
     ∷ broken (matchRecord 0 0 4 5)
+    ∷ broken (matchRecord 0 0 5 5)
     ∷ []
 
 -- "an optional mask is 0 or 2^W − 1"

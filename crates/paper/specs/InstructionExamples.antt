@@ -321,7 +321,8 @@ onOneValueEach =
     accepted (key 1 ∷ int 0x20 ∷ to 1 8 ∷ compares 0 ∷ [])
     ∷ accepted (key 1 ∷ field 0 1 ∷ to 1 8 ∷ compares 0 ∷ [])
     ∷ accepted (key 2 ∷ int 0xc1 ∷ to 2 8 ∷ compares 0 ∷ [])
-    ∷ accepted (key 3 ∷ int 0 ∷ to 3 16 ∷ compares 0 ∷ [])
+    ∷ accepted (key 3 ∷ int 443 ∷ to 3 16 ∷ compares 0 ∷ [])
+    ∷ violated (key 3 ∷ int 444 ∷ to 3 16 ∷ compares 0 ∷ [])
     ∷ accepted (key 4 ∷ int 5 ∷ to 4 4 ∷ compares 0 ∷ [])
     ∷ violated (key 4 ∷ int 4 ∷ to 4 4 ∷ compares 0 ∷ [])
     ∷ []

@@ -17,6 +17,7 @@ pub mod Print
 pub mod Sized
 pub mod Calls
 pub mod LoadedBlocksRun
+pub mod Ranges
 pub mod TypeSoundness
 pub mod CodeCorrect
 pub mod BlocksRoundTrip

@@ -85,7 +85,8 @@ lists =
 abbrev pub Lists : Type 0
 Lists = Agree (λ list. keys list >>= λ ks. ok (length ks)) lists
 
--- entries: priority below 2^31; a number below 2^W, at W 1 and 128; prefix length at most W. Each rule of each kind is in EntryExamples
+-- entries: priority below 2^31; a number below 2^W, at W 1 and 128; prefix length at most W; low at most high. Each rule of each kind is
+-- in EntryExamples
 
 abbrev pub entry : ℕ → List ℕ → List ℕ
 entry priority records = bigEndian 4 priority ++ records
@@ -115,10 +116,28 @@ wide =
     ∷ on (entry 0 (matchRecord 1 127 (2 ^ 128 - 1) 0)) (refused 20 inEntry 4)
     ∷ []
 
+abbrev pub narrowRanges : List (On Bool)
+narrowRanges =
+    on (entry 0 (matchRecord 1 0 0 0)) (ok true)
+    ∷ on (entry 0 (matchRecord 1 0 0 1)) (ok true)
+    ∷ on (entry 0 (matchRecord 1 0 1 1)) (ok true)
+    ∷ on (entry 0 (matchRecord 1 0 1 0)) (refused 20 inEntry 4)
+    ∷ on (entry 0 (matchRecord 1 0 2 2)) (refused 20 inEntry 4)
+    ∷ []
+
+abbrev pub wideRanges : List (On Bool)
+wideRanges =
+    on (entry 0 (matchRecord 1 0 (2 ^ 128 - 2) (2 ^ 128 - 1))) (ok true)
+    ∷ on (entry 0 (matchRecord 1 0 (2 ^ 128 - 1) (2 ^ 128 - 1))) (ok true)
+    ∷ on (entry 0 (matchRecord 1 0 (2 ^ 128 - 1) (2 ^ 128 - 2))) (refused 20 inEntry 4)
+    ∷ []
+
 pub record Entries : Type 0 where
   pub priority : Judged [] priorities
   pub one : Judged (keyRecord (bytes "k") 0 1) narrow
   pub all : Judged (keyRecord (bytes "k") 2 128) wide
+  pub range-of-one : Judged (keyRecord (bytes "k") 3 1) narrowRanges
+  pub range-of-all : Judged (keyRecord (bytes "k") 3 128) wideRanges
 
 -- values held: 384. n bools, then as many joins as bring them back to one
 abbrev pub piled : ℕ → List (Option Instruction)

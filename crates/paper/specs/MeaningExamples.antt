@@ -3,14 +3,16 @@
 use Prim.Native.Nat.{ℕ}
 use Prim.Native.String as S
 use mathlib.Core.Path.{_≡_}
+use mathlib.Core.Bool.{Bool, true, false}
 use mathlib.Core.List.{List, [], _∷_, _++_}
+use Rattle.paper.specs.Answers.{ok, refused, inEntry}
 use Rattle.paper.specs.Numbers.{bigEndian}
 use Rattle.paper.specs.Tokens.{bytes}
 use Rattle.paper.specs.Keys.{keyRecord, exact, ternary, lpm, range, optional}
 use Rattle.paper.specs.Meaning.{oneValue}
 use Rattle.paper.specs.Calls.{judgeAnswer}
 use Rattle.paper.specs.MarkedJudgements.{Case, accepted, violated, theKeys, theEntry, AreJudged}
-use Rattle.paper.specs.Examples.{rows, tableOf, judgedMark}
+use Rattle.paper.specs.Examples.{on, Agree, On, rows, tableOf, judgedMark}
 use Rattle.paper.specs.EntryExamples.{match}
 use Rattle.paper.specs.Entry.{matchRecord}
 
@@ -136,7 +138,7 @@ oneEach =
     ++ matchRecord 1 0 0 0
     ++ matchRecord 1 0 0x20 0xFF
     ++ matchRecord 1 8 0xC1 0
-    ++ matchRecord 1 0 0 0
+    ++ matchRecord 1 0 443 443
     ++ matchRecord 1 0 5 15
 
 abbrev pub oneValues : List Case
@@ -152,21 +154,52 @@ oneValues =
     ∷ accepted "p == 0xc1"
     ∷ accepted "p::value == p"
     ∷ violated "p == 0xc0"
-    ∷ accepted "r == 0"
+    ∷ accepted "r == 443"
+    ∷ accepted "65979 == r"
     ∷ accepted "r == r::high"
-    ∷ violated "r == 1"
+    ∷ violated "r == 442"
+    ∷ violated "r == 444"
     ∷ accepted "o == 5"
     ∷ accepted "-11 == o"
     ∷ violated "o == 4"
     ∷ []
 
--- and of itself: no entry has a range with low equal to high but at 0
+-- and the match itself, number by number
 pub record OneValue : Type 0 where
   pub bits : oneValue exact 8 5 ≡ match 5 0 0
   pub masked : oneValue ternary 8 5 ≡ match 5 255 0
   pub prefixed : oneValue lpm 8 5 ≡ match 5 0 8
   pub ranged : oneValue range 8 5 ≡ match 5 5 0
   pub optionally : oneValue optional 4 5 ≡ match 5 15 0
+
+-- 02 b, "Our controller sent 443 to 443": port r of 16 bits, of one port and of its neighbours. 0 to 0 is the one port 0, and an absent
+-- key, which has the same numbers, is every port
+
+abbrev pub ports : ℕ → ℕ → ℕ → List ℕ
+ports present low high = bigEndian 4 0 ++ matchRecord present 0 low high
+
+abbrev pub IsJudged : S.String → List (On Bool) → Type 0
+IsJudged text es = Agree (judgeAnswer (bytes text) (keyRecord (bytes "r") 3 16)) es
+
+abbrev pub ofPort443 : List (On Bool)
+ofPort443 =
+    on (ports 1 443 443) (ok true)
+    ∷ on (ports 1 443 444) (ok false)
+    ∷ on (ports 1 442 443) (ok false)
+    ∷ on (ports 1 444 444) (ok false)
+    ∷ on (ports 1 444 443) (refused 20 inEntry 4)
+    ∷ []
+
+abbrev pub ofPort0 : List (On Bool)
+ofPort0 =
+    on (ports 1 0 0) (ok true)
+    ∷ on (ports 0 0 0) (ok false)
+    ∷ on (ports 1 0 1) (ok false)
+    ∷ []
+
+pub record Ports : Type 0 where
+  pub port-443 : IsJudged "r == 443" ofPort443
+  pub port-0 : IsJudged "r == 0" ofPort0
 
 -- absent keys: "It reads as value 0 with mask 0, prefix length 0, or low 0 with high 2^W − 1."
 
@@ -194,4 +227,5 @@ pub record MeaningExamples : Type 0 where
   pub on-the-marked-entry : AreJudged theKeys theEntry marked
   pub of-one-value : AreJudged theKeys oneEach oneValues
   pub one-value : OneValue
+  pub of-ports : Ports
   pub of-absent-keys : AreJudged theKeys absentEach absentValues

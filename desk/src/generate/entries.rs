@@ -86,17 +86,15 @@ fn lpm(rng: &mut Rng, width: u8, plain: Record) -> Record {
 }
 
 fn range(rng: &mut Rng, width: u8, plain: Record) -> Record {
-    let other = match rng.below(4) {
-        0 => plain.first.wrapping_add(1) & all_ones(width),
-        1 => all_ones(width),
+    let other = match rng.below(5) {
+        0 => plain.first,
+        1 => plain.first.wrapping_add(1) & all_ones(width),
+        2 => all_ones(width),
         _ => value(rng, width),
     };
-    let (low, high) = (plain.first.min(other), plain.first.max(other));
-    // Low and high may only be equal where both are 0.
-    let low = if low == high { 0 } else { low };
     Record {
-        first: low,
-        second: high,
+        first: plain.first.min(other),
+        second: plain.first.max(other),
         ..plain
     }
 }
@@ -154,9 +152,9 @@ fn nearly_good(rng: &mut Rng, key: &NamedKey) -> Record {
         (_, Kind::Lpm) => break_prefix(rng, key.width, &mut record),
         (3 | 4, Kind::Range) => {
             record.first = record.first.max(1);
-            record.second = record.first;
+            record.second = record.first - 1;
         }
-        (5, Kind::Range) => record.second = record.first.saturating_sub(1),
+        (5, Kind::Range) => record.second = record.first,
         (_, Kind::Range) => std::mem::swap(&mut record.first, &mut record.second),
     }
     record

@@ -151,10 +151,7 @@ fn broken_rule(record: &Record, key: &NamedKey) -> String {
             "value {:#x} has a bit after its first {}",
             record.first, record.prefix_length
         ),
-        Kind::Range => format!(
-            "low {} is not below high {} (only 0..0 may be equal)",
-            record.first, record.second
-        ),
+        Kind::Range => format!("low {} is above high {}", record.first, record.second),
     }
 }
 

@@ -125,10 +125,8 @@ impl Record {
                     && self.prefix_length <= key.width
                     && low_bits_zero(self.first, key.width - self.prefix_length)
             }
-            Kind::Range => {
-                let both_zero = self.first == 0 && self.second == 0;
-                no_prefix && (self.first < self.second || both_zero)
-            }
+            // Document 02 b: "low be no greater than high".
+            Kind::Range => no_prefix && self.first <= self.second,
         }
     }
 

@@ -29,6 +29,7 @@ pub mod BlockExamples
 pub mod InstructionExamples
 pub mod TranslationExamples
 pub mod PrintExamples
+pub mod PartExamples
 pub mod AnswerExamples
 pub mod FaultExamples
 pub mod Basics
@@ -80,9 +81,17 @@ pub mod PrintIsPhrase
 pub mod PrintIsShortest
 pub mod PrintReadsBack
 pub mod PrintDemands
+pub mod PartsCut
+pub mod PartsDecide
+pub mod PartsInText
+pub mod RecordsRefused
+pub mod NamesInList
+pub mod ExplainedRight
 pub mod DemandOne
 pub mod DemandTwo
 pub mod DemandThree
 pub mod WrongPrints
+pub mod WrongExplainers
+pub mod WrongExplainersExist
 pub mod WrongPrograms
 pub mod WrongProgramsExist

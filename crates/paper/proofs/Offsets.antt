@@ -16,7 +16,7 @@ abbrev Of : (List Token → Type 0) → Answer (List Token) → Type 0
 Of P (ok ts) = P ts
 Of P (refused n i at) = Unit {0}
 
-sooner : (from later below : ℕ) (ts : List Token) → from ≤ later → Rising later below ts → Rising from below ts
+pub sooner : (from later below : ℕ) (ts : List Token) → from ≤ later → Rising later below ts → Rising from below ts
 sooner from later below [] l h = tt
 sooner from later below (u ∷ us) l h = (omega (arith, h .0), h .1, h .2)
 

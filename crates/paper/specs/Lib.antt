@@ -16,6 +16,8 @@ pub mod Translating
 pub mod Print
 pub mod Sized
 pub mod Calls
+pub mod Parts
+pub mod Explained
 pub mod LoadedBlocksRun
 pub mod Ranges
 pub mod TypeSoundness
@@ -25,6 +27,8 @@ pub mod TranslationCorrect
 pub mod DamageDetected
 pub mod MarkedJudgements
 pub mod PrintReadsBack
+pub mod PartsDecide
+pub mod ExplainedRight
 pub mod Readings
 pub mod Limits
 pub mod CaseFour
@@ -41,6 +45,7 @@ pub mod BlockExamples
 pub mod InstructionExamples
 pub mod TranslationExamples
 pub mod PrintExamples
+pub mod PartExamples
 pub mod AnswerExamples
 pub mod FaultExamples
 pub mod Promised
@@ -48,4 +53,5 @@ pub mod Faults
 pub mod Table
 pub mod Demands
 pub mod WrongPrints
+pub mod WrongExplainers
 pub mod WrongPrograms

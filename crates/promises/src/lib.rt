@@ -5,6 +5,7 @@ mod calls;
 mod damage;
 mod demands;
 mod numbers;
+mod parts;
 mod printing;
 mod reading;
 mod rules;

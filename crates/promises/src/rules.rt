@@ -16,6 +16,7 @@ ghost use Rattle.paper.specs.BlockExamples.{BlockExamples};
 ghost use Rattle.paper.specs.InstructionExamples.{InstructionExamples};
 ghost use Rattle.paper.specs.TranslationExamples.{TranslationExamples};
 ghost use Rattle.paper.specs.PrintExamples.{PrintExamples};
+ghost use Rattle.paper.specs.PartExamples.{PartExamples};
 ghost use Rattle.paper.specs.AnswerExamples.{AnswerExamples};
 ghost use Rattle.paper.specs.FaultExamples.{FaultExamples};
 
@@ -117,6 +118,11 @@ pub fn examples_of_translations()
 // Texts with their prints, every operator on each side of every other, numerals in each base, and what is lent.
 pub fn examples_of_prints()
     ensures { λ _. ⌜ PrintExamples ⌝ }
+{}
+
+// Texts with their parts, both sides of each limit, and what is shown of an entry: a part, a key, or nothing.
+pub fn examples_of_parts()
+    ensures { λ _. ⌜ PartExamples ⌝ }
 {}
 
 // Each case of each public answer, and of two faults the one whose stage runs first.

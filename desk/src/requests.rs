@@ -1,14 +1,15 @@
 //! Requests and answer lines of the program `answers`.
 //!
 //! A request is one byte for the call (1 read, 2 check, 3 judge, 4 translate,
-//! 5 load, 6 run, 7 print) and three inputs, each a 4-byte big-endian length and
-//! its bytes. Each request gets one line. For a call that is lent a buffer, the
-//! third input is what the buffer holds before, and the line ends in the sum of
-//! what it holds after.
+//! 5 load, 6 run, 7 print, 8 explain) and three inputs, each a 4-byte big-endian
+//! length and its bytes. Each request gets one line. For a call that is lent a
+//! buffer, the third input is what the buffer holds before, and the line ends in
+//! the sum of what it holds after. The line of an explanation ends in the sum of
+//! the piece that it shows.
 
 use std::io::{self, Read, Write};
 
-use crate::reference;
+use crate::reference::{self, Explanation, Input};
 
 pub const LONGEST_INPUT: usize = 65_536;
 
@@ -22,10 +23,11 @@ pub enum Call {
     Load,
     Run,
     Print,
+    Explain,
 }
 
 impl Call {
-    pub const ALL: [Call; 7] = [
+    pub const ALL: [Call; 8] = [
         Call::Read,
         Call::Check,
         Call::Judge,
@@ -33,6 +35,7 @@ impl Call {
         Call::Load,
         Call::Run,
         Call::Print,
+        Call::Explain,
     ];
 
     pub fn from_byte(byte: u8) -> Option<Call> {
@@ -52,12 +55,22 @@ impl Call {
             Call::Load => "load",
             Call::Run => "run",
             Call::Print => "print",
+            Call::Explain => "explain",
         }
     }
 
-    /// Is its third input a buffer that it may write to?
-    pub fn has_buffer(self) -> bool {
-        matches!(self, Call::Translate | Call::Print)
+    /// What its three inputs are; one that is nothing is passed over.
+    pub fn inputs(self) -> [Option<Input>; 3] {
+        use Input::*;
+        match self {
+            Call::Read => [Some(Text), None, None],
+            Call::Check => [Some(Text), Some(List), None],
+            Call::Judge | Call::Explain => [Some(Text), Some(List), Some(Entry)],
+            Call::Translate => [Some(Text), Some(List), Some(Buffer)],
+            Call::Load => [Some(List), Some(Blocks), None],
+            Call::Run => [Some(List), Some(Blocks), Some(Entry)],
+            Call::Print => [Some(Text), None, Some(Buffer)],
+        }
     }
 }
 
@@ -113,12 +126,26 @@ impl Request {
             Call::Load => reference::load(first, second),
             Call::Run => reference::run(first, second, third),
             Call::Print => reference::print(first, &mut buffer),
+            Call::Explain => return explanation_line(reference::explain(first, second, third)),
         };
-        if call.has_buffer() {
+        if call.inputs().contains(&Some(Input::Buffer)) {
             format!("{answer} {}", adler32(&buffer))
         } else {
             answer.to_string()
         }
+    }
+
+    /// The index of the input that is this to the call.
+    pub fn input(&self, wanted: Input) -> Option<usize> {
+        let inputs = Call::from_byte(self.call)?.inputs();
+        inputs.iter().position(|&input| input == Some(wanted))
+    }
+}
+
+fn explanation_line(explanation: Explanation) -> String {
+    match explanation.piece() {
+        Some(piece) => format!("{explanation} {}", adler32(piece.bytes)),
+        None => explanation.to_string(),
     }
 }
 

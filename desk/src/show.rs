@@ -5,25 +5,32 @@ use crate::reference::blocks::{check_bytes, BLOCK, INSTRUCTIONS_IN_BLOCK};
 use crate::reference::code::{Instruction, Parts};
 use crate::reference::entries::{Entry, Record};
 use crate::reference::keys::{key_list, Key};
+use crate::reference::Input;
 use crate::requests::{Call, Request};
 
 /// The request in lines.
 pub fn request(request: &Request) -> String {
-    let [first, second, third] = &request.inputs;
     let Some(call) = Call::from_byte(request.call) else {
         return format!("unknown call {}\n", request.call);
     };
     let mut lines = format!("{}\n", call.name());
-    lines.push_str(&match call {
-        Call::Read => text(first),
-        Call::Check => text(first) + &list(second),
-        Call::Judge => text(first) + &list(second) + &entry(third, second),
-        Call::Translate => text(first) + &list(second) + &buffer(third),
-        Call::Load => list(first) + &blocks(second),
-        Call::Run => list(first) + &blocks(second) + &entry(third, first),
-        Call::Print => text(first) + &passed_over(second) + &buffer(third),
-    });
+    for (input, bytes) in call.inputs().into_iter().zip(&request.inputs) {
+        lines.push_str(&match input {
+            Some(Input::Text) => text(bytes),
+            Some(Input::List) => list(bytes),
+            Some(Input::Entry) => entry(bytes, list_of(request)),
+            Some(Input::Blocks) => blocks(bytes),
+            Some(Input::Buffer) => start_of("buffer", bytes),
+            None => passed_over(bytes),
+        });
+    }
     lines
+}
+
+/// The key list of a request; empty if it has none.
+fn list_of(request: &Request) -> &[u8] {
+    let index = request.input(Input::List);
+    index.map_or(&[], |index| &request.inputs[index])
 }
 
 fn text(text: &[u8]) -> String {
@@ -114,10 +121,6 @@ fn instruction(bytes: &[u8], counted: bool) -> String {
     let beyond = if counted { "" } else { ", beyond the count" };
     let (head, constant) = bytes.split_at(4);
     format!("      {} {} {words}{beyond}\n", hex(head), hex(constant))
-}
-
-fn buffer(buffer: &[u8]) -> String {
-    start_of("buffer", buffer)
 }
 
 /// An input that should play no part.

@@ -4,14 +4,16 @@ mod common;
 
 use std::collections::BTreeMap;
 
-use desk::generate::{cases, entries, lists, programs, request, rng::Rng, snippets};
+use desk::generate::explanations::MOST_PARTS;
+use desk::generate::{cases, entries, lists, programs, request, rng::Rng, snippets, SHARES};
 use desk::lists::{list_bytes, NamedKey};
 use desk::reference::blocks::{blocks_of, bytes_needed};
 use desk::reference::calls::{text_tree, LONGEST_TEXT};
 use desk::reference::entries::Entry;
 use desk::reference::keys::{Key, Kind};
+use desk::reference::parts::{parts, Piece};
 use desk::reference::printing::print_of;
-use desk::reference::{judge, load, run, translate, Answer};
+use desk::reference::{explain, judge, load, run, translate, Answer, Explanation};
 use desk::requests::{Call, Request, LONGEST_INPUT};
 
 /// "refused 13", "accepted" and so on, with how often it occurs.
@@ -38,9 +40,24 @@ fn one_seed_gives_one_run() {
     }
 }
 
+/// A request is for one of the calls that are compared, or for none at all.
+#[test]
+fn every_compared_call_occurs_and_no_other() {
+    let mut counts = BTreeMap::new();
+    for index in 0..20_000 {
+        if let Some(call) = Call::from_byte(request(9, index).call) {
+            *counts.entry(call.byte()).or_insert(0) += 1;
+        }
+    }
+    let compared: Vec<u8> = SHARES.iter().map(|(call, _)| call.byte()).collect();
+    let made: Vec<u8> = counts.keys().copied().collect();
+    assert_eq!(made, compared);
+    assert!(counts.values().all(|&count| count >= 1_000), "{counts:?}");
+}
+
 #[test]
 fn every_refusal_occurs_often() {
-    let counts = counts((0..20_000).map(|index| request(1, index)));
+    let counts = counts((0..25_000).map(|index| request(1, index)));
     for number in 1..=21 {
         let count = counts[&format!("refused {number}")];
         assert!(count >= 60, "refusal {number} occurs {count} times");
@@ -133,7 +150,7 @@ fn prints_reach_their_limits() {
     const OVER: usize = LONGEST_TEXT + 1;
     let mut counts = BTreeMap::new();
     for index in 0..4_000 {
-        let [text, _, buffer] = common::print_request(7, index).inputs;
+        let [text, _, buffer] = common::generated(Call::Print, 7, index).inputs;
         let Ok(tree) = text_tree(&text) else {
             continue;
         };
@@ -154,6 +171,78 @@ fn prints_reach_their_limits() {
     assert_eq!(counts.len(), 7, "{counts:?}");
     for (reached, count) in counts {
         assert!(count >= 10, "{reached}: {count}");
+    }
+}
+
+/// Which limit the explanation of this part lies at.
+fn limit_of_part(number: usize, piece: Piece, text: &[u8]) -> &'static str {
+    let count = parts(text).expect("a tree").len();
+    match (number, count) {
+        (_, 1) => "the only part",
+        (1, MOST_PARTS) => "the first of 512 parts",
+        (MOST_PARTS, _) => "the last of 512 parts",
+        _ if piece.stretch().end == LONGEST_TEXT => "a part that ends with the longest text",
+        _ => "another part",
+    }
+}
+
+fn limit_of_name(name: Piece) -> &'static str {
+    match name.bytes.len() {
+        1 => "a name of 1 byte",
+        Key::LONGEST_NAME => "a name of 64 bytes",
+        _ => "another name",
+    }
+}
+
+fn limit_of_key(place: usize) -> &'static str {
+    match Entry::record_at(place) {
+        Some(0) => "the first key",
+        Some(index) if index == Key::MOST - 1 => "the last of 32 keys",
+        _ => "another key",
+    }
+}
+
+fn limit_of_refusal(answer: Answer, inputs: &[Vec<u8>; 3]) -> &'static str {
+    let [text, list, entry] = inputs;
+    let Answer::Refused { number, .. } = answer else {
+        return "an accepted entry";
+    };
+    let signs = text.iter().filter(|&&byte| byte == b';').count();
+    match number {
+        1 if text.len() == LONGEST_TEXT + 1 => "a byte over the longest text",
+        7 if signs >= MOST_PARTS => "a part over the most parts",
+        20 => {
+            let mut lower = entry.clone();
+            lower[0] &= 0x7f;
+            match explain(text, list, &lower) {
+                Explanation::Key { .. } => "a bad priority that hides a key",
+                _ => "a bad priority",
+            }
+        }
+        _ => "another refusal",
+    }
+}
+
+/// Both sides of the limits of parts and texts, and the ends of names and lists.
+#[test]
+fn explanations_reach_their_limits() {
+    let mut counts = BTreeMap::new();
+    let mut reached = |what: &'static str| *counts.entry(what).or_insert(0) += 1;
+    for index in 0..6_000 {
+        let inputs = common::generated(Call::Explain, 12, index).inputs;
+        let [text, list, entry] = &inputs;
+        match explain(text, list, entry) {
+            Explanation::Part { number, piece, .. } => reached(limit_of_part(number, piece, text)),
+            Explanation::Key { place, piece } => {
+                reached(limit_of_name(piece));
+                reached(limit_of_key(place));
+            }
+            Explanation::Nothing(answer) => reached(limit_of_refusal(answer, &inputs)),
+        }
+    }
+    assert_eq!(counts.len(), 17, "{counts:?}");
+    for (reached, count) in counts {
+        assert!(count >= 15, "{reached}: {count}");
     }
 }
 

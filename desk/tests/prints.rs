@@ -10,7 +10,7 @@ use desk::reference::printing::print_of;
 use desk::reference::tokens::tokens;
 use desk::reference::tree::{Comparison, Join, Node, What};
 use desk::reference::{print, Answer};
-use desk::requests::LONGEST_INPUT;
+use desk::requests::{Call, LONGEST_INPUT};
 
 /// The largest number, and the one above it.
 const LARGEST: &str = "340282366920938463463374607431768211455";
@@ -405,7 +405,7 @@ fn roundabout(node: &Node) -> String {
 fn laws_of_generated_prints() {
     let (mut printed, mut refused, mut said_otherwise) = (0, 0, 0);
     for index in 0..4_000 {
-        let [text, _, before] = print_request(6, index).inputs;
+        let [text, _, before] = generated(Call::Print, 6, index).inputs;
         let Ok(tree) = text_tree(&text) else {
             continue;
         };

@@ -70,15 +70,22 @@ fn answer_lines() {
         Request::new(Call::Print, text("a;b"), none(), vec![1; 6]),
         Request::new(Call::Print, text("a;b"), vec![0; 3], vec![1; 3]),
         Request::new(Call::Print, text("@"), none(), vec![1; 3]),
+        Request::new(Call::Explain, text("true;(false)"), list(), entry()),
+        Request::new(Call::Explain, text("true"), list(), vec![0; 184]),
+        Request::new(Call::Explain, text("true"), list(), entry()),
+        Request::new(Call::Explain, text("@"), list(), entry()),
     ];
     let output = desk(&["answer"], &bytes(&requests));
     let sum = adler32(&block);
     let print_sum = adler32(b"a ; b\x01");
+    let part_sum = adler32(b"(false)");
+    let key_sum = adler32(b"v");
     let wanted = format!(
         "read 3\npassed\naccepted\nviolated\ntranslated 4 {sum}\nrefused 15 buffer 3 589828\n\
          loaded 4\naccepted\nrefused 5 text 0\nrefused 2 list 3\nrefused 19 entry 0\n\
          refused 16 blocks 0\nprinted 5 {print_sum}\nrefused 21 buffer 3 589828\n\
-         refused 5 text 0 589828\n"
+         refused 5 text 0 589828\npart 2 at 6 5 7 {part_sum}\nkey at 4 16 1 {key_sum}\n\
+         nothing accepted\nnothing refused 5 text 0\n"
     );
     assert_eq!(text_of(&output.stdout), wanted);
 }
@@ -99,7 +106,7 @@ fn odd_requests() {
         Request::new(Call::Read, long, Vec::new(), Vec::new()),
         Request::new(Call::Read, limit, Vec::new(), Vec::new()),
         Request {
-            call: 8,
+            call: 9,
             inputs: Default::default(),
         },
         Request {
@@ -161,6 +168,46 @@ fn show_a_print() {
     let between = "  passed over, 3 bytes: 020202...\n";
     let rest = format!("  buffer, 9 bytes: 0101010101010101...\n  answer: printed 5 {sum}\n\n");
     assert_eq!(shown, format!("{text}{rest}{text}{between}{rest}"));
+}
+
+#[test]
+fn show_an_explanation() {
+    let keys = "v exact 1";
+    let (list, entry) = (list_of(keys), entry_of(keys, "v 1"));
+    let request = Request::new(Call::Explain, b"false".to_vec(), list, entry);
+    let shown = text_of(&desk(&["show"], &bytes(&[request])).stdout);
+    let sum = adler32(b"false");
+    let wanted = format!(
+        "explain\n  text, 5 bytes: \"false\"\n  key list, 80 bytes:\n    v exact 1\n  \
+         entry, 40 bytes: priority 0; v 1\n  answer: part 1 at 0 0 5 {sum}\n\n"
+    );
+    assert_eq!(shown, wanted);
+}
+
+/// What an explanation shows is a row of its own; what shows nothing counts as
+/// its answer.
+#[test]
+fn histogram_of_explanations() {
+    let explain = |text: &str| {
+        let text = text.as_bytes().to_vec();
+        Request::new(Call::Explain, text, Vec::new(), vec![0; 4])
+    };
+    let requests = bytes(&["false", "true;false", "true", "@"].map(explain));
+    let table = text_of(&desk(&["histogram"], &requests).stdout);
+    let rows: Vec<Vec<&str>> = table
+        .lines()
+        .map(|line| line.split_whitespace().collect())
+        .collect();
+    let column = 1 + usize::from(Call::Explain.byte());
+    let counted: Vec<(&str, &str)> = rows[1..4]
+        .iter()
+        .map(|row| (row[0], row[row.len() - rows[0].len() + column]))
+        .collect();
+    assert_eq!(rows[0][column], "explain");
+    assert_eq!(
+        counted,
+        [("accepted", "1"), ("part", "2"), ("refused", "1")]
+    );
 }
 
 #[test]

@@ -3,7 +3,7 @@
 mod common;
 
 use common::*;
-use desk::reference::{check, judge, load, print, read, run, translate};
+use desk::reference::{check, explain, judge, load, print, read, run, translate};
 
 const LONG: [u8; 4097] = [b' '; 4097];
 
@@ -52,6 +52,21 @@ fn buffer_of_a_print_comes_after_grammar() {
     assert_eq!(short(print(b"zz true", &mut [])), "8@3");
     assert_eq!(short(print(b"ipv4('bad')", &mut [])), "10@5");
     assert_eq!(short(print(b"zz > true", &mut [])), "21 buffer 0");
+}
+
+/// An explanation has the stages of a judgement.
+#[test]
+fn explain_as_judge() {
+    let explained =
+        |text: &[u8], list: &[u8], entry: &[u8]| short_explanation(explain(text, list, entry));
+    assert_eq!(explained(&LONG, &[0; 3], &[]), "nothing 1@4096");
+    assert_eq!(explained(b"\xff", &[0; 3], &[]), "nothing 2 list 3");
+    assert_eq!(explained(b"zz true", &list(), &[]), "nothing 8@3");
+    assert_eq!(explained(b"zz", &list(), &[]), "nothing 11@0");
+    assert_eq!(explained(b"1", &list(), &[]), "nothing 14@0");
+    assert_eq!(explained(b"false", &list(), &[]), "nothing 19 entry 0");
+    assert_eq!(explained(b"false", &list(), &[0; 184]), "key @4 16..17");
+    assert_eq!(explained(b"false", &list(), &entry()), "part 1 @0 0..5");
 }
 
 #[test]

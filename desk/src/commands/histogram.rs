@@ -30,8 +30,9 @@ pub fn print(rest: &[String]) -> Result<(), Trouble> {
 }
 
 /// The line without what is different for each request; refusals in the order
-/// of their numbers.
+/// of their numbers. An explanation that shows nothing counts as its answer.
 fn kind_of(line: &str) -> (u32, String) {
+    let line = line.strip_prefix("nothing ").unwrap_or(line);
     let words: Vec<&str> = line.split(' ').collect();
     match words[..] {
         ["refused", number, ..] => {

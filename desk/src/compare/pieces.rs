@@ -7,7 +7,8 @@ use crate::reference::code::{Instruction, Parts};
 use crate::reference::entries::Entry;
 use crate::reference::keys::Key;
 use crate::reference::tokens::tokens;
-use crate::requests::{Call, Request};
+use crate::reference::Input;
+use crate::requests::Request;
 
 /// A way to divide a request into pieces.
 #[derive(Clone, Copy, PartialEq, Eq, Debug)]
@@ -95,10 +96,10 @@ impl Division {
     pub fn count(self, request: &Request) -> usize {
         let length = |input: Option<usize>| input.map_or(0, |i| request.inputs[i].len());
         match self {
-            Division::Keys => length(list_input(request)) / Key::SIZE,
+            Division::Keys => length(request.input(Input::List)) / Key::SIZE,
             Division::Tokens => token_pieces(request).len(),
             Division::Instructions => code(request).map_or(0, |(_, code, _)| code.len()),
-            Division::Blocks => length(blocks_input(request)) / BLOCK,
+            Division::Blocks => length(request.input(Input::Blocks)) / BLOCK,
             Division::Bytes(input) => request.inputs[input].len(),
             Division::NonZeros(input) => non_zeros(&request.inputs[input]).count(),
         }
@@ -110,9 +111,11 @@ impl Division {
         match self {
             Division::Keys => drop_keys(&mut simpler, stretch),
             Division::Tokens => {
-                let filling = deed.token().map(|token| [token, b" "].concat());
-                let pieces = changed(token_pieces(request), deed, stretch, filling);
-                simpler.inputs[0] = pieces.concat();
+                if let Some(input) = request.input(Input::Text) {
+                    let filling = deed.token().map(|token| [token, b" "].concat());
+                    let pieces = changed(token_pieces(request), deed, stretch, filling);
+                    simpler.inputs[input] = pieces.concat();
+                }
             }
             Division::Instructions => {
                 if let Some((input, code, keys)) = code(request) {
@@ -122,7 +125,7 @@ impl Division {
                 }
             }
             Division::Blocks => {
-                if let Some(input) = blocks_input(request) {
+                if let Some(input) = request.input(Input::Blocks) {
                     let bytes = stretch.start * BLOCK..stretch.end * BLOCK;
                     simpler.inputs[input].drain(bytes);
                 }
@@ -156,33 +159,12 @@ fn non_zeros(bytes: &[u8]) -> impl Iterator<Item = usize> + '_ {
     (0..bytes.len()).filter(|&place| bytes[place] != 0)
 }
 
-/// The input that holds the key list.
-fn list_input(request: &Request) -> Option<usize> {
-    match Call::from_byte(request.call)? {
-        Call::Read | Call::Print => None,
-        Call::Check | Call::Judge | Call::Translate => Some(1),
-        Call::Load | Call::Run => Some(0),
-    }
-}
-
-/// The input that holds the blocks.
-fn blocks_input(request: &Request) -> Option<usize> {
-    match Call::from_byte(request.call)? {
-        Call::Load | Call::Run => Some(1),
-        _ => None,
-    }
-}
-
 /// The text cut before each of its tokens; nothing if there are no good ones.
 fn token_pieces(request: &Request) -> Vec<Vec<u8>> {
-    let has_text = matches!(
-        Call::from_byte(request.call),
-        Some(Call::Read | Call::Check | Call::Judge | Call::Translate | Call::Print)
-    );
-    let text = &request.inputs[0];
-    if !has_text {
+    let Some(input) = request.input(Input::Text) else {
         return Vec::new();
-    }
+    };
+    let text = &request.inputs[input];
     let mut cuts: Vec<usize> = match tokens(text) {
         Ok(found) => found.iter().map(|token| token.place).collect(),
         Err(_) => return Vec::new(),
@@ -195,25 +177,25 @@ fn token_pieces(request: &Request) -> Vec<Vec<u8>> {
 
 /// The input that holds blocks of good layout, their code and number of keys.
 fn code(request: &Request) -> Option<(usize, Vec<Parts>, usize)> {
-    let input = blocks_input(request)?;
+    let input = request.input(Input::Blocks)?;
     let blocks = &request.inputs[input];
-    let keys = request.inputs[list_input(request)?].len() / Key::SIZE;
+    let keys = request.inputs[request.input(Input::List)?].len() / Key::SIZE;
     let total = checked_layout(blocks, keys).ok()?;
     Some((input, all_parts(blocks, total).collect(), keys))
 }
 
 /// Drops key records with all that belongs to them.
 fn drop_keys(request: &mut Request, keys: Range<usize>) {
-    let Some(list) = list_input(request) else {
+    let Some(list) = request.input(Input::List) else {
         return;
     };
     let blocks = code(request);
     request.inputs[list].drain(keys.start * Key::SIZE..keys.end * Key::SIZE);
     let records = Entry::size(keys.start)..Entry::size(keys.end);
-    let call = Call::from_byte(request.call);
-    let has_entry = matches!(call, Some(Call::Judge | Call::Run));
-    if has_entry && request.inputs[2].len() >= records.end {
-        request.inputs[2].drain(records);
+    if let Some(entry) = request.input(Input::Entry) {
+        if request.inputs[entry].len() >= records.end {
+            request.inputs[entry].drain(records);
+        }
     }
     if let Some((input, mut code, count)) = blocks {
         for parts in &mut code {

@@ -106,19 +106,24 @@ pub fn damaged(rng: &mut Rng, keys: &[NamedKey], entry: &Entry) -> Vec<u8> {
         0 | 1 => damage::cut_or_extend(rng, &mut bytes),
         2 => bytes.truncate(rng.below(bytes.len() + 1)),
         3 => bytes.extend_from_slice(&[0; Record::SIZE]),
-        4 => bytes[0] |= 0x80,
+        4 => break_priority(&mut bytes),
         5 => damage::any(rng, &mut bytes),
-        _ => break_a_record(rng, keys, &mut bytes),
+        _ if keys.is_empty() => bytes[0] = rng.byte(),
+        _ => {
+            let index = rng.below(keys.len());
+            break_record(rng, keys, index, &mut bytes);
+        }
     }
     bytes
 }
 
-fn break_a_record(rng: &mut Rng, keys: &[NamedKey], bytes: &mut [u8]) {
-    if keys.is_empty() {
-        bytes[0] = rng.byte();
-        return;
-    }
-    let index = rng.below(keys.len());
+/// Makes the priority of an entry 2^31 or more.
+pub fn break_priority(bytes: &mut [u8]) {
+    bytes[0] |= 0x80;
+}
+
+/// Breaks the record of the key of this index, or nearly so.
+pub fn break_record(rng: &mut Rng, keys: &[NamedKey], index: usize, bytes: &mut [u8]) {
     let start = Entry::size(index);
     let record = &mut bytes[start..start + Record::SIZE];
     match rng.below(12) {

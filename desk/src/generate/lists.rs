@@ -59,6 +59,25 @@ pub fn good(rng: &mut Rng, about: usize) -> Vec<NamedKey> {
     keys
 }
 
+/// A good list of as many keys as there may be, with names as short and as long
+/// as there may be.
+pub fn full(rng: &mut Rng) -> Vec<NamedKey> {
+    const INITIALS: &[u8; Key::MOST] = b"abcdefghijklmnopqrstuvwxyzABCDE_";
+    INITIALS
+        .iter()
+        .map(|&initial| {
+            let length = rng.pick(&[1, 1, 2, Key::LONGEST_NAME - 1, Key::LONGEST_NAME]);
+            let mut name = vec![initial];
+            name.resize(length, b'x');
+            NamedKey {
+                name,
+                kind: rng.pick(&Kind::ALL),
+                width: rng.pick(&WIDTHS),
+            }
+        })
+        .collect()
+}
+
 /// Widths repeat often, so that keys of one list can be compared.
 fn width(rng: &mut Rng, keys: &[NamedKey]) -> u8 {
     if !keys.is_empty() && rng.percent(40) {

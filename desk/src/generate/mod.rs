@@ -5,6 +5,7 @@ pub mod buffers;
 pub mod cases;
 pub mod damage;
 pub mod entries;
+pub mod explanations;
 pub mod limits;
 pub mod lists;
 pub mod prints;
@@ -19,8 +20,9 @@ use crate::requests::{Call, Request, LONGEST_INPUT};
 use rng::Rng;
 use scenes::Scene;
 
-/// How often each call is made, in so many parts.
-const SHARES: [(Call, usize); 7] = [
+/// The calls that `desk generate` and `desk compare` make, and how often each
+/// is made, in so many parts. A call enters here once the product answers it.
+pub const SHARES: &[(Call, usize)] = &[
     (Call::Read, 2),
     (Call::Check, 3),
     (Call::Judge, 5),
@@ -55,6 +57,9 @@ fn odd_request(rng: &mut Rng) -> Request {
     }
     let length = LONGEST_INPUT + rng.below(2);
     inputs[rng.below(3)] = vec![b' '; length];
-    let call = rng.pick(&Call::ALL).byte();
-    Request { call, inputs }
+    let (call, _) = rng.pick(SHARES);
+    Request {
+        call: call.byte(),
+        inputs,
+    }
 }

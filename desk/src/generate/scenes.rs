@@ -2,7 +2,8 @@
 
 use super::rng::Rng;
 use super::{
-    blocks, buffers, damage, entries, limits, lists, prints, programs, snippets, spelling, texts,
+    blocks, buffers, damage, entries, explanations, limits, lists, prints, programs, snippets,
+    spelling, texts,
 };
 use crate::lists::{list_bytes, NamedKey};
 use crate::reference;
@@ -41,6 +42,16 @@ impl Scene {
         }
     }
 
+    /// As many keys as there may be.
+    fn full(rng: &mut Rng) -> Scene {
+        let keys = lists::full(rng);
+        Scene {
+            entry: entries::good(rng, &keys),
+            keys,
+            marked: false,
+        }
+    }
+
     pub fn request(&self, rng: &mut Rng, call: Call) -> Request {
         let none = Vec::new;
         match call {
@@ -51,6 +62,7 @@ impl Scene {
             Call::Load => Request::new(call, self.list(rng), self.blocks(rng), none()),
             Call::Run => self.run(rng),
             Call::Print => self.print(rng),
+            Call::Explain => self.explain(rng),
         }
     }
 
@@ -95,6 +107,29 @@ impl Scene {
         };
         let buffer = buffers::for_print(rng, &text);
         Request::new(Call::Print, text, passed_over, buffer)
+    }
+
+    fn explain(&self, rng: &mut Rng) -> Request {
+        match rng.below(8) {
+            0 | 1 => {
+                // Whatever is judged may be explained.
+                let inputs = self.judge(rng).inputs;
+                let call = Call::Explain.byte();
+                Request { call, inputs }
+            }
+            2 | 3 => Scene::full(rng).explain_a_key(rng),
+            _ => {
+                let text = explanations::text(rng, &self.keys, &self.entry);
+                Request::new(Call::Explain, text, self.list(rng), self.entry(rng))
+            }
+        }
+    }
+
+    /// The entry alone is wrong, most often at a key.
+    fn explain_a_key(&self, rng: &mut Rng) -> Request {
+        let (text, list) = (self.good_text(rng), list_bytes(&self.keys));
+        let entry = explanations::broken_entry(rng, &self.keys, &self.entry);
+        Request::new(Call::Explain, text, list, entry)
     }
 
     pub fn list(&self, rng: &mut Rng) -> Vec<u8> {

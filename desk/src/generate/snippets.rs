@@ -236,6 +236,54 @@ pub const TEXTS: &[&str] = &[
     "v == -340282366920938463463374607431768211455",
 ];
 
+/// Texts of several parts, for any keys.
+pub const PARTS: &[&str] = &[
+    // Signs in parentheses divide nothing.
+    "(true;false);true",
+    "true;false;true",
+    "true;(false;true)",
+    "true;(true;false);false",
+    "(true;(true;false));false",
+    "((true;false);true);false",
+    "((false;true));false;",
+    "(true;true;false)",
+    "((((true;false))));true",
+    "!(true;false);!(true;true);false",
+    "false->(false;true);false->true;true->false",
+    "true==(true;false);false",
+    "1<ipv4('0.0.0.1');false",
+    "true&&(true;true)||(false;true);(false)",
+    // Blanks and remarks stand before, behind and in parts.
+    " true ; false ; true ",
+    "true // ;\n; // ;(\nfalse // ;",
+    "// ;\n true ;\r\n\t( // )\n false ) ;",
+    "true;1 // ;\n == // ;\n 2 // ;\n;true",
+    "// false;\nfalse",
+    // Roots of all sorts.
+    "true;false",
+    "true;!true",
+    "true;!!(false)",
+    "true;((!(true)))",
+    "true;1==2",
+    "true;(1)>=(2)",
+    "true;-1==1",
+    "true;true&&false;",
+    "true;(true->false)",
+    "true;(false||false)",
+    "::priority<0;false",
+    "true; :: priority == -1",
+    // None is false, or there is no such text.
+    "true",
+    "true;",
+    "(true;true);true;",
+    "false;;false",
+    ";false",
+    "(true;false;)",
+    "(true;false",
+    "true);false",
+    "false;1",
+];
+
 /// Texts to print; what their words name plays no part.
 pub const PRINTS: &[&str] = &[
     // Blanks and signs at the end.

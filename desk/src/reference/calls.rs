@@ -8,6 +8,7 @@ use super::answers::{Answer, Input, Refusal};
 use super::blocks::{blocks_of, bytes_needed, checked_layout};
 use super::code::Instruction;
 use super::entries::Entry;
+use super::explaining::{first_false_part, key_of_record, Explanation};
 use super::grammar::tree;
 use super::keys::{key_list, Key};
 use super::loading::checked_code;
@@ -93,6 +94,19 @@ pub fn print(text: &[u8], buffer: &mut [u8]) -> Answer {
         Ok(Answer::Printed(length))
     };
     printing().into()
+}
+
+/// Judges an entry, and tells what broke; it has the stages of `judge`.
+pub fn explain<'t, 'l>(text: &'t [u8], list: &'l [u8], entry: &[u8]) -> Explanation<'t, 'l> {
+    let answer = judge(text, list, entry);
+    let shown = match answer {
+        Answer::Violated => first_false_part(text, list, entry),
+        Answer::Refused {
+            number: 20, offset, ..
+        } => key_of_record(offset, list),
+        _ => None,
+    };
+    shown.unwrap_or(Explanation::Nothing(answer))
 }
 
 /// Stage 1.

@@ -32,6 +32,12 @@ impl Entry {
         Entry::PRIORITY_SIZE + keys * Record::SIZE
     }
 
+    /// The index of the record at this place; none at the priority.
+    pub fn record_at(place: usize) -> Option<usize> {
+        let beyond = place.checked_sub(Entry::PRIORITY_SIZE)?;
+        Some(beyond / Record::SIZE)
+    }
+
     /// The entry that these bytes hold: stage 19, then stage 20.
     pub fn from_bytes(bytes: &[u8], keys: &[Key]) -> Result<Entry, Refusal> {
         if bytes.len() != Entry::size(keys.len()) {

@@ -4,7 +4,7 @@
 //! "Wanted: reading a restriction, checking its types against a key list,
 //! judging one entry directly from the text, translating a text into blocks,
 //! loading blocks, running loaded blocks on an entry." And document 02's "Print
-//! a restriction in house style".
+//! a restriction in house style" and "Tell me on site what broke".
 //!
 //! The files follow the documents' sections. Plainness comes before speed:
 //! what stands here is meant to be held against the paper, line by line.
@@ -15,6 +15,7 @@ pub mod blocks;
 pub mod calls;
 pub mod code;
 pub mod entries;
+pub mod explaining;
 pub mod fields;
 pub mod grammar;
 pub mod keys;
@@ -22,6 +23,7 @@ pub mod ladder;
 pub mod loading;
 pub mod meaning;
 pub mod numbers;
+pub mod parts;
 pub mod printing;
 pub mod running;
 pub mod tokens;
@@ -32,4 +34,5 @@ pub mod values;
 pub mod words;
 
 pub use answers::{Answer, Input};
-pub use calls::{check, judge, load, print, read, run, translate};
+pub use calls::{check, explain, judge, load, print, read, run, translate};
+pub use explaining::Explanation;

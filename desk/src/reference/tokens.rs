@@ -14,6 +14,8 @@ pub const MOST_TOKENS: usize = 1024;
 pub struct Token<'t> {
     /// The offset of the token's first byte in the text.
     pub place: usize,
+    /// One past the offset of its last byte.
+    pub end: usize,
     pub shape: Shape<'t>,
 }
 
@@ -78,8 +80,9 @@ pub fn tokens(text: &[u8]) -> Result<Vec<Token<'_>>, Refusal> {
         if found.len() == MOST_TOKENS {
             return Err(Refusal::text(7, place));
         }
-        found.push(Token { place, shape });
-        place = skip_blanks(text, place + length);
+        let end = place + length;
+        found.push(Token { place, end, shape });
+        place = skip_blanks(text, end);
     }
     Ok(found)
 }

@@ -7,7 +7,8 @@ use desk::lists::list_bytes;
 use desk::pack::entries::Rules;
 use desk::pack::{entries_from_text, keys_from_text};
 use desk::reference::calls::LONGEST_TEXT;
-use desk::reference::{check, judge, load, print, read, run, translate, Answer, Input};
+use desk::reference::{check, explain, judge, load, print, read, run, translate};
+use desk::reference::{Answer, Explanation, Input};
 use desk::requests::{Call, Request};
 
 pub const KEYS: &str = "v exact 1\nd ternary 8\np lpm 8\nr range 16\no optional 4\n";
@@ -102,10 +103,28 @@ pub fn printing(text: impl AsRef<[u8]>) -> String {
     }
 }
 
-/// Generated request `index` to print, of the run with this seed.
-pub fn print_request(seed: u64, index: u64) -> Request {
+/// "part 2 @15 8..23" for number, root's place and stretch, "key @40 96..97" for
+/// the record's place and the name's stretch, "nothing A".
+pub fn short_explanation(explanation: Explanation) -> String {
+    match explanation {
+        Explanation::Part {
+            number,
+            place,
+            piece,
+        } => format!("part {number} @{place} {:?}", piece.stretch()),
+        Explanation::Key { place, piece } => format!("key @{place} {:?}", piece.stretch()),
+        Explanation::Nothing(answer) => format!("nothing {}", short(answer)),
+    }
+}
+
+pub fn explaining(text: impl AsRef<[u8]>) -> String {
+    short_explanation(explain(text.as_ref(), &list(), &entry()))
+}
+
+/// Generated request `index` for this call, of the run with this seed.
+pub fn generated(call: Call, seed: u64, index: u64) -> Request {
     let mut rng = Rng::for_item(seed, index);
-    Scene::new(&mut rng, 8, 7).request(&mut rng, Call::Print)
+    Scene::new(&mut rng, 8, 7).request(&mut rng, call)
 }
 
 /// Holds each text against its wanted answer.

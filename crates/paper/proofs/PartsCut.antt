@@ -18,15 +18,15 @@ use Rattle.paper.proofs.Refusals.{read-is-valid}
 
 -- tokens before the first of some parts, in it
 
-abbrev before : List Token → List (List Token) → List (List Token)
+abbrev pub before : List Token → List (List Token) → List (List Token)
 before [] ps = ps
 before (u ∷ us) ps = inFront u (before us ps)
 
-before-append : (us vs : List Token) (ps : List (List Token)) → before (us ++ vs) ps ≡ before us (before vs ps)
+pub before-append : (us vs : List Token) (ps : List (List Token)) → before (us ++ vs) ps ≡ before us (before vs ps)
 before-append [] vs ps = refl
 before-append (u ∷ us) vs ps = ap (inFront u) (before-append us vs ps)
 
-before-none : (us : List Token) (ps : List (List Token)) → before us ([] ∷ ps) ≡ us ∷ ps
+pub before-none : (us : List Token) (ps : List (List Token)) → before us ([] ∷ ps) ≡ us ∷ ps
 before-none [] ps = refl
 before-none (u ∷ us) ps = ap (inFront u) (before-none us ps)
 

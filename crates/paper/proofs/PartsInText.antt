@@ -279,7 +279,7 @@ pub few-parts : FewParts
 unfolding topLevel
 few-parts ts = omega (arith, kept-weight (between 0 ts), between-weight 0 ts)
 
-as-many : {text : List ℕ} {n : ℕ} {ps : List (List Token)} {made : List Part} → Made text n ps made → length made ≡ length ps
+pub as-many : {text : List ℕ} {n : ℕ} {ps : List (List Token)} {made : List Part} → Made text n ps made → length made ≡ length ps
 as-many no-part = refl
 as-many (a-part p t read more) = ap suc (as-many more)
 

@@ -6,16 +6,17 @@ use native.Mathlib.Omega.{arith}
 use lib.ListN.{length, getD, drop}
 use lib.Seq.{sets}
 use Rattle.paper.specs.Answers.{Answer, ok, refused, inText}
-use Rattle.paper.specs.Tokens.{Token, scan, tokensFrom, tokens, mostTokens}
+use Rattle.paper.specs.Tokens.{Token, Scan, scan, tokensFrom, tokens, mostTokens}
+use Rattle.paper.specs.Parts.{taken, tokenEnd}
 use Rattle.number.specs.Values.{value}
 use Rattle.number.specs.declared.magnitude.Magnitude.{Magnitude}
 use Rattle.tokens.specs.Scanned.{Stands}
 use Rattle.tokens.specs.Tape.{Tape, tapeOf, Room, rowAt, Has, rowOf, tokensOn}
-use Rattle.tokens.specs.Tokenized.{Cut, SpansOn}
+use Rattle.tokens.specs.Tokenized.{Cut, SpansOn, EndsOn}
 use Rattle.tokens.specs.declared.found.Lexeme.{Lexeme}
 use Rattle.tokens.specs.declared.found.Lexeme.the-variants as F
 use Rattle.tokens.proofs.Steps.{following, following-one, blank-step, token-step, full-step, no-step, large-step, end-step}
-use Rattle.tokens.proofs.Storing.{tokens-stored, spans-stored}
+use Rattle.tokens.proofs.Storing.{tokens-stored, spans-stored, ends-stored}
 
 -- what the paper scans at a byte
 abbrev pub Here : List ℕ → ℕ → ℕ → Lexeme → Type 0
@@ -28,6 +29,7 @@ pub record Going (T : Tape) (n at : ℕ) : Type 0 where
   pub inside : at ≤ length (T .text)
   pub says : following (tokensOn T 0 n) (tokensFrom 0 at (mostTokens - n) (drop at (T .text))) ≡ tokens (T .text)
   pub placed : (i : ℕ) → i < n → SpansOn T i
+  pub ended : (i : ℕ) → i < n → EndsOn T i
 
 following-none : (a : Answer (List Token)) → following [] a ≡ a
 following-none (ok ts) = refl
@@ -42,6 +44,7 @@ going-start T =
       inside = omega arith;
       says = following-none (tokensFrom 0 0 mostTokens (T .text));
       placed = λ i h. absurd (omega arith);
+      ended = λ i h. absurd (omega arith);
     }
 
 module _ (text rows : List ℕ) (n at : ℕ) (g : Going (tapeOf text rows) n at) (h : at < length text) where
@@ -56,11 +59,20 @@ module _ (text rows : List ℕ) (n at : ℕ) (g : Going (tapeOf text rows) n at)
         inside = w .ends .1;
         says = from-here _ (blank-step text at (mostTokens - n) h end (w .ends .0) (sym (w .says)));
         placed = g .placed;
+        ended = g .ended;
       }
 
   -- a slice with room has a row for the next token
   pub going-row : (size : List ℕ) → Room text size → length rows ≡ length size → n < mostTokens → Has rows n
   going-row size room same few = omega (arith, room (n + 1) (omega arith) (omega (arith, g .taken)))
+
+  -- a token ends where the paper's scan has taken it
+  scanned-end : (v kind end : ℕ) → Here text at v (F.Token kind end) → end ≡ tokenEnd text at
+  unfolding tokenEnd
+  scanned-end v kind end w =
+      let all : suc at + (end - (at + 1)) ≡ end = omega (arith, w .ends .taken) in
+      let next : at + 1 ≡ suc at = omega arith in
+      sym all ∙ ap (λ (s : Scan). suc at + taken s) (w .says) ∙ ap (λ (i : ℕ). suc at + taken (scan (getD text at 0) (drop i text))) next
 
   pub going-token : (after : List ℕ) (kind end : ℕ) (m : Magnitude) → n < mostTokens → Has rows n
       → after ≡ sets rows (rowAt n) (rowOf kind at end m) → Here text at (value m) (F.Token kind end)
@@ -78,6 +90,7 @@ module _ (text rows : List ℕ) (n at : ℕ) (g : Going (tapeOf text rows) n at)
             ∙ sym (following-one (tokensOn (tapeOf text rows) 0 n) _ rest)
             ∙ from-here _ (ap (λ k. tokensFrom 0 at k (drop at text)) e ∙ step);
         placed = spans-stored text rows after n kind at end m room put (w .ends) (g .placed);
+        ended = ends-stored text rows after n kind at end m room put (scanned-end (value m) kind end w) (g .ended);
       }
 
   pub going-full : (v kind end : ℕ) → n ≡ mostTokens → Here text at v (F.Token kind end)
@@ -101,4 +114,4 @@ module _ (T : Tape) (n at : ℕ) (g : Going T n at) where
       ∙ ap (following (tokensOn T 0 n)) (sym (end-step (T .text) at (mostTokens - n) h)) ∙ g .says
 
   pub going-cut : Cut T n
-  going-cut = record { few = g .few; short = omega (arith, g .taken, g .inside); spans = g .placed }
+  going-cut = record { few = g .few; short = omega (arith, g .taken, g .inside); spans = g .placed; ends = g .ended }

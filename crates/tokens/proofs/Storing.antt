@@ -9,11 +9,12 @@ use borrow.Author.Count.{below-more}
 use lib.ListN.{length, getD, set, length-set}
 use lib.Seq.{sets, getD-set-same, getD-set-other}
 use Rattle.paper.specs.Tokens.{Token}
+use Rattle.paper.specs.Parts.{tokenEnd}
 use Rattle.number.specs.Values.{value, nested}
 use Rattle.number.specs.declared.magnitude.Magnitude.{Magnitude}
 use Rattle.tokens.specs.Scanned.{Spans}
 use Rattle.tokens.specs.Tape.{tapeOf, rowWords, rowAt, Has, wordAt, numberAt, rowOf, tokOf, tokenOn, tokensOn}
-use Rattle.tokens.specs.Tokenized.{SpansOn}
+use Rattle.tokens.specs.Tokenized.{SpansOn, EndsOn}
 use Rattle.tokens.proofs.Tapes.{tape-snoc, tape-same}
 
 sets-below : (vs l : List ℕ) (at i : ℕ) → i < at → getD (sets l at vs) i 0 ≡ getD l i 0
@@ -67,3 +68,10 @@ module _ (text rows after : List ℕ) (n kind from to : ℕ) (m : Magnitude)
         below-more (SpansOn (tapeOf text after)) n
         (λ i h. rw (← kept i 0 h (omega arith), ← kept i 1 h (omega arith), ← kept i 2 h (omega arith)) (old i h))
         (rw (new 0 (omega arith), new 1 (omega arith), new 2 (omega arith)) here)
+
+    pub ends-stored : to ≡ tokenEnd text from → ((i : ℕ) → i < n → EndsOn (tapeOf text rows) i)
+        → (i : ℕ) → i < n + 1 → EndsOn (tapeOf text after) i
+    ends-stored here old =
+        below-more (EndsOn (tapeOf text after)) n
+        (λ i h. rw (← kept i 1 h (omega arith), ← kept i 2 h (omega arith)) (old i h))
+        (rw (new 1 (omega arith), new 2 (omega arith)) here)

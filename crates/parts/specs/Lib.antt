@@ -1,0 +1,4 @@
+pub mod Rows
+pub mod Cutting
+pub mod Spine
+pub mod Found

@@ -1,6 +1,6 @@
 // The digits of a number, in any base from 2 to 16.
 ghost use mathlib.Core.Path.{_≡_};
-ghost use Prim.Native.Nat.{_+_, _*_, _^_, _<_, _≤_};
+ghost use Prim.Native.Nat.{_+_, _*_, _/_, _%_, _^_, _<_, _≤_};
 ghost use lib.Dec.{ltb};
 ghost use Rattle.paper.specs.Print.{digitByte, numeralIn};
 ghost use mathlib.Core.Bool.{true};
@@ -25,23 +25,65 @@ struct Split {
     rest: u32,
 }
 
+// The base of most numerals. To divide by a number that the compiler knows is many times faster than by any other.
+const TEN: u32 = 10;
+
+fn quotient(n: u64, base: u32) -> u64
+    requires { ⌜ 0 < base ⌝ }
+    ensures { λ r. ⌜ r ≡ n / base ⌝ }
+{
+    if base == TEN {
+        return n / 10;
+    }
+    n / base as u64
+}
+
+fn short_quotient(n: u32, base: u32) -> u32
+    requires { ⌜ 0 < base ⌝ }
+    ensures { λ r. ⌜ r ≡ n / base ⌝ }
+{
+    if base == TEN {
+        return n / 10;
+    }
+    n / base
+}
+
+fn short_remainder(n: u32, base: u32) -> u32
+    requires { ⌜ 0 < base ⌝ }
+    ensures { λ r. ⌜ r ≡ n % base ⌝ }
+{
+    if base == TEN {
+        return n % 10;
+    }
+    n % base
+}
+
+fn remainder(n: u64, base: u32) -> u64
+    requires { ⌜ 0 < base ⌝ }
+    ensures { λ r. ⌜ r ≡ n % base ⌝ }
+{
+    if base == TEN {
+        return n % 10;
+    }
+    n % base as u64
+}
+
 // A limb divided, after what the limbs above it left over.
 fn divide_limb(limb: u32, over: u32, base: u32) -> Split
     requires { ⌜ over < base ⌝ }
     ensures { λ r. ⌜ (r .limb * base + r .rest ≡ over * 2 ^ 32 + limb) × (r .rest < base) ⌝ }
 {
     let both = over as u64 * 0x1_0000_0000 + limb as u64;
-    let by = base as u64;
     // A division is slow, and of a number's upper limbs there is mostly nothing to divide.
-    if both < by {
+    if both < base as u64 {
         return Split {
             limb: 0,
             rest: both as u32,
         };
     }
     Split {
-        limb: (both / by) as u32,
-        rest: (both % by) as u32,
+        limb: quotient(both, base) as u32,
+        rest: remainder(both, base) as u32,
     }
 }
 
@@ -94,8 +136,8 @@ impl Magnitude {
     {
         if self.is_small() {
             return Divided {
-                number: Magnitude::of(self.limbs[0] / base),
-                rest: self.limbs[0] % base,
+                number: Magnitude::of(short_quotient(self.limbs[0], base)),
+                rest: short_remainder(self.limbs[0], base),
             };
         }
         self.divide_limbs(base)

@@ -15,26 +15,26 @@ both s = s .args .over * 2 ^ 32 + s .args .limb
 some-base : (s : tie.Start) → 0 < s .args .base
 some-base s = omega (arith, s .pre)
 
-whole-fits : tie.Need-cast-t10
+whole-fits : tie.Need-cast-t9
 whole-fits c = record { fits = omega (arith, c .if1 .taken, c .before .fits .base .fits) }
 
 left-whole : tie.Need-returns
 left-whole c = (omega arith, c .if1 .taken)
 
-limb-fits : tie.Need-cast-t11
+limb-fits : tie.Need-cast-t10
 limb-fits c =
-    let s : tie.Start = c .before in
-    record { fits = quotient-fits (s .args .limb) (s .args .over) (s .args .base) (s .fits .limb .fits) (s .pre) }
+    let s : tie.Start = c .before .before in
+    record { fits = omega (arith, c .quotient .ensures, quotient-fits (s .args .limb) (s .args .over) (s .args .base) (s .fits .limb .fits) (s .pre)) }
 
-rest-fits : tie.Need-cast-t12
+rest-fits : tie.Need-cast-t11
 rest-fits c =
-    let s : tie.Start = c .before in
-    record { fits = omega (arith, mod-lt (both s) (some-base s), s .fits .base .fits) }
+    let s : tie.Start = c .before .before .before in
+    record { fits = omega (arith, c .remainder .ensures, mod-lt (both s) (some-base s), s .fits .base .fits) }
 
 divided : tie.Need-returns-2
 divided c =
-    let s : tie.Start = c .before in
-    (div-add-mod' (both s) (s .args .base), mod-lt (both s) (some-base s))
+    let s : tie.Start = c .before .before .before in
+    rw (c .before .quotient .ensures, c .remainder .ensures) (div-add-mod' (both s) (s .args .base), mod-lt (both s) (some-base s))
 
 pub divide-limb-spec : {M : Type 1} → statement M
 divide-limb-spec =
@@ -44,8 +44,8 @@ divide-limb-spec =
     (λ c. search needs)
     whole-fits
     left-whole
-    (λ c. search needs)
+    (λ c κs. some-base (c .before))
     limb-fits
-    (λ c. search needs)
+    (λ c κs. some-base (c .before .before))
     rest-fits
     divided)

@@ -5,14 +5,22 @@ use borrow.Author.Needs.{needs}
 use Rattle.number.proofs.magnitude.Magnitude.divide.Statement.{statement}
 use Rattle.number.proofs.magnitude.Magnitude.divide.Tie as tie
 
+-- where the lowest limb has been divided; and from there where it is known to be the number
+abbrev quotient-at : tie.After-short-remainder → tie.After-of
+quotient-at c = c .before .before
+
+abbrev small-at : tie.After-of → tie.Then1
+small-at c = c .before .before .before
+
 small-divided : tie.Need-returns
 small-divided c =
-    let there : tie.Then1 = c .before .before .before in
+    let whole = quotient-at c in
+    let there = small-at whole in
     let s : tie.Start = there .before .before in
     let lowest = there .before .is-small .ensures (there .if1 .taken) in
     record {
-      whole = c .before .of .ensures ∙ ap (λ (n : ℕ). n / s .args .base) (sym lowest);
-      rest = ap (λ (n : ℕ). n % s .args .base) (sym lowest);
+      whole = whole .of .ensures ∙ whole .before .short-quotient .ensures ∙ ap (λ (n : ℕ). n / s .args .base) (sym lowest);
+      rest = c .short-remainder .ensures ∙ ap (λ (n : ℕ). n % s .args .base) (sym lowest);
     }
 
 pub divide-spec : {M : Type 1} → statement M
@@ -21,10 +29,10 @@ divide-spec =
     (tie.spec
     (λ c κs. search needs)
     (λ c. search needs)
-    (λ c. search needs)
+    (λ c κs. search needs)
     (λ c κs. search needs)
     (λ c. search needs)
-    (λ c. search needs)
+    (λ c κs. search needs)
     small-divided
     (λ c κs. search needs)
     (λ c. search needs))

@@ -1,31 +1,27 @@
 -- Bytes written one piece after the other into a lent slice, as far as all of a piece fits; and the signs and rungs of operators.
-use Prim.Native.Nat.{ℕ, _+_, _≤_}
+use Prim.Native.Nat.{ℕ, _+_, _≤_, min, max}
 use mathlib.Core.Path.{_≡_}
 use mathlib.Core.Bool.{Bool, cond}
 use mathlib.Core.List.{List, []}
 use lib.ListN.{length}
 use lib.Seq.{sets}
-use lib.Dec.{leb}
 use Rattle.paper.specs.Tokens.{bytes}
 use Rattle.paper.specs.Print.{joinBytes, comparisonBytes, spaced, comparisonRung, tightest, rungOf, leftOf, rightOf}
 use Rattle.trees.specs.declared.node.Operator.{Operator}
 use Rattle.trees.specs.declared.node.Operator.the-variants.{Joins, Compares}
 use Rattle.trees.specs.Standing.{joinMeant, comparisonMeant}
-use Rattle.printing.specs.declared.put.Reached.{Reached}
-use Rattle.printing.specs.declared.put.Reached.the-variants.{At, Full}
 use Rattle.printing.specs.declared.signs.Rung.{Rung}
 use Rattle.printing.specs.declared.signs.Rung.the-variants as R
 
--- where so many bytes more end, in a room of so many
-abbrev pub further : ℕ → Reached → ℕ → Reached
-further room (At i) n = cond (leb (i + n) room) (At (i + n)) Full
-further room Full n = Full
+-- where so many bytes more end, in a room of so many: at most one past it, and what is past it stays
+abbrev pub further : ℕ → ℕ → ℕ → ℕ
+further room from n = min (from + n) (max from (room + 1))
 
--- s was written from there, and r is how far that came
-pub record Wrote (before : List ℕ) (from : Reached) (s : List ℕ) (after : List ℕ) (r : Reached) : Type 0 where
+-- s was written from there, if it fits, and r is how far that came
+pub record Wrote (before : List ℕ) (from : ℕ) (s : List ℕ) (after : List ℕ) (r : ℕ) : Type 0 where
   pub kept : length after ≡ length before
   pub ends : r ≡ further (length before) from (length s)
-  pub stored : (i : ℕ) → from ≡ At i → i + length s ≤ length before → after ≡ sets before i s
+  pub stored : from + length s ≤ length before → after ≡ sets before from s
 
 -- rungs by name
 abbrev pub rungMeant : Rung → ℕ

@@ -8,7 +8,6 @@ mod put;
 mod signs;
 mod walk;
 
-pub use put::Reached;
 pub use put::copy;
 pub use put::write;
 pub use signs::Rung;

@@ -5,12 +5,6 @@ ghost use lib.ListN.{length};
 ghost use lib.Seq.{sets};
 ghost use Rattle.printing.specs.Writing.{Wrote};
 
-// How far a writing has come: the offset after the last byte; or some bytes did not fit.
-pub enum Reached {
-    At(usize),
-    Full,
-}
-
 // Copies bytes to an offset; every other byte stays.
 pub fn copy(s: &[u8], at: usize, out: &mut [u8])
     requires { ⌜ at + length (now s) ≤ length (now out) ⌝ }
@@ -23,19 +17,17 @@ pub fn copy(s: &[u8], at: usize, out: &mut [u8])
     }
 }
 
-// Writes bytes from where the writing has come to, all of them or none.
-pub fn write(s: &[u8], from: Reached, out: &mut [u8]) -> Reached
+// Writes bytes from an offset on, all of them or none, and tells the offset after them. Where they do not fit, it is one past the end, from
+// where nothing fits.
+pub fn write(s: &[u8], from: usize, out: &mut [u8]) -> usize
     ensures { λ r. ⌜ Wrote (now (out .entry)) from (now (s .entry)) (now (out .exit)) r ⌝ }
 {
-    let Reached::At(at) = from else {
-        return Reached::Full;
-    };
-    if out.len() < at {
-        return Reached::Full;
+    if out.len() < from {
+        return from;
     }
-    if out.len() - at < s.len() {
-        return Reached::Full;
+    if out.len() - from < s.len() {
+        return out.len() + 1;
     }
-    copy(s, at, out);
-    Reached::At(at + s.len())
+    copy(s, from, out);
+    from + s.len()
 }

@@ -5,7 +5,6 @@ ghost use Rattle.paper.specs.Print.{prefixBytes, joinBytes, comparisonBytes, ru
 ghost use Rattle.trees.specs.Standing.{prefixMeant, joinMeant, comparisonMeant};
 ghost use Rattle.printing.specs.Writing.{Wrote, rungMeant, operatorBytes, rungBetween, leftBetween, rightBetween, openBytes, closeBytes};
 use crate::put;
-use crate::put::Reached;
 use trees::Comparison;
 use trees::Join;
 use trees::Operator;
@@ -107,7 +106,7 @@ pub(crate) fn right_rung(o: Operator) -> Rung
     }
 }
 
-pub(crate) fn write_prefix(o: Prefix, from: Reached, out: &mut [u8]) -> Reached
+pub(crate) fn write_prefix(o: Prefix, from: usize, out: &mut [u8]) -> usize
     ensures { λ r. ⌜ Wrote (now (out .entry)) from (prefixBytes (prefixMeant o)) (now (out .exit)) r ⌝ }
 {
     match o {
@@ -116,7 +115,7 @@ pub(crate) fn write_prefix(o: Prefix, from: Reached, out: &mut [u8]) -> Reached
     }
 }
 
-fn write_join(o: Join, from: Reached, out: &mut [u8]) -> Reached
+fn write_join(o: Join, from: usize, out: &mut [u8]) -> usize
     ensures { λ r. ⌜ Wrote (now (out .entry)) from (spaced (joinBytes (joinMeant o))) (now (out .exit)) r ⌝ }
 {
     match o {
@@ -127,7 +126,7 @@ fn write_join(o: Join, from: Reached, out: &mut [u8]) -> Reached
     }
 }
 
-fn write_comparison(c: Comparison, from: Reached, out: &mut [u8]) -> Reached
+fn write_comparison(c: Comparison, from: usize, out: &mut [u8]) -> usize
     ensures { λ r. ⌜ Wrote (now (out .entry)) from (spaced (comparisonBytes (comparisonMeant c))) (now (out .exit)) r ⌝ }
 {
     match c {
@@ -141,7 +140,7 @@ fn write_comparison(c: Comparison, from: Reached, out: &mut [u8]) -> Reached
 }
 
 // An operator between its blanks.
-pub(crate) fn write_operator(o: Operator, from: Reached, out: &mut [u8]) -> Reached
+pub(crate) fn write_operator(o: Operator, from: usize, out: &mut [u8]) -> usize
     ensures { λ r. ⌜ Wrote (now (out .entry)) from (operatorBytes o) (now (out .exit)) r ⌝ }
 {
     match o {
@@ -152,20 +151,20 @@ pub(crate) fn write_operator(o: Operator, from: Reached, out: &mut [u8]) -> Reac
 
 // Parentheses where they are needed, else nothing.
 
-pub(crate) fn write_open(needed: bool, from: Reached, out: &mut [u8]) -> Reached
+pub(crate) fn write_open(needed: bool, from: usize, out: &mut [u8]) -> usize
     ensures { λ r. ⌜ Wrote (now (out .entry)) from (openBytes needed) (now (out .exit)) r ⌝ }
 {
     if needed {
         return put::write(b"(", from, out);
     }
-    put::write(b"", from, out)
+    from
 }
 
-pub(crate) fn write_close(needed: bool, from: Reached, out: &mut [u8]) -> Reached
+pub(crate) fn write_close(needed: bool, from: usize, out: &mut [u8]) -> usize
     ensures { λ r. ⌜ Wrote (now (out .entry)) from (closeBytes needed) (now (out .exit)) r ⌝ }
 {
     if needed {
         return put::write(b")", from, out);
     }
-    put::write(b"", from, out)
+    from
 }

@@ -5,10 +5,30 @@ ghost use Rattle.paper.specs.Print.{enclosed, looser, print};
 ghost use Rattle.trees.specs.Standing.{treeAt};
 ghost use Rattle.printing.specs.Writing.{Wrote, rungMeant};
 use crate::leaf;
-use crate::put::Reached;
 use crate::signs;
 use crate::signs::Rung;
 use trees::Node;
+
+// Writes an operand. It is mostly a leaf, which needs no frame of the walk.
+fn write_operand(
+    text: &[u8],
+    nodes: &[u32],
+    node: usize,
+    rung: Rung,
+    from: usize,
+    out: &mut [u8],
+) -> usize
+    requires { ⌜ node * 8 + 8 ≤ length (now nodes) ⌝ }
+    ensures { λ r. ⌜ Wrote (now (out .entry)) from
+        (enclosed (looser (rungMeant rung) (treeAt (now (text .entry)) (now (nodes .entry)) node)) (print (treeAt (now (text .entry)) (now (nodes .entry)) node)))
+        (now (out .exit)) r ⌝ }
+{
+    let n = Node::read(nodes, node);
+    let Node::Without = n else {
+        return write_tree(text, nodes, node, rung, from, out);
+    };
+    leaf::write_leaf(text, nodes, node, from, out)
+}
 
 // Writes the print of the tree at a node, in parentheses where the tree is looser than the rung that is asked for.
 pub fn write_tree(
@@ -16,9 +36,9 @@ pub fn write_tree(
     nodes: &[u32],
     node: usize,
     rung: Rung,
-    from: Reached,
+    from: usize,
     out: &mut [u8],
-) -> Reached
+) -> usize
     requires { ⌜ node * 8 + 8 ≤ length (now nodes) ⌝ }
     ensures { λ r. ⌜ Wrote (now (out .entry)) from
         (enclosed (looser (rungMeant rung) (treeAt (now (text .entry)) (now (nodes .entry)) node)) (print (treeAt (now (text .entry)) (now (nodes .entry)) node)))
@@ -29,21 +49,15 @@ pub fn write_tree(
         Node::Without => leaf::write_leaf(text, nodes, node, from, out),
         Node::Before(o) => {
             let inside = signs::write_prefix(o, from, out);
-            write_tree(text, nodes, node - 1, Rung::Tightest, inside, out)
+            write_operand(text, nodes, node - 1, Rung::Tightest, inside, out)
         }
         Node::Between(o, left) => {
             let needed = signs::is_looser(o, rung);
             let opened = signs::write_open(needed, from, out);
-            let after_left = write_tree(text, nodes, left, signs::left_rung(o), opened, out);
+            let after_left = write_operand(text, nodes, left, signs::left_rung(o), opened, out);
             let before_right = signs::write_operator(o, after_left, out);
             let rung_right = signs::right_rung(o);
-            // A right operand is mostly a leaf, which needs no frame of the walk.
-            let right = Node::read(nodes, node - 1);
-            let Node::Without = right else {
-                let after_right = write_tree(text, nodes, node - 1, rung_right, before_right, out);
-                return signs::write_close(needed, after_right, out);
-            };
-            let after_right = leaf::write_leaf(text, nodes, node - 1, before_right, out);
+            let after_right = write_operand(text, nodes, node - 1, rung_right, before_right, out);
             signs::write_close(needed, after_right, out)
         }
     }

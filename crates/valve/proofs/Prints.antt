@@ -18,8 +18,6 @@ use Rattle.paper.specs.Print.{rung, looser, enclosed, print}
 use Rattle.paper.specs.Calls.{tree, over, lends, laid, printable, printAnswer, printBuffer}
 use Rattle.paper.specs.Promised.{PrintResult, PrintPromised}
 use Rattle.trees.specs.Standing.{treeAt}
-use Rattle.printing.specs.declared.put.Reached.{Reached}
-use Rattle.printing.specs.declared.put.Reached.the-variants.{At, Full}
 use Rattle.printing.specs.Writing.{Wrote}
 use Rattle.printing.proofs.FromTheStart.{Whole, came-to-the-end, came-past-the-room}
 use Rattle.reading.specs.Grown.{Planted, Grows}
@@ -51,37 +49,35 @@ module _ (new buffer : List ℕ) where
       }
 
 -- a print written to a scratch of the limit's length, as far as that went
-module _ {scratch written : List ℕ} {r : Reached} (t : Tree) (limit : length scratch ≡ mostText)
-    (writes : Wrote scratch (At 0) (enclosed (looser 0 t) (print t)) written r) (buffer : List ℕ) where
+module _ {scratch written : List ℕ} {n : ℕ} (t : Tree) (limit : length scratch ≡ mostText)
+    (writes : Wrote scratch 0 (enclosed (looser 0 t) (print t)) written n) (buffer : List ℕ) where
   -- nothing is looser than the loosest rung
-  writes-print : Wrote scratch (At 0) (print t) written r
-  writes-print = subst (λ b. Wrote scratch (At 0) (enclosed b (print t)) written r) (le-ltb (rung t) 0 (omega arith)) writes
+  writes-print : Wrote scratch 0 (print t) written n
+  writes-print = subst (λ b. Wrote scratch 0 (enclosed b (print t)) written n) (le-ltb (rung t) 0 (omega arith)) writes
 
-  whole : {n : ℕ} → r ≡ At n → Whole scratch (print t) written n
-  whole e = came-to-the-end (subst (Wrote scratch (At 0) (print t) written) e writes-print)
+  whole : n ≤ mostText → Whole scratch (print t) written n
+  whole few = came-to-the-end writes-print (omega (arith, limit, few))
 
-  pub past-the-limit : r ≡ Full → (answer : Printing) → answer ≡ W.Refused 21 (P.Buffer (length buffer))
+  pub past-the-limit : mostText < n → (answer : Printing) → answer ≡ W.Refused 21 (P.Buffer (length buffer))
       → Lent (print t) buffer (record { answer = answer; buffer = buffer })
-  past-the-limit full answer e =
-      let over-it = came-past-the-room (subst (Wrote scratch (At 0) (print t) written) full writes-print) in
+  past-the-limit many answer e =
+      let over-it = came-past-the-room writes-print (omega (arith, limit, many)) in
       rw e (over-scratch (print t) buffer (omega (arith, limit, over-it)))
 
-  pub past-the-buffer : {n : ℕ} → r ≡ At n → length buffer < n → (answer : Printing) → answer ≡ W.Refused 21 (P.Buffer (length buffer))
+  pub past-the-buffer : n ≤ mostText → length buffer < n → (answer : Printing) → answer ≡ W.Refused 21 (P.Buffer (length buffer))
       → Lent (print t) buffer (record { answer = answer; buffer = buffer })
-  past-the-buffer at h answer e =
-      let w = whole at in
+  past-the-buffer few h answer e =
+      let w = whole few in
       rw e (over-buffer (print t) buffer (omega (arith, limit, w .room)) (omega (arith, h, w .count)))
 
   -- what is written fits the scratch
-  pub written-there : {n : ℕ} → r ≡ At n → n ≤ length written
-  written-there at =
-      let w = whole at in
-      omega (arith, w .count, w .room, writes .kept)
+  pub written-there : n ≤ mostText → n ≤ length written
+  written-there few = omega (arith, few, limit, writes .kept)
 
-  pub lent-first : {n : ℕ} → r ≡ At n → n ≤ length buffer → (exit : List ℕ) → exit ≡ over (take n written) buffer
+  pub lent-first : n ≤ mostText → n ≤ length buffer → (exit : List ℕ) → exit ≡ over (take n written) buffer
       → Lent (print t) buffer (record { answer = W.Printed n; buffer = exit })
-  lent-first {n} at h exit e =
-      let w = whole at in
+  lent-first few h exit e =
+      let w = whole few in
       rw (e, w .bytes, w .count) (lent-whole (print t) buffer (omega (arith, limit, w .room)) (omega (arith, h, w .count)))
 
 -- by the stages of the call

@@ -15,7 +15,6 @@ use paper::Counted;
 use paper::Place;
 use paper::Printing;
 use paper::refused;
-use printing::Reached;
 use printing::Rung;
 
 // Copies the first n bytes of a scratch to the front of the buffer.
@@ -39,11 +38,10 @@ fn lend_print(text: &[u8], nodes: &[u32], node: usize, buffer: &mut [u8]) -> Pri
     ensures { λ r. ⌜ Lent (print (treeAt (now (text .entry)) (now (nodes .entry)) node)) (now (buffer .entry)) (record { answer = r; buffer = now (buffer .exit) }) ⌝ }
 {
     let mut scratch = [0u8; reading::MOST_TEXT];
-    let start = Reached::At(0);
-    let reached = printing::write_tree(text, nodes, node, Rung::Sequel, start, &mut scratch);
-    let Reached::At(n) = reached else {
+    let n = printing::write_tree(text, nodes, node, Rung::Sequel, 0, &mut scratch);
+    if reading::MOST_TEXT < n {
         return too_long(buffer);
-    };
+    }
     if buffer.len() < n {
         return too_long(buffer);
     }

@@ -1,13 +1,11 @@
--- Each branch writes what its test asks for.
+-- Where it is needed the parenthesis is written, else nothing.
 use borrow.Author.Needs.{needs}
+use Rattle.printing.proofs.Rows.{none-written}
 use Rattle.printing.proofs.signs.write_close.Statement.{statement}
 use Rattle.printing.proofs.signs.write_close.Tie as tie
 
 abbrev taken : tie.After-write → tie.Then1
 taken c = c .before .before .before
-
-abbrev passed : tie.After-write2 → tie.Else1
-passed c = c .before .before .before
 
 pub write-close-spec : {M : Type 1} → statement M
 write-close-spec =
@@ -17,7 +15,4 @@ write-close-spec =
     (λ c κs. search needs)
     (λ c. search needs)
     (λ c. rw (taken (c .before .before) .if1 .taken) (c .before .before .write .ensures))
-    (λ c. search needs)
-    (λ c κs. search needs)
-    (λ c. search needs)
-    (λ c. rw (passed (c .before .before) .if1 .left) (c .before .before .write2 .ensures)))
+    (λ c. rw (c .if1 .left) (none-written _ _)))

@@ -8,12 +8,12 @@ use Rattle.valve.proofs.Prints.{past-the-limit, past-the-buffer, writte
 use Rattle.valve.proofs.style.lend_print.Statement.{statement}
 use Rattle.valve.proofs.style.lend_print.Tie as tie
 
--- where the print did not fit; where it did, it was written before
-abbrev full-at : tie.After-too-long → tie.After-write-tree
-full-at c = c .before .before .before .before .before
+-- where the print was written; from where it is known to fit the scratch, and not to
+abbrev full-at : tie.Then1 → tie.After-write-tree
+full-at c = c .before .before
 
-abbrev fits-at : tie.After-known-told → tie.After-write-tree
-fits-at c = c .before .before .before .before
+abbrev fits-at : tie.Else1 → tie.After-write-tree
+fits-at c = c .before .before
 
 -- what the function was given, and the tree that is printed
 abbrev start : tie.After-write-tree → tie.Start
@@ -23,24 +23,28 @@ abbrev tree-at : tie.Start → Tree
 tree-at s = treeAt (s .args .text .now) (s .args .nodes .now) (s .args .node)
 
 over-the-limit : tie.Need-returns
-over-the-limit c = past-the-limit _ refl (full-at c .write-tree .ensures) _ (c .before .before .enum-told .given .1) (c .too-long .result) (c .too-long .ensures)
+over-the-limit c =
+    let full : tie.Then1 = c .before .before in
+    past-the-limit _ refl (full-at full .write-tree .ensures) _ (full .if1 .taken) (c .too-long .result) (c .too-long .ensures)
 
 over-the-buffer : tie.Need-returns-2
 over-the-buffer c =
-    let known : tie.After-known-told = c .before .before .before in
-    past-the-buffer _ refl (fits-at known .write-tree .ensures) _ (known .before .reached .given .1) (c .before .before .if1 .taken) (c .too-long2 .result) (c .too-long2 .ensures)
+    let short : tie.Then2 = c .before .before in
+    let fits = short .before in
+    past-the-buffer _ refl (fits-at fits .write-tree .ensures) _ (fits .if1 .left) (short .if2 .taken) (c .too-long2 .result) (c .too-long2 .ensures)
 
 room-for-it : tie.Need-lend-first-requires
 room-for-it c κs =
-    let known : tie.After-known-told = c .before .before .before in
-    let s = start (fits-at known) in
-    (written-there (tree-at s) refl (fits-at known .write-tree .ensures) (s .args .buffer .now) (known .before .reached .given .1), search needs)
+    let fits : tie.Else1 = c .before .before .before in
+    let s = start (fits-at fits) in
+    (written-there (tree-at s) refl (fits-at fits .write-tree .ensures) (s .args .buffer .now) (fits .if1 .left), search needs)
 
 lent-whole : tie.Need-returns-3
 lent-whole c =
     let lent : tie.After-lend-first = c .before .before in
-    let known : tie.After-known-told = lent .before .before .before .before in
-    lent-first _ refl (fits-at known .write-tree .ensures) _ (known .before .reached .given .1) (search needs) _ (lent .lend-first .ensures)
+    let large : tie.Else2 = lent .before .before .before in
+    let fits = large .before in
+    lent-first _ refl (fits-at fits .write-tree .ensures) _ (fits .if1 .left) (large .if2 .left) _ (lent .lend-first .ensures)
 
 pub lend-print-spec : {M : Type 1} → statement M
 lend-print-spec =
@@ -48,8 +52,6 @@ lend-print-spec =
     (tie.spec
     (λ c. search needs)
     (λ c κs. search needs)
-    (λ c. search needs)
-    (λ c. search needs)
     (λ c κs. search needs)
     (λ c. search needs)
     over-the-limit

@@ -10,6 +10,7 @@ use lib.Seq.{drop-cons, drop-set-lt, getD-set-same}
 use lib.Dec.{ltb}
 use borrow.Author.Tests.{ltb-true}
 use Rattle.paper.specs.Print.{digitByte, digitsIn}
+use Rattle.number.specs.Numerals.{numeralWith}
 
 map-append : (f : ℕ → ℕ) (xs ys : List ℕ) → map f (xs ++ ys) ≡ map f xs ++ map f ys
 map-append f [] ys = refl
@@ -18,10 +19,6 @@ map-append f (x ∷ xs) ys = ap (λ (l : List ℕ). f x ∷ l) (map-append f xs 
 put-before : (s : List ℕ) (i a : ℕ) → i < length s → drop i (set s i a) ≡ a ∷ drop (suc i) s
 put-before s i a h =
     drop-cons (set s i a) i 0 (rw length-set h) ∙ ap₂ _∷_ (getD-set-same s i a 0 h) (drop-set-lt (suc i) s i a (omega arith))
-
--- the digits of n at most i, and what stands from i on
-abbrev pub numeralWith : ℕ → ℕ → ℕ → List ℕ → List ℕ
-numeralWith base i n s = map digitByte (digitsIn base i n) ++ drop i s
 
 module _ (base n : ℕ) (s : List ℕ) where
   more : (j : ℕ) → j < length s → ltb n base ≡ false

@@ -1,5 +1,6 @@
 pub mod BigEndian
 pub mod Carries
+pub mod Cuts
 pub mod DigitPlaces
 pub mod Limbs
 pub mod Masks

@@ -16,5 +16,4 @@ pub use bytes::word;
 pub use digits::Extended;
 pub use magnitude::Magnitude;
 pub use numeral::Digits;
-pub use numeral::Divided;
 pub use whole::Whole;

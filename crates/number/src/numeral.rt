@@ -1,17 +1,17 @@
 // The digits of a number, in any base from 2 to 16.
 ghost use mathlib.Core.Path.{_≡_};
 ghost use Prim.Native.Nat.{_+_, _*_, _/_, _%_, _^_, _<_, _≤_};
-ghost use lib.Dec.{ltb};
+ghost use lib.ListN.{length};
 ghost use Rattle.paper.specs.Print.{digitByte, numeralIn};
-ghost use mathlib.Core.Bool.{true};
+ghost use mathlib.Core.Bool.{true, false};
 ghost use Rattle.number.specs.Values.{limb, value};
-ghost use Rattle.number.specs.Numerals.{Divides, Holds};
+ghost use Rattle.number.specs.Numerals.{Divides, Holds, Ends, Begins};
 use crate::magnitude::Magnitude;
 
-// A number without its last digit, and that digit.
-pub struct Divided {
-    pub number: Magnitude,
-    pub rest: u32,
+// A number without its last digits, and those digits.
+struct Divided {
+    number: Magnitude,
+    rest: u32,
 }
 
 // The bytes of a numeral, from `first` on.
@@ -25,17 +25,24 @@ struct Split {
     rest: u32,
 }
 
-// The base of most numerals. To divide by a number that the compiler knows is many times faster than by any other.
+// How many digits are cut off a number of several limbs at a time. A division goes through all limbs, so there are to be few of them; and in
+// every base so many digits fit a limb.
+const CUT: usize = 7;
+
+// The base of most numerals, and what its numbers are cut by. To divide by a number that the compiler knows is many times faster than by any
+// other.
 const TEN: u32 = 10;
 
-fn quotient(n: u64, base: u32) -> u64
-    requires { ⌜ 0 < base ⌝ }
-    ensures { λ r. ⌜ r ≡ n / base ⌝ }
+const TEN_MILLION: u32 = 10_000_000;
+
+fn quotient(n: u64, by: u32) -> u64
+    requires { ⌜ 0 < by ⌝ }
+    ensures { λ r. ⌜ r ≡ n / by ⌝ }
 {
-    if base == TEN {
-        return n / 10;
+    if by == TEN_MILLION {
+        return n / 10_000_000;
     }
-    n / base as u64
+    n / by as u64
 }
 
 fn short_quotient(n: u32, base: u32) -> u32
@@ -58,32 +65,32 @@ fn short_remainder(n: u32, base: u32) -> u32
     n % base
 }
 
-fn remainder(n: u64, base: u32) -> u64
-    requires { ⌜ 0 < base ⌝ }
-    ensures { λ r. ⌜ r ≡ n % base ⌝ }
+fn remainder(n: u64, by: u32) -> u64
+    requires { ⌜ 0 < by ⌝ }
+    ensures { λ r. ⌜ r ≡ n % by ⌝ }
 {
-    if base == TEN {
-        return n % 10;
+    if by == TEN_MILLION {
+        return n % 10_000_000;
     }
-    n % base as u64
+    n % by as u64
 }
 
 // A limb divided, after what the limbs above it left over.
-fn divide_limb(limb: u32, over: u32, base: u32) -> Split
-    requires { ⌜ over < base ⌝ }
-    ensures { λ r. ⌜ (r .limb * base + r .rest ≡ over * 2 ^ 32 + limb) × (r .rest < base) ⌝ }
+fn divide_limb(limb: u32, over: u32, by: u32) -> Split
+    requires { ⌜ over < by ⌝ }
+    ensures { λ r. ⌜ (r .limb * by + r .rest ≡ over * 2 ^ 32 + limb) × (r .rest < by) ⌝ }
 {
     let both = over as u64 * 0x1_0000_0000 + limb as u64;
     // A division is slow, and of a number's upper limbs there is mostly nothing to divide.
-    if both < base as u64 {
+    if both < by as u64 {
         return Split {
             limb: 0,
             rest: both as u32,
         };
     }
     Split {
-        limb: quotient(both, base) as u32,
-        rest: remainder(both, base) as u32,
+        limb: quotient(both, by) as u32,
+        rest: remainder(both, by) as u32,
     }
 }
 
@@ -98,29 +105,73 @@ fn digit_byte(digit: u32) -> u8
     (87 + digit) as u8
 }
 
+// What numbers of a base are cut by: its seventh power.
+fn cut_by(base: u32) -> u32
+    requires { ⌜ base ≤ 16 ⌝ }
+    ensures { λ r. ⌜ r ≡ base ^ 7 ⌝ }
+{
+    let cube = base * base * base;
+    cube * cube * base
+}
+
+// Writes the last seven digits of a longer number before an offset, zeros too.
+fn put_cut(n: u32, base: u32, end: usize, bytes: &mut [u8])
+    requires { ⌜ (2 ≤ base) × (base ≤ 16) × (n < base ^ 7) ⌝ }
+    requires { ⌜ (7 ≤ end) × (end ≤ length (now bytes)) ⌝ }
+    ensures { λ _. ⌜ Ends base 7 n end (now (bytes .entry)) (now (bytes .exit)) ⌝ }
+{
+    let first = end - CUT;
+    let mut i = end;
+    let mut left = n;
+    while first < i {
+        i -= 1;
+        bytes[i] = digit_byte(short_remainder(left, base));
+        left = short_quotient(left, base);
+    }
+}
+
+// Writes the digits of a limb before an offset, as many as there is room for, and tells where they begin.
+fn put_limb(n: u32, base: u32, end: usize, bytes: &mut [u8]) -> usize
+    requires { ⌜ (2 ≤ base) × (base ≤ 16) ⌝ }
+    requires { ⌜ end ≤ length (now bytes) ⌝ }
+    ensures { λ r. ⌜ Begins base n end (now (bytes .entry)) (now (bytes .exit)) r ⌝ }
+{
+    let mut i = end;
+    let mut left = n;
+    while 0 < i {
+        i -= 1;
+        bytes[i] = digit_byte(short_remainder(left, base));
+        if left < base {
+            return i;
+        }
+        left = short_quotient(left, base);
+    }
+    0
+}
+
 impl Magnitude {
-    // Whether the number has no limb but the lowest.
-    fn is_small(self) -> bool
-        ensures { λ r. ⌜ (r ≡ true → value self ≡ limb self 0) ⌝ }
+    // Whether the number has another limb than the lowest.
+    fn is_long(self) -> bool
+        ensures { λ r. ⌜ (r ≡ false → value self ≡ limb self 0) × (r ≡ true → 2 ^ 32 ≤ value self) ⌝ }
     {
         if self.limbs[1] != 0 {
-            return false;
+            return true;
         }
         if self.limbs[2] != 0 {
-            return false;
+            return true;
         }
-        self.limbs[3] == 0
+        self.limbs[3] != 0
     }
 
-    // Limb by limb from the highest.
-    fn divide_limbs(self, base: u32) -> Divided
-        requires { ⌜ 0 < base ⌝ }
-        ensures { λ r. ⌜ Divides (value self) base r ⌝ }
+    // The number divided, limb by limb from the highest, and what is left over.
+    fn divide(self, by: u32) -> Divided
+        requires { ⌜ 0 < by ⌝ }
+        ensures { λ r. ⌜ Divides (value self) by r ⌝ }
     {
-        let d = divide_limb(self.limbs[3], 0, base);
-        let c = divide_limb(self.limbs[2], d.rest, base);
-        let b = divide_limb(self.limbs[1], c.rest, base);
-        let a = divide_limb(self.limbs[0], b.rest, base);
+        let d = divide_limb(self.limbs[3], 0, by);
+        let c = divide_limb(self.limbs[2], d.rest, by);
+        let b = divide_limb(self.limbs[1], c.rest, by);
+        let a = divide_limb(self.limbs[0], b.rest, by);
         Divided {
             number: Magnitude {
                 limbs: [a.limb, b.limb, c.limb, d.limb],
@@ -129,51 +180,25 @@ impl Magnitude {
         }
     }
 
-    // The number divided by a base, and what is left over. Most numbers are small, and one short division is enough for them.
-    pub fn divide(self, base: u32) -> Divided
-        requires { ⌜ 0 < base ⌝ }
-        ensures { λ r. ⌜ Divides (value self) base r ⌝ }
-    {
-        if self.is_small() {
-            return Divided {
-                number: Magnitude::of(short_quotient(self.limbs[0], base)),
-                rest: short_remainder(self.limbs[0], base),
-            };
-        }
-        self.divide_limbs(base)
-    }
-
-    // Whether the number is one digit of a base.
-    fn is_digit(self, base: u32) -> bool
-        ensures { λ r. ⌜ r ≡ ltb (value self) base ⌝ }
-    {
-        self.less(Magnitude::of(base))
-    }
-
     // The numeral of the number in a base. It is written from its last digit on, before those that stand, so the digits that may still
-    // be written are as many as the bytes before them.
+    // be written are as many as the bytes before them. Most numbers have one limb, and nothing is cut off them.
     pub fn digits_in(self, base: u32) -> Digits
         requires { ⌜ (2 ≤ base) × (base ≤ 16) ⌝ }
         ensures { λ r. ⌜ Holds (numeralIn base (value self)) r ⌝ }
     {
         let mut bytes = [0u8; 128];
-        let mut i = 128;
+        let mut end = 128;
         let mut left = self;
-        while 0 < i {
-            let d = left.divide(base);
-            i -= 1;
-            bytes[i] = digit_byte(d.rest);
-            if left.is_digit(base) {
-                return Digits {
-                    bytes: bytes,
-                    first: i,
-                };
-            }
+        while left.is_long() {
+            let d = left.divide(cut_by(base));
+            put_cut(d.rest, base, end, &mut bytes);
+            end -= CUT;
             left = d.number;
         }
+        let first = put_limb(left.limbs[0], base, end, &mut bytes);
         Digits {
             bytes: bytes,
-            first: 0,
+            first: first,
         }
     }
 }

@@ -1,5 +1,5 @@
--- What is below the base is left over whole. Else the limb after what was left over is below 2^32 times the base, so the quotient is a limb
--- again.
+-- What is below the divisor is left over whole. Else the limb after what was left over is below 2^32 times the divisor, so the quotient is a
+-- limb again.
 use borrow.Author.Needs.{needs}
 use native.Mathlib.Nat.{div-add-mod', mod-lt}
 use Prim.Native.Nat.{ℕ, _+_, _*_, _^_, _<_}
@@ -12,11 +12,11 @@ use Rattle.number.proofs.numeral.divide_limb.Tie as tie
 abbrev both : tie.Start → ℕ
 both s = s .args .over * 2 ^ 32 + s .args .limb
 
-some-base : (s : tie.Start) → 0 < s .args .base
-some-base s = omega (arith, s .pre)
+some-divisor : (s : tie.Start) → 0 < s .args .by
+some-divisor s = omega (arith, s .pre)
 
 whole-fits : tie.Need-cast-t9
-whole-fits c = record { fits = omega (arith, c .if1 .taken, c .before .fits .base .fits) }
+whole-fits c = record { fits = omega (arith, c .if1 .taken, c .before .fits .by .fits) }
 
 left-whole : tie.Need-returns
 left-whole c = (omega arith, c .if1 .taken)
@@ -24,17 +24,17 @@ left-whole c = (omega arith, c .if1 .taken)
 limb-fits : tie.Need-cast-t10
 limb-fits c =
     let s : tie.Start = c .before .before in
-    record { fits = omega (arith, c .quotient .ensures, quotient-fits (s .args .limb) (s .args .over) (s .args .base) (s .fits .limb .fits) (s .pre)) }
+    record { fits = omega (arith, c .quotient .ensures, quotient-fits (s .args .limb) (s .args .over) (s .args .by) (s .fits .limb .fits) (s .pre)) }
 
 rest-fits : tie.Need-cast-t11
 rest-fits c =
     let s : tie.Start = c .before .before .before in
-    record { fits = omega (arith, c .remainder .ensures, mod-lt (both s) (some-base s), s .fits .base .fits) }
+    record { fits = omega (arith, c .remainder .ensures, mod-lt (both s) (some-divisor s), s .fits .by .fits) }
 
 divided : tie.Need-returns-2
 divided c =
     let s : tie.Start = c .before .before .before in
-    rw (c .before .quotient .ensures, c .remainder .ensures) (div-add-mod' (both s) (s .args .base), mod-lt (both s) (some-base s))
+    rw (c .before .quotient .ensures, c .remainder .ensures) (div-add-mod' (both s) (s .args .by), mod-lt (both s) (some-divisor s))
 
 pub divide-limb-spec : {M : Type 1} → statement M
 divide-limb-spec =
@@ -44,8 +44,8 @@ divide-limb-spec =
     (λ c. search needs)
     whole-fits
     left-whole
-    (λ c κs. some-base (c .before))
+    (λ c κs. some-divisor (c .before))
     limb-fits
-    (λ c κs. some-base (c .before .before))
+    (λ c κs. some-divisor (c .before .before))
     rest-fits
     divided)

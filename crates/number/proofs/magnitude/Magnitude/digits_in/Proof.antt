@@ -1,41 +1,43 @@
--- Why the bytes are the numeral: before each turn, the digits that are left to write and the bytes from i on make up the whole numeral
--- (`numeralWith`), with at most i digits left. A turn writes the last of them before the others; it is the last of all exactly where the
--- number is one digit, or where i is 0 and none is left.
-use borrow.Author.Needs.{needs}
-use Prim.Native.Nat.{ℕ, _≤_, _<_}
+-- Why the bytes are the numeral: before each turn, the digits that are left to write and the bytes from the end on make up the whole numeral
+-- (`numeralWith`), and there is room for all that are left. A turn cuts seven off a number of several limbs, which has more (`cut-whole`,
+-- `room-for-it`); the digits of the last limb come before them.
+use Prim.Native.Nat.{ℕ, _/_, _%_, _^_, _≤_, _<_}
+use native.Mathlib.Nat.{lt-of-lt-of-le, mod-lt, one-le-pow, pow-le-pow-left}
 use native.Mathlib.Omega.{arith}
-use native.Mathlib.Nat.{mod-lt}
-use mathlib.Core.Path.{_≡_, refl, sym, _∙_}
+use mathlib.Core.Path.{_≡_, refl, sym, ap, _∙_}
 use mathlib.Core.List.{append-nil}
-use lib.ListN.{length, length-set}
+use borrow.Author.Needs.{needs}
+use lib.ListN.{length}
 use Rattle.paper.specs.Print.{mostDigits, numeralIn}
 use Rattle.number.specs.Values.{value}
-use Rattle.number.proofs.DigitPlaces.{numeralWith, digit-more, digit-last}
+use Rattle.number.specs.Numerals.{numeralWith}
+use Rattle.number.proofs.Limbs.{value-lt}
+use Rattle.number.proofs.Cuts.{room-for-it, shorter, cut-whole}
 use Rattle.number.proofs.magnitude.Magnitude.digits_in.Statement.{statement}
 use Rattle.number.proofs.magnitude.Magnitude.digits_in.Tie as tie
 
 abbrev Inv-loop : tie.InvT-loop
-Inv-loop base bytes₀ i₀ left₀ bytes i left =
-    (i ≤ mostDigits) × (length bytes ≡ mostDigits) × (numeralWith base i (value left) bytes ≡ numeralIn base (value left₀))
+Inv-loop base bytes₀ end₀ left₀ bytes end left =
+    (end ≤ mostDigits) × (length bytes ≡ mostDigits) × (value left < base ^ end) × (numeralWith base end (value left) bytes ≡ numeralIn base (value left₀))
 
 abbrev μ-loop : tie.MeasureT-loop
-μ-loop base bytes₀ i₀ left₀ bytes i left = i
+μ-loop base bytes₀ end₀ left₀ bytes end left = end
 
--- the places: a turn of the loop, what it divided, and the test whether the digit is the last
+-- the places: a turn of the loop; where the number has several limbs, and is cut; where it has one
 abbrev Turning : Type 0
 Turning = tie.At-loop Inv-loop μ-loop
 
-abbrev Divided : Type 0
-Divided = tie.After-divide Inv-loop μ-loop
+abbrev Long : Type 0
+Long = tie.Then1 Inv-loop μ-loop
 
-abbrev Tested : Type 0
-Tested = tie.After-is-digit Inv-loop μ-loop
+abbrev Short : Type 0
+Short = tie.Else1 Inv-loop μ-loop
 
-abbrev divided : Tested → Divided
-divided c = c .before .before
+abbrev long-turn : Long → Turning
+long-turn c = c .before .before
 
-abbrev turning : Divided → Turning
-turning c = c .before .before
+abbrev short-turn : Short → Turning
+short-turn c = c .before .before
 
 abbrev base : Turning → ℕ
 base l = l .before .args .base
@@ -43,48 +45,77 @@ base l = l .before .args .base
 abbrev left : Turning → ℕ
 left l = value (l .loop .left)
 
-some-left : (c : Divided) → 0 < turning c .loop .i
-some-left c = c .before .loop-test .taken
+abbrev cut-at : tie.After-put-cut Inv-loop μ-loop → tie.After-divide Inv-loop μ-loop
+cut-at c = c .before .before
 
--- what is left over is a digit
-small-rest : tie.Need-digit-byte-requires Inv-loop μ-loop
-small-rest c κs =
-    let l = turning c in
-    let two = l .before .pre in
-    let below = mod-lt (left l) (let some : 0 < base l = omega (arith, two) in some) in
-    omega (arith, c .divide .ensures .rest, below, two)
+abbrev long-at : tie.After-divide Inv-loop μ-loop → Long
+long-at c = c .before .before
 
-ends-at-digit : tie.Need-returns Inv-loop μ-loop
-ends-at-digit c =
-    let test = c .before in
-    let d = divided test in
-    let l = turning d in
-    let one = sym (test .is-digit .ensures) ∙ c .if1 .taken in
-    record {
-      inside = omega (arith, l .loop .inv .0);
-      size = simp length-set (l .loop .inv .1);
-      bytes =
-          rw (test .before .digit-byte .ensures, d .divide .ensures .rest)
-          (digit-last (base l) (left l) (l .loop .bytes) (l .loop .i) (some-left d) (omega (arith, l .loop .inv)) one ∙ l .loop .inv .2);
-    }
+-- a number of several limbs has seven digits to cut off
+module _ (c : Long) where
+  two-limbs : 2 ^ 32 ≤ left (long-turn c)
+  two-limbs = c .before .is-long .ensures .1 (c .if1 .taken)
 
-loop-again : tie.Need-loop-again Inv-loop μ-loop
-loop-again c =
-    let test = c .before .before in
-    let d = divided test in
-    let l = turning d in
-    let more = sym (test .is-digit .ensures) ∙ c .before .if1 .left in (
+  two : 2 ≤ base (long-turn c)
+  two = long-turn c .before .pre .0
+
+  most : base (long-turn c) ≤ 16
+  most = long-turn c .before .pre .1
+
+  room : 7 ≤ long-turn c .loop .end
+  room = room-for-it (base (long-turn c)) (left (long-turn c)) two most two-limbs (long-turn c .loop .end) (long-turn c .loop .inv .2)
+
+  some-power : 0 < base (long-turn c) ^ 7
+  some-power = one-le-pow 7 (base (long-turn c)) (omega (arith, two))
+
+fits-at-first : tie.Need-loop-holds Inv-loop μ-loop
+fits-at-first c = (
+  omega arith,
+  refl,
+  lt-of-lt-of-le (value-lt (c .args .self) (search needs)) (pow-le-pow-left (c .pre .0) 128),
+  append-nil (numeralIn (c .args .base) (value (c .args .self))),
+)
+
+-- what was cut off is below the power
+cut-is : (d : tie.After-divide Inv-loop μ-loop) → (let l = long-turn (long-at d) in d .divide .result .rest ≡ left l % base l ^ 7)
+cut-is d = d .divide .ensures .rest ∙ ap (λ (x : ℕ). left (long-turn (long-at d)) % x) (d .before .cut-by .ensures)
+
+left-is : (d : tie.After-divide Inv-loop μ-loop) → (let l = long-turn (long-at d) in value (d .divide .result .number) ≡ left l / base l ^ 7)
+left-is d = d .divide .ensures .whole ∙ ap (λ (x : ℕ). left (long-turn (long-at d)) / x) (d .before .cut-by .ensures)
+
+cut-fits : tie.Need-put-cut-requires Inv-loop μ-loop
+cut-fits c κs =
+    let d = c .before in
+    let n = long-at d in
+    let l = long-turn n in
+    ((two n, most n, rw (cut-is d) (mod-lt (left l) (some-power n))), (room n, omega (arith, l .loop .inv .0, l .loop .inv .1)))
+
+cut-off : tie.Need-loop-again Inv-loop μ-loop
+cut-off c =
+    let put = c .before .before in
+    let d = cut-at put in
+    let n = long-at d in
+    let l = long-turn n in (
       omega (arith, l .loop .inv .0),
-      simp length-set (l .loop .inv .1),
-      rw (test .before .digit-byte .ensures, d .divide .ensures .rest, d .divide .ensures .whole)
-          (digit-more (base l) (left l) (l .loop .bytes) (l .loop .i) (some-left d) (omega (arith, l .loop .inv)) more ∙ l .loop .inv .2),
+      omega (arith, put .put-cut .kept, l .loop .inv .1),
+      rw (left-is d) (shorter (base l) (left l) (two n) (most n) (two-limbs n) (l .loop .end) (l .loop .inv .2)),
+      rw (left-is d)
+          (cut-whole (base l) (left l) (two n) (most n) (two-limbs n) (l .loop .end) (l .loop .bytes) _ (rw (cut-is d) at (put .put-cut .ensures))
+          ∙ l .loop .inv .3),
     )
 
-ends-full : tie.Need-returns-2 Inv-loop μ-loop
-ends-full c =
-    let l = c .before .loop in
-    let none : l .i ≡ 0 = omega (arith, c .loop-test .left) in
-    record { inside = omega arith; size = l .inv .1; bytes = rw none at (l .inv .2) }
+all-there : tie.Need-returns Inv-loop μ-loop
+all-there c =
+    let put = c .before in
+    let short : Short = put .before .before .before in
+    let l = short-turn short in
+    let lowest = short .before .is-long .ensures .0 (short .if1 .left) in
+    record {
+      inside = omega (arith, put .put-limb .ensures .inside, l .loop .inv .0);
+      size = omega (arith, put .put-limb .kept, l .loop .inv .1);
+      bytes =
+          put .put-limb .ensures .bytes ∙ ap (λ (x : ℕ). numeralWith (base l) (l .loop .end) x (l .loop .bytes)) (sym lowest) ∙ l .loop .inv .3;
+    }
 
 pub digits-in-spec : {M : Type 1} → statement M
 digits-in-spec =
@@ -92,13 +123,16 @@ digits-in-spec =
     (tie.spec
     Inv-loop
     μ-loop
-    (λ c. (omega arith, refl, append-nil (numeralIn (c .args .base) (value (c .args .self)))))
+    fits-at-first
     (λ c κs. search needs)
+    (λ c κs. most c)
+    (λ c κs. rw (c .cut-by .ensures) (some-power (c .before)))
+    (λ c. sym (long-turn (long-at (c .before)) .loop .inv .1))
+    cut-fits
+    (λ c. room (long-at (cut-at (c .before))))
+    (λ c. let put = c .before .before in omega (arith, room (long-at (cut-at put))))
+    cut-off
     (λ c. search needs)
-    small-rest
-    (λ c. search needs)
-    (λ c κs. search needs)
-    ends-at-digit
-    (λ c. search needs)
-    loop-again
-    ends-full)
+    (λ c. sym (short-turn (c .before .before) .loop .inv .1))
+    (λ c κs. let l = short-turn (c .before .before) in (l .before .pre, omega (arith, l .loop .inv .0, l .loop .inv .1)))
+    all-there)

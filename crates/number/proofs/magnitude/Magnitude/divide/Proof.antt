@@ -1,38 +1,50 @@
--- A small number is its lowest limb, which is divided alone; any other is divided limb by limb.
-use Prim.Native.Nat.{ℕ, _/_, _%_}
-use mathlib.Core.Path.{_≡_, sym, ap, _∙_}
+-- The four divisions go from the highest limb down, each after what the one before it left over: the number is divided as a whole
+-- (`quotient`, `remainder`).
 use borrow.Author.Needs.{needs}
+use Rattle.number.specs.Values.{value}
+use Rattle.number.proofs.Quotients.{quotient, remainder}
 use Rattle.number.proofs.magnitude.Magnitude.divide.Statement.{statement}
 use Rattle.number.proofs.magnitude.Magnitude.divide.Tie as tie
 
--- where the lowest limb has been divided; and from there where it is known to be the number
-abbrev quotient-at : tie.After-short-remainder → tie.After-of
-quotient-at c = c .before .before
+abbrev Done : Type 0
+Done = tie.After-divide-limb4
 
-abbrev small-at : tie.After-of → tie.Then1
-small-at c = c .before .before .before
+abbrev second : Done → tie.After-divide-limb3
+second c = c .before .before
 
-small-divided : tie.Need-returns
-small-divided c =
-    let whole = quotient-at c in
-    let there = small-at whole in
-    let s : tie.Start = there .before .before in
-    let lowest = there .before .is-small .ensures (there .if1 .taken) in
+abbrev third : Done → tie.After-divide-limb2
+third c = second c .before .before
+
+abbrev highest : Done → tie.After-divide-limb
+highest c = third c .before .before
+
+abbrev start : Done → tie.Start
+start c = highest c .before .before
+
+divided : tie.Need-returns
+unfolding value
+divided c =
+    let n = start c .args .t1 in
+    let by = start c .args .by in
+    let d = highest c .divide-limb in
+    let t = third c .divide-limb2 in
+    let s = second c .divide-limb3 in
+    let a = c .divide-limb4 in
     record {
-      whole = whole .of .ensures ∙ whole .before .short-quotient .ensures ∙ ap (λ (n : ℕ). n / s .args .base) (sym lowest);
-      rest = c .short-remainder .ensures ∙ ap (λ (n : ℕ). n % s .args .base) (sym lowest);
+      whole = quotient n by (a .result) (s .result) (t .result) (d .result) (d .ensures) (t .ensures) (s .ensures) (a .ensures);
+      rest = remainder n by (a .result) (s .result) (t .result) (d .result) (d .ensures) (t .ensures) (s .ensures) (a .ensures);
     }
 
 pub divide-spec : {M : Type 1} → statement M
 divide-spec =
     tie.close
     (tie.spec
+    (λ c. search needs)
     (λ c κs. search needs)
     (λ c. search needs)
     (λ c κs. search needs)
+    (λ c. search needs)
     (λ c κs. search needs)
     (λ c. search needs)
     (λ c κs. search needs)
-    small-divided
-    (λ c κs. search needs)
-    (λ c. search needs))
+    divided)

@@ -9,7 +9,9 @@ use mathlib.Core.Bool.{Bool, true, cond, _&&_}
 use mathlib.Core.Option.{Option, none, some}
 use mathlib.Core.List.{List, [], _∷_}
 use lib.Dec.{eqb, leb}
-use Rattle.paper.specs.Answers.{Answer, ok, refused, _>>=_}
+use Rattle.paper.specs.declared.Explanation.{Explanation}
+use Rattle.paper.specs.declared.Explanation.the-variants as X
+use Rattle.paper.specs.Answers.{Answer, ok, refused, _>>=_, judgementSays}
 use Rattle.paper.specs.Numbers.{byteAt}
 use Rattle.paper.specs.Keys.{Key, recordSize, recordAt}
 use Rattle.paper.specs.Entry.{Entry, headSize, matchSize, entryOf}
@@ -73,3 +75,13 @@ reasonFor list (refused n i at) = cond (isRecord n at) (atKey at (keyIndex at) (
 unfoldable pub explainAnswer : List ℕ → List ℕ → List ℕ → Reason
 unfolding falsePart
 explainAnswer text list entry = reasonFor list (falsePart text list entry)
+
+-- what each case of the public answer says; a record's place tells its key
+
+abbrev pub stretchFrom : ℕ → ℕ → Stretch
+stretchFrom from to = record { from = from; to = to }
+
+abbrev pub explanationSays : Explanation → Reason
+explanationSays (X.Part number place from to) = inPart number place (stretchFrom from to)
+explanationSays (X.Key place from to) = atKey place (keyIndex place) (stretchFrom from to)
+explanationSays (X.Nothing j) = nothingToShow (judgementSays j)

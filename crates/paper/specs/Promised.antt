@@ -11,8 +11,10 @@ use Rattle.paper.specs.declared.Judgement.the-variants as J
 use Rattle.paper.specs.declared.Translation.{Translation}
 use Rattle.paper.specs.declared.Loading.{Loading}
 use Rattle.paper.specs.declared.Printing.{Printing}
+use Rattle.paper.specs.declared.Explanation.{Explanation}
 use Rattle.paper.specs.Answers.{readingSays, checkingSays, judgementSays, translationSays, loadingSays, printingSays}
 use Rattle.paper.specs.BlocksRoundTrip.{All}
+use Rattle.paper.specs.Explained.{explainAnswer, explanationSays}
 use Rattle.paper.specs.Calls.{readAnswer, checkAnswer, judgeAnswer, translateAnswer, translateBuffer, loadAnswer, runAnswer, printAnswer, printBuffer}
 
 -- what is promised of the result of each call, for the bytes that are lent to it
@@ -49,6 +51,9 @@ pub record PrintResult : Type 0 where
 pub record PrintPromised (text buffer : List ℕ) (r : PrintResult) : Type 0 where
   pub says : printingSays (r .answer) ≡ printAnswer text buffer
   pub holds : r .buffer ≡ printBuffer text buffer
+
+abbrev pub ExplainPromised : List ℕ → List ℕ → List ℕ → Explanation → Type 0
+ExplainPromised text list entry r = explanationSays r ≡ explainAnswer text list entry
 
 abbrev pub verdict : Bool → Judgement
 verdict true = J.Accepted

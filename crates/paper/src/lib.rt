@@ -52,6 +52,14 @@ pub enum Printing {
     Refused(u8, Place),
 }
 
+// What broke for an entry: a part of the text, by its number from 1, its root's place, and its stretch from one byte up to another; the key of
+// a refused record, by the record's place in the entry, and the stretch of its name in the list; or nothing, with the entry's own judgement.
+pub enum Explanation {
+    Part(usize, usize, usize, usize),
+    Key(usize, usize, usize),
+    Nothing(Judgement),
+}
+
 // A stage of a call that counts: keys, tokens, nodes or instructions. Each stage passes the refusal of the one before it up as it is.
 pub enum Counted {
     Count(usize),

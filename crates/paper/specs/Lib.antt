@@ -49,6 +49,7 @@ pub mod PartExamples
 pub mod AnswerExamples
 pub mod FaultExamples
 pub mod Promised
+pub mod Pieces
 pub mod Faults
 pub mod Table
 pub mod Demands

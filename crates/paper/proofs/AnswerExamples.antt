@@ -1,10 +1,15 @@
 -- Each example of an answer is computed from the definitions.
+use Prim.Native.Nat.{ℕ}
 use mathlib.Core.Path.{refl}
+use mathlib.Core.List.{List, []}
+use denote.Ref.{RefT}
 use Rattle.paper.specs.Calls.{readAnswer, checkAnswer, judgeAnswer, translateAnswer, translateBuffer, loadAnswer, runAnswer}
-use Rattle.paper.specs.AnswerExamples.{Answers, InOrder, AnswerExamples}
+use Rattle.paper.specs.Explained.{explainAnswer}
+use Rattle.paper.specs.Pieces.{PartOf}
+use Rattle.paper.specs.AnswerExamples.{Answers, lies, PieceAnswers, InOrder, AnswerExamples}
 
 answers : Answers
-unfolding readAnswer checkAnswer judgeAnswer translateAnswer translateBuffer loadAnswer runAnswer
+unfolding readAnswer checkAnswer judgeAnswer translateAnswer translateBuffer loadAnswer runAnswer explainAnswer
 answers =
     record {
       reads = refl;
@@ -29,6 +34,26 @@ answers =
       run-refuses-list = refl;
       run-refuses-blocks = refl;
       run-refuses-entry = refl;
+      explains-part = refl;
+      explains-key = refl;
+      explains-accepted = refl;
+      explain-refuses-text = refl;
+      explain-refuses-list = refl;
+      explain-refuses-entry = refl;
+      explain-refuses-priority = refl;
+    }
+
+-- an empty piece has no offset to tell
+empty : (block offset at : ℕ) (s : List ℕ) → PartOf 0 0 (lies block offset s) (lies block at [])
+empty block offset at s = record { bytes = refl; block = refl; offset = λ some. absurd (some refl) }
+
+pieces : PieceAnswers
+unfolding explainAnswer
+pieces =
+    record {
+      part = record { says = refl; in-text = record { bytes = refl; block = refl; offset = λ _. refl }; in-list = empty 9 1000 0 _ };
+      key = record { says = refl; in-text = empty 7 100 0 _; in-list = record { bytes = refl; block = refl; offset = λ _. refl } };
+      nothing = record { says = refl; in-text = empty 7 100 0 _; in-list = empty 9 1000 0 _ };
     }
 
 in-order : InOrder
@@ -61,4 +86,4 @@ in-order =
     }
 
 pub answerExamples : AnswerExamples
-answerExamples = record { answers = answers; in-order = in-order }
+answerExamples = record { answers = answers; pieces = pieces; in-order = in-order }

@@ -1,20 +1,25 @@
 -- Demand 1: programs that keep the promises answer every input as the table of 01 says, and a refusal changes nothing lent.
 use Prim.Native.Nat.{ℕ}
 use mathlib.Core.Path.{_≡_, refl, sym, ap, subst, _∙_}
+use mathlib.Core.Bool.{Bool}
 use mathlib.Core.List.{List, [], _∷_, List·Memᴰ, List·Memᴰ·head, List·Memᴰ·tail}
 use Rattle.paper.specs.declared.Reading.{Reading}
 use Rattle.paper.specs.declared.Checking.{Checking}
 use Rattle.paper.specs.declared.Judgement.{Judgement}
 use Rattle.paper.specs.declared.Loading.{Loading}
+use Rattle.paper.specs.declared.Explanation.{Explanation}
 use Rattle.paper.specs.Answers.{Input, inText, inList, inEntry, inBlocks, inBuffer, Answer, inputOf, offsetOf, readingSays, checkingSays, judgementSays, translationSays, loadingSays, printingSays}
 use Rattle.paper.specs.Calls.{readAnswer, checkAnswer, judgeAnswer, translateAnswer, loadAnswer, runAnswer, printAnswer}
+use Rattle.paper.specs.Explained.{explanationSays}
+use Rattle.paper.specs.ExplainedRight.{judgementOf}
 use Rattle.paper.specs.Table.{ByTable, Stage, sizeStages, listStages, treeStages, entryStages, blockStages, bufferStages, printingStages, checkStages, readStages, judgeStages, translateStages, loadStages, runStages, printStages}
-use Rattle.paper.specs.Promised.{ReadPromised, CheckPromised, JudgePromised, TranslateResult, TranslatePromised, LoadPromised, RunPromised, PrintResult, PrintPromised}
-use Rattle.paper.specs.Demands.{Lent, lent, Refusal, Answered, ReadAnswered, CheckAnswered, JudgeAnswered, TranslateAnswered, LoadAnswered, RunAnswered, PrintAnswered, DemandOneMet}
+use Rattle.paper.specs.Promised.{ReadPromised, CheckPromised, JudgePromised, TranslateResult, TranslatePromised, LoadPromised, RunPromised, PrintResult, PrintPromised, ExplainPromised}
+use Rattle.paper.specs.Demands.{Lent, lent, Refusal, Answered, ReadAnswered, CheckAnswered, EntryAnswered, JudgeAnswered, TranslateAnswered, LoadAnswered, RunAnswered, PrintAnswered, ExplainAnswered, DemandOneMet}
 use Rattle.paper.proofs.TranslationCorrect.{refused-unchanged}
 use Rattle.paper.proofs.RefusalsLocated.{AllLocated, LiesIn, located-then, decided-lies, size-located, list-located, tree-located, check-located, buffer-located, block-located, entry-located, printing-located}
 use Rattle.paper.proofs.Table.{table-holds}
 use Rattle.paper.proofs.PrintDemands.{print-unchanged}
+use Rattle.paper.proofs.ExplainedRight.{explained-as-judged}
 
 lies-refusal : (inputs : List Lent) (n : ℕ) (i : Input) (at : ℕ) → LiesIn inputs n i at → Refusal inputs n i at
 lies-refusal inputs n i at l =
@@ -62,12 +67,20 @@ check-answered text list r promised =
     answered-by inputs (checkAnswer text list) (checkingSays r) (checkStages text list) (table-holds .check text list)
     (check-located inputs text list here second) promised
 
-pub judge-answered : (text list entry : List ℕ) (r : Judgement) → JudgePromised text list entry r → JudgeAnswered text list entry r
-judge-answered text list entry r promised =
+-- what tells the judgement
+entry-answered : (text list entry : List ℕ) (a : Answer Bool) → a ≡ judgeAnswer text list entry → EntryAnswered text list entry a
+entry-answered text list entry a told =
     let inputs = lent inText text ∷ lent inList list ∷ lent inEntry entry ∷ [] in
-    answered-by inputs (judgeAnswer text list entry) (judgementSays r) (judgeStages text list entry) (table-holds .judge text list entry)
+    answered-by inputs (judgeAnswer text list entry) a (judgeStages text list entry) (table-holds .judge text list entry)
     (located-then inputs (checkStages text list) (entryStages list entry) (check-located inputs text list here second)
-    (λ _. entry-located inputs list entry third)) promised
+    (λ _. entry-located inputs list entry third)) told
+
+pub judge-answered : (text list entry : List ℕ) (r : Judgement) → JudgePromised text list entry r → JudgeAnswered text list entry r
+judge-answered text list entry r promised = entry-answered text list entry (judgementSays r) promised
+
+pub explain-answered : (text list entry : List ℕ) (r : Explanation) → ExplainPromised text list entry r → ExplainAnswered text list entry r
+explain-answered text list entry r promised =
+    entry-answered text list entry (judgementOf (explanationSays r)) (ap judgementOf promised ∙ explained-as-judged text list entry)
 
 pub translate-answered : (text list buffer : List ℕ) (r : TranslateResult) → TranslatePromised text list buffer r
     → TranslateAnswered text list buffer r
@@ -124,4 +137,5 @@ demand-one-met p kept =
       load = λ list blocks l s. load-answered list blocks (p .load list blocks) (kept .load list blocks l s);
       run = λ list blocks entry l s e. run-answered list blocks entry (p .run list blocks entry) (kept .run list blocks entry l s e);
       print = λ text buffer t b. print-answered text buffer (p .print text buffer) (kept .print text buffer t b);
+      explain = λ text list entry t l e. explain-answered text list entry (p .explain text list entry) (kept .explain text list entry t l e);
     }

@@ -16,6 +16,7 @@ use Rattle.paper.specs.declared.Checking.the-variants as C
 use Rattle.paper.specs.declared.Judgement.{Judgement}
 use Rattle.paper.specs.declared.Judgement.the-variants as J
 use Rattle.paper.specs.declared.Translation.the-variants as T
+use Rattle.paper.specs.declared.Explanation.{Explanation}
 use Rattle.paper.specs.Answers.{inText, Answer, ok, refused, _>>=_, readingSays, checkingSays, judgementSays, translationSays}
 use Rattle.paper.specs.Tokens.{mostText}
 use Rattle.paper.specs.Keys.{keys}
@@ -28,8 +29,9 @@ use Rattle.paper.specs.Blocks.{blockSize, blocksNeeded}
 use Rattle.paper.specs.Loading.{program, loaded, valuesAlong, leftTrue}
 use Rattle.paper.specs.Translating.{codeOf, conversions}
 use Rattle.paper.specs.Calls.{sized, tree, Restriction, restriction, checkAnswer, judgeAnswer, runAnswer}
-use Rattle.paper.specs.Promised.{verdict, ReadPromised, CheckPromised, JudgePromised, TranslateResult, TranslatePromised, RunPromised}
-use Rattle.paper.specs.Demands.{Checkable, Judgeable, Runnable, Refuses, ReadRight, CheckedRight, JudgedRight, TranslatedRight, RanRight, DemandTwoMet}
+use Rattle.paper.specs.Explained.{explanationSays}
+use Rattle.paper.specs.Promised.{verdict, ReadPromised, CheckPromised, JudgePromised, TranslateResult, TranslatePromised, RunPromised, ExplainPromised}
+use Rattle.paper.specs.Demands.{Checkable, Judgeable, Runnable, Refuses, ReadRight, CheckedRight, JudgedRight, TranslatedRight, RanRight, ExplainRight, DemandTwoMet}
 use Rattle.paper.proofs.Stages.{never-ok, ok-same, bind-ok, require-ok}
 use Rattle.paper.proofs.LoadedBlocksRun.{conforming, loaded-runs}
 use Rattle.paper.proofs.TypeSoundness.{judged, bool-root}
@@ -37,6 +39,7 @@ use Rattle.paper.proofs.TranslationCorrect.{passing, counted, translati
 use Rattle.paper.proofs.Promised.{verdict-says, reading-same, checking-same, judgement-same, translation-same}
 use Rattle.paper.proofs.WellFormed.{formed-tree, tree-formed, formed-answer, answer-formed}
 use Rattle.paper.proofs.PrintDemands.{printed-right}
+use Rattle.paper.proofs.ExplainedRight.{explained-is-right}
 
 -- with a list, it passes a check: this is its restriction
 
@@ -228,6 +231,9 @@ translated-right text list buffer r promised n = (
       ∙ rw (count, le-leb (blockSize * blocksNeeded n) (length buffer) (t .room))),
 )
 
+pub explain-right : (text list entry : List ℕ) (r : Explanation) → ExplainPromised text list entry r → ExplainRight text list entry r
+explain-right text list entry r promised = explained-is-right text list entry (explanationSays r) .0 (sym promised)
+
 pub demand-two-met : DemandTwoMet
 demand-two-met p kept =
     record {
@@ -237,5 +243,6 @@ demand-two-met p kept =
       translates = λ text list buffer t l b.
           translated-right text list buffer (p .translate text list buffer) (kept .translate text list buffer t l b);
       prints = λ text buffer t b. printed-right text buffer (p .print text buffer) (kept .print text buffer t b);
+      explains = λ text list entry t l e. explain-right text list entry (p .explain text list entry) (kept .explain text list entry t l e);
       runs = λ list blocks entry l s e. ran-right list blocks entry (p .run list blocks entry) (kept .run list blocks entry l s e);
     }

@@ -93,5 +93,6 @@ pub mod DemandThree
 pub mod WrongPrints
 pub mod WrongExplainers
 pub mod WrongExplainersExist
+pub mod PiecesRight
 pub mod WrongPrograms
 pub mod WrongProgramsExist

@@ -1,7 +1,9 @@
 -- Each public enum has one case for each answer of the paper. So one result keeps the promise of a call, and no second.
 use Prim.Native.Nat.{ℕ}
 use mathlib.Core.Path.{_≡_, refl, sym, ap, _∙_}
-use mathlib.Core.Bool.{Bool, true, false}
+use mathlib.Core.Bool.{Bool, true, false, cond}
+use mathlib.Core.Option.{Option, none, some}
+use mathlib.Core.List.{List}
 use Rattle.paper.specs.declared.Place.{Place}
 use Rattle.paper.specs.declared.Place.the-variants as P
 use Rattle.paper.specs.declared.Reading.{Reading}
@@ -16,9 +18,13 @@ use Rattle.paper.specs.declared.Loading.{Loading}
 use Rattle.paper.specs.declared.Loading.the-variants as L
 use Rattle.paper.specs.declared.Printing.{Printing}
 use Rattle.paper.specs.declared.Printing.the-variants as W
+use Rattle.paper.specs.declared.Explanation.{Explanation}
+use Rattle.paper.specs.declared.Explanation.the-variants as X
 use Rattle.paper.specs.Answers.{Input, inText, inList, inEntry, inBlocks, inBuffer, Answer, ok, refused, inputOf, offsetOf, readingSays, checkingSays, judgementSays, translationSays, loadingSays, printingSays}
 use Rattle.paper.specs.Calls.{readAnswer, checkAnswer, judgeAnswer, translateAnswer, translateBuffer, loadAnswer, runAnswer, printAnswer, printBuffer}
-use Rattle.paper.specs.Promised.{verdict, Sole, NoSecondResult, CanBeKept}
+use Rattle.paper.specs.Parts.{Part}
+use Rattle.paper.specs.Explained.{Reason, inPart, atKey, nothingToShow, falsePart, isRecord, keyIndex, nameStretch, reasonFor, explainAnswer, explanationSays}
+use Rattle.paper.specs.Promised.{ExplainPromised, verdict, Sole, NoSecondResult, CanBeKept}
 
 -- places
 
@@ -128,6 +134,47 @@ printings = record { good = W.Printed; refusal = W.Refused; good-says = λ n. re
     go (W.Printed n) = is-good n
     go (W.Refused n p) = is-refusal n p
 
+-- an explanation: a part, the key at a record's place, or nothing and a judgement
+
+abbrev pub judgementFor : Answer Bool → Judgement
+judgementFor (ok b) = verdict b
+judgementFor (refused n i at) = J.Refused n (placeAt i at)
+
+judgement-back : (j : Judgement) → judgementFor (judgementSays j) ≡ j
+judgement-back J.Accepted = refl
+judgement-back J.Violated = refl
+judgement-back (J.Refused n p) = ap (J.Refused n) (place-back p)
+
+abbrev pub explanationFor : Reason → Explanation
+explanationFor (inPart number place s) = X.Part number place (s .from) (s .to)
+explanationFor (atKey place k s) = X.Key place (s .from) (s .to)
+explanationFor (nothingToShow a) = X.Nothing (judgementFor a)
+
+says-for : (r : Explanation) → explanationFor (explanationSays r) ≡ r
+says-for (X.Part number place from to) = refl
+says-for (X.Key place from to) = refl
+says-for (X.Nothing j) = ap X.Nothing (judgement-back j)
+
+for-says : (list : List ℕ) (x : Answer (Option Part)) → explanationSays (explanationFor (reasonFor list x)) ≡ reasonFor list x
+for-says list (ok (some p)) = refl
+for-says list (ok none) = refl
+for-says list (refused n i at) = go (isRecord n at)
+  where
+    go : (b : Bool)
+        → (let r = cond b (atKey at (keyIndex at) (nameStretch list (keyIndex at))) (nothingToShow (refused n i at)) in
+        explanationSays (explanationFor r) ≡ r)
+    go true = refl
+    go false = ap nothingToShow (refusal-back n i at)
+
+one-explanation : (text list entry : List ℕ) → Sole (ExplainPromised text list entry)
+unfolding explainAnswer
+one-explanation text list entry =
+    record {
+      result = explanationFor (explainAnswer text list entry);
+      satisfies = for-says list (falsePart text list entry);
+      no-second = λ r h. sym (says-for r) ∙ ap explanationFor h;
+    }
+
 -- results that say the same are the same
 
 pub reading-same : (r s : Reading) → readingSays r ≡ readingSays s → r ≡ s
@@ -147,6 +194,9 @@ loading-same = same-says loadingSays loadings
 
 pub printing-same : (r s : Printing) → printingSays r ≡ printingSays s → r ≡ s
 printing-same = same-says printingSays printings
+
+pub explanation-same : (r s : Explanation) → explanationSays r ≡ explanationSays s → r ≡ s
+explanation-same r s h = sym (says-for r) ∙ ap explanationFor h ∙ says-for s
 
 -- calls
 
@@ -172,6 +222,7 @@ no-second-result =
             satisfies = record { says = answer .satisfies; holds = refl };
             no-second = λ r h i. record { answer = answer .no-second (r .answer) (h .says) i; buffer = h .holds i };
           };
+      explain = one-explanation;
     }
 
 pub can-be-kept : CanBeKept
@@ -185,6 +236,7 @@ can-be-kept =
         load = λ list blocks. s .load list blocks .result;
         run = λ list blocks entry. s .run list blocks entry .result;
         print = λ text buffer. s .print text buffer .result;
+        explain = λ text list entry. s .explain text list entry .result;
       },
       record {
         read = λ text _. s .read text .satisfies;
@@ -194,5 +246,6 @@ can-be-kept =
         load = λ list blocks _ _. s .load list blocks .satisfies;
         run = λ list blocks entry _ _ _. s .run list blocks entry .satisfies;
         print = λ text buffer _ _. s .print text buffer .satisfies;
+        explain = λ text list entry _ _ _. s .explain text list entry .satisfies;
       },
     )

@@ -14,24 +14,25 @@ use Rattle.paper.specs.Meaning.{valueOf}
 use Rattle.paper.specs.Calls.{tree, judgeAnswer}
 use Rattle.paper.specs.Parts.{Stretch, Part, parts}
 use Rattle.paper.specs.Explained.{inPart, atKey, nothingToShow, explainAnswer}
-use Rattle.paper.specs.WrongExplainers.{Explainer, Right, Names, ViolatedEntry, NamesLast, FollowsSpine, WrongExplainersFail}
+use Rattle.paper.specs.WrongExplainers.{Explainer, Lendable, Right, Names, ViolatedEntry, NamesLast, FollowsSpine, WrongExplainersFail}
+use Rattle.paper.proofs.ByteLists.{all-bytes}
 use Rattle.paper.proofs.ExplainedRight.{is-right, explained-is-right}
 
 -- the entries, with no keys, and what is right of them
 
-abbrev low : List ℕ
+abbrev pub low : List ℕ
 low = bigEndian 4 0
 
 abbrev high : List ℕ
 high = bigEndian 4 (2 ^ 31)
 
-abbrev twoFalse : List ℕ
+abbrev pub twoFalse : List ℕ
 twoFalse = bytes "false;false"
 
 abbrev nested : List ℕ
 nested = bytes "(true;false);true"
 
-two-shown : explainAnswer twoFalse [] low ≡ inPart 1 0 (record { from = 0; to = 5 })
+pub two-shown : explainAnswer twoFalse [] low ≡ inPart 1 0 (record { from = 0; to = 5 })
 unfolding explainAnswer
 two-shown = refl
 
@@ -43,20 +44,29 @@ high-shown : explainAnswer (bytes "true") [] high ≡ nothingToShow (refused 20 
 unfolding explainAnswer
 high-shown = refl
 
+pub two-lendable : Lendable twoFalse [] low
+two-lendable = (all-bytes twoFalse refl, tt, all-bytes low refl)
+
+nested-lendable : Lendable nested [] low
+nested-lendable = (all-bytes nested refl, tt, all-bytes low refl)
+
+high-lendable : Lendable (bytes "true") [] high
+high-lendable = (all-bytes (bytes "true") refl, tt, all-bytes high refl)
+
 module _ (x : Explainer) (right : Right x) where
-  told : (text list entry : List ℕ) → x text list entry ≡ explainAnswer text list entry
-  told text list entry = sym (explained-is-right text list entry (x text list entry) .1 (right text list entry))
+  told : (text list entry : List ℕ) → Lendable text list entry → x text list entry ≡ explainAnswer text list entry
+  told text list entry lendable = sym (explained-is-right text list entry (x text list entry) .1 (right text list entry lendable))
 
   -- where the first part is right, it names no second
-  not-second : (text list entry : List ℕ) (place : ℕ) (s : Stretch) → explainAnswer text list entry ≡ inPart 1 place s
-      → ¬ Names 2 (x text list entry)
-  not-second text list entry place s shown (at, u, e) =
-      let z : _≡_ {A = ℕ} 1 2 = cc (sym shown ∙ sym (told text list entry) ∙ e) in
+  not-second : (text list entry : List ℕ) → Lendable text list entry → (place : ℕ) (s : Stretch)
+      → explainAnswer text list entry ≡ inPart 1 place s → ¬ Names 2 (x text list entry)
+  not-second text list entry lendable place s shown (at, u, e) =
+      let z : _≡_ {A = ℕ} 1 2 = cc (sym shown ∙ sym (told text list entry lendable) ∙ e) in
       omega arith
 
   no-key : (place k : ℕ) (s : Stretch) → ¬ (x (bytes "true") [] high ≡ atKey place k s)
   no-key place k s e =
-      let z : _≡_ {A = ℕ} 0 1 = cc (sym high-shown ∙ sym (told (bytes "true") [] high) ∙ e) in
+      let z : _≡_ {A = ℕ} 0 1 = cc (sym high-shown ∙ sym (told (bytes "true") [] high high-lendable) ∙ e) in
       omega arith
 
 -- and what the wrong ones make of them
@@ -71,6 +81,7 @@ two-violated : ViolatedEntry twoFalse [] low
 unfolding keys entryOf tree judgeAnswer
 two-violated =
     record {
+      lendable = two-lendable;
       ks = [];
       listed = refl;
       on = record { priority = 0; matches = [] };
@@ -84,6 +95,7 @@ nested-violated : ViolatedEntry nested [] low
 unfolding keys entryOf tree judgeAnswer
 nested-violated =
     record {
+      lendable = nested-lendable;
       ks = [];
       listed = refl;
       on = record { priority = 0; matches = [] };
@@ -115,9 +127,9 @@ high-refused = refl
 pub wrong-explainers-fail : WrongExplainersFail
 wrong-explainers-fail =
     record {
-      right = is-right;
-      last-part = λ x names right. not-second x right twoFalse [] low 0 _ two-shown (second-last x names);
-      left-spine = λ x follows right. not-second x right nested [] low 5 _ nested-shown (second-in-spine x follows);
+      right = λ text list entry _. is-right text list entry;
+      last-part = λ x names right. not-second x right twoFalse [] low two-lendable 0 _ two-shown (second-last x names);
+      left-spine = λ x follows right. not-second x right nested [] low nested-lendable 5 _ nested-shown (second-in-spine x follows);
       key-for-priority = λ x shows right.
-          let (place, k, s, e) = shows (bytes "true") [] high high-refused in no-key x right place k s e;
+          let (place, k, s, e) = shows (bytes "true") [] high high-lendable high-refused in no-key x right place k s e;
     }

@@ -85,7 +85,7 @@ module _ (cut : List ℕ → Answer (List Part)) (choose : (Part → Bool) → L
     right-by (refuses n i at stops) = stopped-right n i at stops
 
   right-elsewhere : ((text : List ℕ) (t : Tree) → tree text ≡ ok t → ChoosesNone text t) → RightBut (ok false) wrong
-  right-elsewhere chooses text list entry unless = right-by chooses text list entry unless (entered text list entry)
+  right-elsewhere chooses text list entry _ unless = right-by chooses text list entry unless (entered text list entry)
 
 -- a violated entry passes those stages, with its own keys and matches
 module _ (text list entry : List ℕ) (v : ViolatedEntry text list entry) where
@@ -244,7 +244,7 @@ wrong-explainers-exist =
       left-spine = (explainWith spineParts firstFalse isRecord, spine-follows, right-elsewhere spineParts firstFalse spine-chooses);
       key-for-priority = (
         forPriority,
-        λ text list entry judged. priority-key text list entry judged (entered text list entry),
-        λ text list entry unless. elsewhere-right text list entry unless (entered text list entry),
+        λ text list entry _ judged. priority-key text list entry judged (entered text list entry),
+        λ text list entry _ unless. elsewhere-right text list entry unless (entered text list entry),
       );
     }

@@ -1,5 +1,5 @@
--- The wrong programs fail, each at an input: the cases 2 and 7 of the marked judgements, `true` with no keys, `true; v == 0`, and for
--- printers `a;b` and `!(a==b)`.
+-- The wrong programs fail, each at an input: the cases 2 and 7 of the marked judgements, `true` with no keys, `true; v == 0`, for printers
+-- `a;b` and `!(a==b)`, and for explainers the texts of WrongExplainers.
 use Prim.Native.Nat.{ℕ, zero, suc, _+_, _*_, _≤_}
 use native.Mathlib.Omega.{arith}
 use mathlib.Core.Path.{_≡_, refl, sym, ap, _∙_}
@@ -28,7 +28,8 @@ use Rattle.paper.specs.MarkedJudgements.{theKeys, theEntry}
 use Rattle.paper.specs.Promised.{verdict, PrintResult, Bytes, Programs, KeepsCheck, KeepsLoad}
 use Rattle.paper.specs.Demands.{DemandOne, DemandTwo, DemandThree}
 use Rattle.paper.specs.WrongPrints.{withoutParentheses, withAllParentheses, withAndForSequel}
-use Rattle.paper.specs.WrongPrograms.{RefusesAll, AcceptsAll, WritesNothing, FirstPartOnly, PassesNothing, PassesAll, WantsAllBlocks, CountsRight, Lends, CopiesText, LeavesParentheses, EnclosesAll, WritesAndForSequel, WrongProgramsFail, NoWrongProgram, paddedText, paddedBlocks, PaddingSeen}
+use Rattle.paper.specs.WrongExplainers.{Right}
+use Rattle.paper.specs.WrongPrograms.{RefusesAll, AcceptsAll, WritesNothing, FirstPartOnly, PassesNothing, PassesAll, WantsAllBlocks, CountsRight, Lends, CopiesText, LeavesParentheses, EnclosesAll, WritesAndForSequel, explainer, NamesLastPart, FollowsLeftSpine, ShowsKeyForPriority, WrongProgramsFail, NoWrongProgram, paddedText, paddedBlocks, PaddingSeen}
 use Rattle.paper.proofs.Stages.{never-ok, ok-same}
 use Rattle.paper.proofs.LayoutPassed.{first-counted}
 use Rattle.paper.proofs.Table.{table-holds}
@@ -40,6 +41,7 @@ use Rattle.paper.proofs.DemandTwo.{restricts, checkable-restriction, wo
 use Rattle.paper.proofs.DemandThree.{demand-three-met}
 use Rattle.paper.proofs.WellFormed.{tree-formed}
 use Rattle.paper.proofs.WrongPrints.{close, negated, reads-close, reads-negated}
+use Rattle.paper.proofs.WrongExplainers.{wrong-explainers-fail}
 
 -- what demand 2 says of an entry that is judged
 by-demand-two : (p : Programs) → DemandTwo p → (text list entry : List ℕ) → Bytes text → Bytes list → Bytes entry → (b : Bool) → judgeAnswer text list entry ≡ ok b
@@ -294,6 +296,20 @@ confusing-fails p two confuses =
     in
     omega arith
 
+-- what demand 2 asks of an explainer is what 02 asks
+
+explains-right : (p : Programs) → DemandTwo p → Right (explainer p)
+explains-right p two text list entry (t, l, e) = two .explains text list entry t l e
+
+naming-last-fails : (p : Programs) → DemandTwo p → ¬ NamesLastPart p
+naming-last-fails p two names = wrong-explainers-fail .last-part (explainer p) names (explains-right p two)
+
+following-spine-fails : (p : Programs) → DemandTwo p → ¬ FollowsLeftSpine p
+following-spine-fails p two follows = wrong-explainers-fail .left-spine (explainer p) follows (explains-right p two)
+
+showing-key-fails : (p : Programs) → DemandTwo p → ¬ ShowsKeyForPriority p
+showing-key-fails p two shows = wrong-explainers-fail .key-for-priority (explainer p) shows (explains-right p two)
+
 pub wrong-programs-fail : WrongProgramsFail
 wrong-programs-fail p =
     record {
@@ -309,6 +325,9 @@ wrong-programs-fail p =
       leaving = leaving-fails p;
       enclosing = enclosing-fails p;
       confusing = confusing-fails p;
+      naming-last = naming-last-fails p;
+      following-spine = following-spine-fails p;
+      showing-key = showing-key-fails p;
     }
 
 pub no-wrong-program : NoWrongProgram
@@ -328,6 +347,9 @@ no-wrong-program p kept =
       leaving = leaving-fails p two;
       enclosing = enclosing-fails p two;
       confusing = confusing-fails p two;
+      naming-last = naming-last-fails p two;
+      following-spine = following-spine-fails p two;
+      showing-key = showing-key-fails p two;
     }
 
 padded-loads : loadAnswer theKeys paddedBlocks ≡ ok 3

@@ -15,6 +15,7 @@ use Rattle.paper.specs.declared.Loading.the-variants as L
 use Rattle.paper.specs.declared.Translation.{Translation}
 use Rattle.paper.specs.declared.Translation.the-variants as T
 use Rattle.paper.specs.declared.Printing.the-variants as W
+use Rattle.paper.specs.declared.Explanation.{Explanation}
 use Rattle.paper.specs.Answers.{Answer, ok, refused, _>>=_}
 use Rattle.paper.specs.Tokens.{bytes, is, mostText}
 use Rattle.paper.specs.Keys.{keys}
@@ -23,13 +24,16 @@ use Rattle.paper.specs.Grammar as G
 use Rattle.paper.specs.Grammar.{Tree, nodes}
 use Rattle.paper.specs.Translating.{conversions}
 use Rattle.paper.specs.Calls.{sized, tree, Restriction, restriction, over, lends}
+use Rattle.paper.specs.Explained.{Reason, keyIndex, explanationSays}
 use Rattle.paper.specs.Promised.{TranslateResult, PrintResult, Bytes, Programs, Kept}
 use Rattle.paper.specs.Demands.{blocksWritten}
 use Rattle.paper.specs.WrongPrints.{withoutParentheses, withAllParentheses, withAndForSequel}
-use Rattle.paper.specs.WrongPrograms.{FirstPartOnly, WantsAllBlocks, CountsRight, Lends, partOf, judging, translating, loading, printing, OthersKept, ThereIs, WrongProgramsExist}
-use Rattle.paper.proofs.Promised.{placeAt, translation-same, can-be-kept}
+use Rattle.paper.specs.WrongExplainers.{Explainer, Names}
+use Rattle.paper.specs.WrongPrograms.{FirstPartOnly, WantsAllBlocks, CountsRight, Lends, partOf, judging, translating, loading, printing, explaining, OthersKept, ThereIs, WrongProgramsExist}
+use Rattle.paper.proofs.Promised.{placeAt, explanationFor, translation-same, can-be-kept}
 use Rattle.paper.proofs.ByteLists.{zero-bytes, all-bytes}
 use Rattle.paper.proofs.DemandThree.{demand-three-met}
+use Rattle.paper.proofs.WrongExplainersExist.{wrong-explainers-exist}
 use Rattle.paper.proofs.WrongPrograms.{little, plain-written}
 
 -- a program that cuts: it translates what stands before the first ";"
@@ -61,41 +65,59 @@ plain-counts = refl
 -- each wrong program is one that keeps all promises but that of one call
 
 module _ (q : Programs) (kept : Kept q) where
+  abbrev with-calls : (List ℕ → List ℕ → List ℕ → Judgement) → (List ℕ → List ℕ → List ℕ → TranslateResult) → (List ℕ → List ℕ → Loading)
+      → (List ℕ → List ℕ → PrintResult) → (List ℕ → List ℕ → List ℕ → Explanation) → Programs
+  with-calls judge translate load print explain =
+      record {
+        read = q .read;
+        check = q .check;
+        judge = judge;
+        translate = translate;
+        load = load;
+        run = q .run;
+        print = print;
+        explain = explain;
+      }
+
   -- with another judge
   judges : (List ℕ → List ℕ → List ℕ → Judgement) → Programs
-  judges judge =
-      record { read = q .read; check = q .check; judge = judge; translate = q .translate; load = q .load; run = q .run; print = q .print }
+  judges judge = with-calls judge (q .translate) (q .load) (q .print) (q .explain)
 
   others-than-judge : (judge : List ℕ → List ℕ → List ℕ → Judgement) → OthersKept judging (judges judge)
   unfolding judges
-  others-than-judge judge = (kept .read, kept .check, kept .translate, kept .load, kept .run, kept .print)
+  others-than-judge judge = (kept .read, kept .check, kept .translate, kept .load, kept .run, kept .print, kept .explain)
 
   -- with another translator
   translators : (List ℕ → List ℕ → List ℕ → TranslateResult) → Programs
-  translators translate =
-      record { read = q .read; check = q .check; judge = q .judge; translate = translate; load = q .load; run = q .run; print = q .print }
+  translators translate = with-calls (q .judge) translate (q .load) (q .print) (q .explain)
 
   others-than-translate : (translate : List ℕ → List ℕ → List ℕ → TranslateResult) → OthersKept translating (translators translate)
   unfolding translators
-  others-than-translate translate = (kept .read, kept .check, kept .judge, kept .load, kept .run, kept .print)
+  others-than-translate translate = (kept .read, kept .check, kept .judge, kept .load, kept .run, kept .print, kept .explain)
 
   -- with another loader
   loaders : (List ℕ → List ℕ → Loading) → Programs
-  loaders load =
-      record { read = q .read; check = q .check; judge = q .judge; translate = q .translate; load = load; run = q .run; print = q .print }
+  loaders load = with-calls (q .judge) (q .translate) load (q .print) (q .explain)
 
   others-than-load : (load : List ℕ → List ℕ → Loading) → OthersKept loading (loaders load)
   unfolding loaders
-  others-than-load load = (kept .read, kept .check, kept .judge, kept .translate, kept .run, kept .print)
+  others-than-load load = (kept .read, kept .check, kept .judge, kept .translate, kept .run, kept .print, kept .explain)
 
   -- with another printer
   printers : (List ℕ → List ℕ → PrintResult) → Programs
-  printers print =
-      record { read = q .read; check = q .check; judge = q .judge; translate = q .translate; load = q .load; run = q .run; print = print }
+  printers print = with-calls (q .judge) (q .translate) (q .load) print (q .explain)
 
   others-than-print : (print : List ℕ → List ℕ → PrintResult) → OthersKept printing (printers print)
   unfolding printers
-  others-than-print print = (kept .read, kept .check, kept .judge, kept .translate, kept .load, kept .run)
+  others-than-print print = (kept .read, kept .check, kept .judge, kept .translate, kept .load, kept .run, kept .explain)
+
+  -- with another explainer
+  explainers : (List ℕ → List ℕ → List ℕ → Explanation) → Programs
+  explainers explain = with-calls (q .judge) (q .translate) (q .load) (q .print) explain
+
+  others-than-explain : (explain : List ℕ → List ℕ → List ℕ → Explanation) → OthersKept explaining (explainers explain)
+  unfolding explainers
+  others-than-explain explain = (kept .read, kept .check, kept .judge, kept .translate, kept .load, kept .run, kept .print)
 
   -- the one that translates what stands before the first ";"
 
@@ -166,8 +188,16 @@ module _ (q : Programs) (kept : Kept q) where
   there-is : (made : List ℕ → Tree → List ℕ) → ThereIs (Lends made) printing
   there-is made = (printers (lender made), lender-lends made, others-than-print (lender made))
 
+-- the wrong explainers, each in the words of the enum
+
+abbrev worded : Explainer → List ℕ → List ℕ → List ℕ → Explanation
+worded x text list entry = explanationFor (x text list entry)
+
+names-worded : (n : ℕ) (r : Reason) → Names n r → Names n (explanationSays (explanationFor r))
+names-worded n r (place, s, e) = (place, s, ap (λ (x : Reason). explanationSays (explanationFor x)) e)
+
 pub wrong-programs-exist : WrongProgramsExist
-unfolding judges translators loaders
+unfolding judges translators loaders explainers
 wrong-programs-exist =
     let (q, kept) = can-be-kept in
     let refuses : List ℕ → List ℕ → List ℕ → Judgement = λ text list entry. J.Refused 20 (P.Entry 0) in
@@ -194,4 +224,26 @@ wrong-programs-exist =
       leaving = there-is q kept (λ text t. withoutParentheses t);
       enclosing = there-is q kept (λ text t. withAllParentheses t);
       confusing = there-is q kept (λ text t. withAndForSequel t);
+      naming-last =
+          let (x, names, _) = wrong-explainers-exist .last-part in (
+            explainers q kept (worded x),
+            λ text list entry v before after p split fails held.
+                names-worded (p .number) (x text list entry) (names text list entry v before after p split fails held),
+            others-than-explain q kept (worded x),
+          );
+      following-spine =
+          let (x, follows, _) = wrong-explainers-exist .left-spine in (
+            explainers q kept (worded x),
+            λ text list entry v before after t split held fails.
+                names-worded (suc (length before)) (x text list entry) (follows text list entry v before after t split held fails),
+            others-than-explain q kept (worded x),
+          );
+      showing-key =
+          let (x, shows, _) = wrong-explainers-exist .key-for-priority in (
+            explainers q kept (worded x),
+            λ text list entry lendable judged.
+                let (place, k, s, e) = shows text list entry lendable judged in
+                (place, keyIndex place, s, ap (λ (r : Reason). explanationSays (explanationFor r)) e),
+            others-than-explain q kept (worded x),
+          );
     }

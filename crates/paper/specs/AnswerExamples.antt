@@ -3,21 +3,25 @@ use Prim.Native.Nat.{ℕ, _^_}
 use mathlib.Core.Path.{_≡_}
 use mathlib.Core.List.{List, [], _∷_, _++_}
 use lib.ListN.{take, set, replicate}
+use denote.Ref.{RefT}
 use Rattle.paper.specs.declared.Place.the-variants as P
 use Rattle.paper.specs.declared.Reading.the-variants as R
 use Rattle.paper.specs.declared.Checking.the-variants as C
 use Rattle.paper.specs.declared.Judgement.the-variants as J
 use Rattle.paper.specs.declared.Translation.the-variants as T
 use Rattle.paper.specs.declared.Loading.the-variants as L
+use Rattle.paper.specs.declared.Explanation.the-variants as X
 use Rattle.paper.specs.Answers.{refused, inText, inList, inEntry, inBlocks}
 use Rattle.paper.specs.Numbers.{bigEndian}
 use Rattle.paper.specs.Tokens.{bytes}
 use Rattle.paper.specs.Calls.{readAnswer, checkAnswer, judgeAnswer, translateAnswer, loadAnswer, runAnswer}
-use Rattle.paper.specs.Promised.{ReadPromised, CheckPromised, JudgePromised, TranslatePromised, LoadPromised, RunPromised}
+use Rattle.paper.specs.Promised.{ReadPromised, CheckPromised, JudgePromised, TranslatePromised, LoadPromised, RunPromised, ExplainPromised}
+use Rattle.paper.specs.Pieces.{ExplainedPromised}
 use Rattle.paper.specs.MarkedJudgements.{theKeys, theEntry}
 use Rattle.paper.specs.CaseFour.{theBlock}
 use Rattle.paper.specs.BlockExamples.{row, blockWith, alone}
 use Rattle.paper.specs.Keys.{keyRecord}
+use Rattle.paper.specs.PartExamples.{entryWith}
 
 -- inputs with faults
 
@@ -39,6 +43,10 @@ shortEntry = take 183 theEntry
 
 abbrev pub brokenEntry : List ℕ
 brokenEntry = bigEndian 4 (2 ^ 31) ++ replicate 180 0
+
+-- the range of r is from 444 to 443
+abbrev pub badRecord : List ℕ
+badRecord = entryWith 10 1 444 15
 
 -- a block whose one instruction is 13, laid out well; the same with a check that is wrong; and one that says false
 abbrev pub badCode : List ℕ
@@ -79,6 +87,26 @@ pub record Answers : Type 0 where
   pub run-refuses-list : RunPromised repeatingList theBlock theEntry (J.Refused 4 (P.List 80))
   pub run-refuses-blocks : RunPromised theKeys badCode theEntry (J.Refused 18 (P.Blocks 4))
   pub run-refuses-entry : RunPromised theKeys theBlock shortEntry (J.Refused 19 (P.Entry 183))
+  pub explains-part : ExplainPromised (bytes "v == 1; (r::low > 0; false)") theKeys theEntry (X.Part 2 19 8 27)
+  pub explains-key : ExplainPromised (bytes "true") theKeys badRecord (X.Key 112 256 257)
+  pub explains-accepted : ExplainPromised (bytes "v == 1") theKeys theEntry (X.Nothing J.Accepted)
+  pub explain-refuses-text : ExplainPromised (bytes "d > 3") theKeys theEntry (X.Nothing (J.Refused 13 (P.Text 2)))
+  pub explain-refuses-list : ExplainPromised (bytes "true") repeatingList theEntry (X.Nothing (J.Refused 4 (P.List 80)))
+  pub explain-refuses-entry : ExplainPromised (bytes "true") theKeys shortEntry (X.Nothing (J.Refused 19 (P.Entry 183)))
+  pub explain-refuses-priority : ExplainPromised (bytes "true") theKeys brokenEntry (X.Nothing (J.Refused 20 (P.Entry 0)))
+
+-- 02 c: "handed back as the piece itself": the text lies in block 7 from its byte 100 on, and the list in block 9 from its byte 1000 on
+
+abbrev pub lies : ℕ → ℕ → List ℕ → RefT (List ℕ)
+lies block offset s = record { ptr = (block, offset); name = 0; now = s }
+
+pub record PieceAnswers : Type 0 where
+  pub part : ExplainedPromised (lies 7 100 (bytes "v == 1; false")) (lies 9 1000 theKeys) theEntry (X.Part 2 8 8 13)
+      (lies 7 108 (bytes "false")) (lies 9 0 [])
+  pub key : ExplainedPromised (lies 7 100 (bytes "true")) (lies 9 1000 theKeys) badRecord (X.Key 112 256 257)
+      (lies 7 0 []) (lies 9 1256 (bytes "r"))
+  pub nothing : ExplainedPromised (lies 7 100 (bytes "true")) (lies 9 1000 theKeys) theEntry (X.Nothing J.Accepted)
+      (lies 7 0 []) (lies 9 0 [])
 
 -- "Stages: 1; 2; 3 and 4; 5 to 7; 8 to 10; 11 to 13; 14; 15; 16; 17; 18; 19; 20." Each field has a fault of two stages that follow one
 -- another in a call
@@ -109,4 +137,5 @@ pub record InOrder : Type 0 where
 
 pub record AnswerExamples : Type 0 where
   pub answers : Answers
+  pub pieces : PieceAnswers
   pub in-order : InOrder

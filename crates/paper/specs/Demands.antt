@@ -10,7 +10,7 @@
 use Prim.Native.Nat.{ℕ, _+_, _*_, _≤_, _<_}
 use mathlib.Core.Path.{_≡_}
 use mathlib.Core.Logic.{_↔_}
-use mathlib.Core.Bool.{true, false}
+use mathlib.Core.Bool.{Bool, true, false}
 use mathlib.Core.Option.{some}
 use mathlib.Core.List.{List, [], _∷_, List·Memᴰ}
 use lib.ListN.{length, take, drop}
@@ -26,6 +26,7 @@ use Rattle.paper.specs.declared.Translation.the-variants as T
 use Rattle.paper.specs.declared.Loading.{Loading}
 use Rattle.paper.specs.declared.Loading.the-variants as L
 use Rattle.paper.specs.declared.Printing.the-variants as W
+use Rattle.paper.specs.declared.Explanation.{Explanation}
 use Rattle.paper.specs.Answers.{Input, inText, inList, inEntry, inBlocks, inBuffer, Answer, ok, refused, readingSays, checkingSays, judgementSays, translationSays, loadingSays, printingSays}
 use Rattle.paper.specs.Tokens.{Token, mostText}
 use Rattle.paper.specs.Keys.{Key, keys}
@@ -40,6 +41,8 @@ use Rattle.paper.specs.Loading.{program, loaded, valuesAlong}
 use Rattle.paper.specs.Translating.{conversions}
 use Rattle.paper.specs.Print.{print}
 use Rattle.paper.specs.Calls.{over}
+use Rattle.paper.specs.Explained.{explanationSays}
+use Rattle.paper.specs.ExplainedRight.{Explains, judgementOf}
 use Rattle.paper.specs.LoadedBlocksRun.{Runs}
 use Rattle.paper.specs.Faults.{Cuts}
 use Rattle.paper.specs.Table.{lastNumber, Stage, ByTable, readStages, checkStages, judgeStages, translateStages, loadStages, runStages, printStages}
@@ -47,7 +50,7 @@ use Rattle.paper.specs.Promised.{verdict, TranslateResult, PrintResult, 
 
 -- Demand 1. An answer is one of the enum's cases. It is a refusal exactly as the table of 01 says, with that number at that place, and
 -- passes exactly when no stage of the call has a fault. The number is one of the table's, and the place lies in an input that was lent, or
--- at its length.
+-- at its length. An explanation answers by the judgement that it tells.
 
 pub record Lent : Type 0 where
   pub input : Input
@@ -77,9 +80,15 @@ ReadAnswered text r = Answered (lent inText text ∷ []) (readStages text) (read
 abbrev pub CheckAnswered : List ℕ → List ℕ → Checking → Type 0
 CheckAnswered text list r = Answered (lent inText text ∷ lent inList list ∷ []) (checkStages text list) (checkingSays r)
 
+-- by judging, or by explaining
+abbrev pub EntryAnswered : List ℕ → List ℕ → List ℕ → Answer Bool → Type 0
+EntryAnswered text list entry a = Answered (lent inText text ∷ lent inList list ∷ lent inEntry entry ∷ []) (judgeStages text list entry) a
+
 abbrev pub JudgeAnswered : List ℕ → List ℕ → List ℕ → Judgement → Type 0
-JudgeAnswered text list entry r =
-    Answered (lent inText text ∷ lent inList list ∷ lent inEntry entry ∷ []) (judgeStages text list entry) (judgementSays r)
+JudgeAnswered text list entry r = EntryAnswered text list entry (judgementSays r)
+
+abbrev pub ExplainAnswered : List ℕ → List ℕ → List ℕ → Explanation → Type 0
+ExplainAnswered text list entry r = EntryAnswered text list entry (judgementOf (explanationSays r))
 
 -- and the buffer, which a refusal leaves as it is
 pub record TranslateAnswered (text list buffer : List ℕ) (r : TranslateResult) : Type 0 where
@@ -107,10 +116,12 @@ pub record DemandOne (p : Programs) : Type 0 where
   pub load : (list blocks : List ℕ) → Bytes list → Bytes blocks → LoadAnswered list blocks (p .load list blocks)
   pub run : (list blocks entry : List ℕ) → Bytes list → Bytes blocks → Bytes entry → RunAnswered list blocks entry (p .run list blocks entry)
   pub print : (text buffer : List ℕ) → Bytes text → Bytes buffer → PrintAnswered text buffer (p .print text buffer)
+  pub explain : (text list entry : List ℕ) → Bytes text → Bytes list → Bytes entry
+      → ExplainAnswered text list entry (p .explain text list entry)
 
 -- Demand 2, for every call that takes a text or an entry. A text is refused exactly when it is over a limit or ill-formed, the list does
 -- not pass, or the text is ill-typed against it; an entry exactly when it does not conform to the list. Else it is accepted exactly when
--- the restriction holds of it.
+-- the restriction holds of it. What is explained of an entry is what 02 asks, in terms of the judgement.
 
 -- within the limits, and a sentence
 pub record WellFormed (text : List ℕ) (root : Tree) : Type 0 where
@@ -190,6 +201,10 @@ pub record RanRight (list blocks entry : List ℕ) (r : Judgement) : Type 0 wher
   pub violates : (j : Runnable list blocks entry)
       → (r ≡ J.Violated) ↔ (valuesAlong (j .ks) (j .on) (program blocks) ≡ ends (truth false ∷ []))
 
+-- "For a violated entry, name the first false part .."
+abbrev pub ExplainRight : List ℕ → List ℕ → List ℕ → Explanation → Type 0
+ExplainRight text list entry r = Explains text list entry (explanationSays r)
+
 pub record DemandTwo (p : Programs) : Type 0 where
   pub reads : (text : List ℕ) → Bytes text → ReadRight text (p .read text)
   pub checks : (text list : List ℕ) → Bytes text → Bytes list → CheckedRight text list (p .check text list)
@@ -198,6 +213,7 @@ pub record DemandTwo (p : Programs) : Type 0 where
       → TranslatedRight text list buffer (p .translate text list buffer)
   pub runs : (list blocks entry : List ℕ) → Bytes list → Bytes blocks → Bytes entry → RanRight list blocks entry (p .run list blocks entry)
   pub prints : (text buffer : List ℕ) → Bytes text → Bytes buffer → PrintedRight text buffer (p .print text buffer)
+  pub explains : (text list entry : List ℕ) → Bytes text → Bytes list → Bytes entry → ExplainRight text list entry (p .explain text list entry)
 
 -- Demand 3. A text and a list that pass have a number of instructions, and are translated with it into every buffer that has room for
 -- its blocks; every other buffer is refused, 15 at its length. The blocks written load with that list, with the number returned, and

@@ -55,4 +55,5 @@ pub mod Table
 pub mod Demands
 pub mod WrongPrints
 pub mod WrongExplainers
+pub mod PiecesRight
 pub mod WrongPrograms

@@ -52,6 +52,7 @@ pub record PrintPromised (text buffer : List ℕ) (r : PrintResult) : Type 0 whe
   pub says : printingSays (r .answer) ≡ printAnswer text buffer
   pub holds : r .buffer ≡ printBuffer text buffer
 
+-- the numbers of an explanation; its pieces, which are references, stand in Pieces
 abbrev pub ExplainPromised : List ℕ → List ℕ → List ℕ → Explanation → Type 0
 ExplainPromised text list entry r = explanationSays r ≡ explainAnswer text list entry
 
@@ -73,6 +74,7 @@ pub record NoSecondResult : Type 0 where
   pub load : (list blocks : List ℕ) → Sole (LoadPromised list blocks)
   pub run : (list blocks entry : List ℕ) → Sole (RunPromised list blocks entry)
   pub print : (text buffer : List ℕ) → Sole (PrintPromised text buffer)
+  pub explain : (text list entry : List ℕ) → Sole (ExplainPromised text list entry)
 
 -- what can be lent: numbers below 256
 abbrev pub Bytes : List ℕ → Type 0
@@ -88,6 +90,7 @@ pub record Programs : Type 0 where
   pub load : List ℕ → List ℕ → Loading
   pub run : List ℕ → List ℕ → List ℕ → Judgement
   pub print : List ℕ → List ℕ → PrintResult
+  pub explain : List ℕ → List ℕ → List ℕ → Explanation
 
 abbrev pub KeepsRead : Programs → Type 0
 KeepsRead p = (text : List ℕ) → Bytes text → ReadPromised text (p .read text)
@@ -114,6 +117,10 @@ KeepsRun p =
 abbrev pub KeepsPrint : Programs → Type 0
 KeepsPrint p = (text buffer : List ℕ) → Bytes text → Bytes buffer → PrintPromised text buffer (p .print text buffer)
 
+abbrev pub KeepsExplain : Programs → Type 0
+KeepsExplain p =
+    (text list entry : List ℕ) → Bytes text → Bytes list → Bytes entry → ExplainPromised text list entry (p .explain text list entry)
+
 pub record Kept (p : Programs) : Type 0 where
   pub read : KeepsRead p
   pub check : KeepsCheck p
@@ -122,6 +129,7 @@ pub record Kept (p : Programs) : Type 0 where
   pub load : KeepsLoad p
   pub run : KeepsRun p
   pub print : KeepsPrint p
+  pub explain : KeepsExplain p
 
 -- there are such programs
 abbrev pub CanBeKept : Type 0

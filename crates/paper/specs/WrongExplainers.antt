@@ -1,6 +1,6 @@
 -- Explainers that are wrong: one that names the last false part, one that takes its parts from the left spine of the tree, and one that
 -- shows a key for a bad priority. Each is described so that a sloppy maker's is one, and fails what 02 c asks; and each is real: there is
--- one that is right everywhere else.
+-- one that is right everywhere else. As programs they stand in WrongPrograms; one that hands back a copy, in PiecesRight.
 use Prim.Native.Nat.{ℕ, suc}
 use mathlib.Core.Path.{_≡_}
 use mathlib.Core.Bool.{Bool, true, false, cond}
@@ -19,24 +19,31 @@ use Rattle.paper.specs.BlocksRoundTrip.{All}
 use Rattle.paper.specs.Parts.{Stretch, Part, parts}
 use Rattle.paper.specs.Explained.{Reason, inPart, atKey, nothingToShow, holdsOn, firstFalse, isRecord, keyIndex, nameStretch, explainAnswer}
 use Rattle.paper.specs.ExplainedRight.{Explains}
+use Rattle.paper.specs.Promised.{Bytes}
 
 -- what is told of a text, a list and an entry
 abbrev pub Explainer : Type 0
 Explainer = List ℕ → List ℕ → List ℕ → Reason
 
+-- what can be lent to it
+abbrev pub Lendable : List ℕ → List ℕ → List ℕ → Type 0
+Lendable text list entry = Bytes text × Bytes list × Bytes entry
+
 -- what 02 asks of it, and the same but for some judgements
 
 abbrev pub Right : Explainer → Type 0
-Right x = (text list entry : List ℕ) → Explains text list entry (x text list entry)
+Right x = (text list entry : List ℕ) → Lendable text list entry → Explains text list entry (x text list entry)
 
 abbrev pub RightBut : Answer Bool → Explainer → Type 0
-RightBut a x = (text list entry : List ℕ) → ¬ (judgeAnswer text list entry ≡ a) → Explains text list entry (x text list entry)
+RightBut a x =
+    (text list entry : List ℕ) → Lendable text list entry → ¬ (judgeAnswer text list entry ≡ a) → Explains text list entry (x text list entry)
 
 -- it names a part by this number, wherever it says that it stands
 abbrev pub Names : ℕ → Reason → Type 0
 Names n r = (place : ℕ) × (s : Stretch) × (r ≡ inPart n place s)
 
 pub record ViolatedEntry (text list entry : List ℕ) : Type 0 where
+  pub lendable : Lendable text list entry
   pub ks : List Key
   pub listed : keys list ≡ ok ks
   pub on : Entry
@@ -76,7 +83,7 @@ FollowsSpine x =
 -- some key for a bad priority
 abbrev pub KeyForPriority : Explainer → Type 0
 KeyForPriority x =
-    (text list entry : List ℕ) → judgeAnswer text list entry ≡ refused 20 inEntry 0
+    (text list entry : List ℕ) → Lendable text list entry → judgeAnswer text list entry ≡ refused 20 inEntry 0
     → (place k : ℕ) × (s : Stretch) × (x text list entry ≡ atKey place k s)
 
 -- real ones: with other parts, another part of them, or another test of what is a record's place

@@ -1,5 +1,5 @@
--- 01, "Try these against it": programs that the promises must leave no room for, and wrong printers (02 a). Each is refuted at an input,
--- named in the proof.
+-- 01, "Try these against it": programs that the promises must leave no room for; and wrong printers (02 a) and explainers (02 c). Each is
+-- refuted at an input, named in the proof.
 use Prim.Native.Nat.{ℕ, _+_, _*_, _≤_, _<_}
 use mathlib.Core.Path.{_≡_}
 use mathlib.Core.Bool.{true, false, cond}
@@ -22,8 +22,10 @@ use Rattle.paper.specs.Translating.{conversions}
 use Rattle.paper.specs.Calls.{tree, Restriction, restriction, over, judgeAnswer, loadAnswer, runAnswer}
 use Rattle.paper.specs.TranslationCorrect.{Carries}
 use Rattle.paper.specs.MarkedJudgements.{theKeys, theEntry}
-use Rattle.paper.specs.Promised.{Bytes, Programs, KeepsRead, KeepsCheck, KeepsJudge, KeepsTranslate, KeepsLoad, KeepsRun, KeepsPrint, Kept}
+use Rattle.paper.specs.Explained.{explanationSays}
+use Rattle.paper.specs.Promised.{Bytes, Programs, KeepsRead, KeepsCheck, KeepsJudge, KeepsTranslate, KeepsLoad, KeepsRun, KeepsPrint, KeepsExplain, Kept}
 use Rattle.paper.specs.WrongPrints.{withoutParentheses, withAllParentheses, withAndForSequel}
+use Rattle.paper.specs.WrongExplainers.{Explainer, NamesLast, FollowsSpine, KeyForPriority}
 use Rattle.paper.specs.Demands.{Refuses, blocksWritten, DemandOne, DemandTwo, DemandThree}
 
 -- the bytes before the first ";"
@@ -100,16 +102,31 @@ EnclosesAll = Lends (λ text t. withAllParentheses t)
 abbrev pub WritesAndForSequel : Programs → Type 0
 WritesAndForSequel = Lends (λ text t. withAndForSequel t)
 
+-- the three of WrongExplainers
+
+abbrev pub explainer : Programs → Explainer
+explainer p text list entry = explanationSays (p .explain text list entry)
+
+abbrev pub NamesLastPart : Programs → Type 0
+NamesLastPart p = NamesLast (explainer p)
+
+abbrev pub FollowsLeftSpine : Programs → Type 0
+FollowsLeftSpine p = FollowsSpine (explainer p)
+
+abbrev pub ShowsKeyForPriority : Programs → Type 0
+ShowsKeyForPriority p = KeyForPriority (explainer p)
+
 -- each is real: there is such a program in which every other call keeps its promise
 
 pub data Call : Type 0 where
-  judging translating loading printing : Call
+  judging translating loading printing explaining : Call
 
 abbrev pub OthersKept : Call → Programs → Type 0
-OthersKept judging p = KeepsRead p × KeepsCheck p × KeepsTranslate p × KeepsLoad p × KeepsRun p × KeepsPrint p
-OthersKept translating p = KeepsRead p × KeepsCheck p × KeepsJudge p × KeepsLoad p × KeepsRun p × KeepsPrint p
-OthersKept loading p = KeepsRead p × KeepsCheck p × KeepsJudge p × KeepsTranslate p × KeepsRun p × KeepsPrint p
-OthersKept printing p = KeepsRead p × KeepsCheck p × KeepsJudge p × KeepsTranslate p × KeepsLoad p × KeepsRun p
+OthersKept judging p = KeepsRead p × KeepsCheck p × KeepsTranslate p × KeepsLoad p × KeepsRun p × KeepsPrint p × KeepsExplain p
+OthersKept translating p = KeepsRead p × KeepsCheck p × KeepsJudge p × KeepsLoad p × KeepsRun p × KeepsPrint p × KeepsExplain p
+OthersKept loading p = KeepsRead p × KeepsCheck p × KeepsJudge p × KeepsTranslate p × KeepsRun p × KeepsPrint p × KeepsExplain p
+OthersKept printing p = KeepsRead p × KeepsCheck p × KeepsJudge p × KeepsTranslate p × KeepsLoad p × KeepsRun p × KeepsExplain p
+OthersKept explaining p = KeepsRead p × KeepsCheck p × KeepsJudge p × KeepsTranslate p × KeepsLoad p × KeepsRun p × KeepsPrint p
 
 abbrev pub ThereIs : (Programs → Type 0) → Call → Type 0
 ThereIs Wrong c = (p : Programs) × Wrong p × OthersKept c p
@@ -127,6 +144,9 @@ pub record WrongProgramsExist : Type 0 where
   pub leaving : ThereIs LeavesParentheses printing
   pub enclosing : ThereIs EnclosesAll printing
   pub confusing : ThereIs WritesAndForSequel printing
+  pub naming-last : ThereIs NamesLastPart explaining
+  pub following-spine : ThereIs FollowsLeftSpine explaining
+  pub showing-key : ThereIs ShowsKeyForPriority explaining
 
 -- what excludes each: a demand, beside the calls that it is tried with; or the promise of `load`, by 18
 pub record DemandsExclude (p : Programs) : Type 0 where
@@ -142,6 +162,9 @@ pub record DemandsExclude (p : Programs) : Type 0 where
   pub leaving : DemandTwo p → ¬ LeavesParentheses p
   pub enclosing : DemandTwo p → ¬ EnclosesAll p
   pub confusing : DemandTwo p → ¬ WritesAndForSequel p
+  pub naming-last : DemandTwo p → ¬ NamesLastPart p
+  pub following-spine : DemandTwo p → ¬ FollowsLeftSpine p
+  pub showing-key : DemandTwo p → ¬ ShowsKeyForPriority p
 
 abbrev pub WrongProgramsFail : Type 0
 WrongProgramsFail = (p : Programs) → DemandsExclude p
@@ -160,6 +183,9 @@ pub record Excluded (p : Programs) : Type 0 where
   pub leaving : ¬ LeavesParentheses p
   pub enclosing : ¬ EnclosesAll p
   pub confusing : ¬ WritesAndForSequel p
+  pub naming-last : ¬ NamesLastPart p
+  pub following-spine : ¬ FollowsLeftSpine p
+  pub showing-key : ¬ ShowsKeyForPriority p
 
 abbrev pub NoWrongProgram : Type 0
 NoWrongProgram = (p : Programs) → Kept p → Excluded p

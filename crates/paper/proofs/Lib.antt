@@ -83,6 +83,7 @@ pub mod PrintReadsBack
 pub mod PrintDemands
 pub mod PartsCut
 pub mod PartsDecide
+pub mod PartsTyped
 pub mod PartsInText
 pub mod RecordsRefused
 pub mod NamesInList

@@ -10,6 +10,7 @@ use Rattle.paper.specs.Tokens.{sequel, Token}
 use Rattle.paper.specs.Keys.{Key}
 use Rattle.paper.specs.Entry.{Entry}
 use Rattle.paper.specs.Grammar.{Tree, joined, placeOf}
+use Rattle.paper.specs.Types.{typed}
 use Rattle.paper.specs.Meaning.{valueOf, isTrue}
 use Rattle.paper.specs.Calls.{tree}
 use Rattle.paper.specs.BlocksRoundTrip.{All}
@@ -34,6 +35,12 @@ PartsDecide =
     (text : List ℕ) (t : Tree) (ps : List Part) → tree text ≡ ok t → parts text ≡ ok ps → (ks : List Key) (e : Entry)
     → (isTrue (valueOf ks e t) ≡ true) ↔ All (λ p. holdsOn ks e p ≡ true) ps
 
+-- and where it has the right types, so has each part
+abbrev pub PartsTyped : Type 0
+PartsTyped =
+    (text : List ℕ) (t : Tree) (ps : List Part) → tree text ≡ ok t → parts text ≡ ok ps → (ks : List Key) → typed ks t ≡ ok tt
+    → All (λ p. typed ks (p .root) ≡ ok tt) ps
+
 -- a stretch of some bytes, with at least one of them
 pub record StretchIn (s : List ℕ) (r : Stretch) : Type 0 where
   pub some : r .from < r .to
@@ -47,6 +54,10 @@ pub record PartIn (text : List ℕ) (p : Part) : Type 0 where
 
 abbrev pub PartsInText : Type 0
 PartsInText = (text : List ℕ) (ps : List Part) → parts text ≡ ok ps → All (PartIn text) ps
+
+-- a text that is read has a part
+abbrev pub SomePart : Type 0
+SomePart = (text : List ℕ) (t : Tree) (ps : List Part) → tree text ≡ ok t → parts text ≡ ok ps → 1 ≤ length ps
 
 -- each part has a token, and a ";" stands between two
 

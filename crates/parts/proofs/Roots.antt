@@ -10,6 +10,7 @@ use Rattle.paper.specs.Grammar.{Tree, joined}
 use Rattle.paper.specs.BlocksRoundTrip.{All}
 use Rattle.paper.specs.PartsDecide.{JoinedLeft, alone, then}
 use Rattle.paper.proofs.Basics.{all-append}
+use Rattle.paper.proofs.PartsTyped.{some-joined}
 use Rattle.trees.specs.declared.node.Node.{Node}
 use Rattle.trees.specs.declared.node.Node.the-variants.{Without, Before, Between}
 use Rattle.trees.specs.declared.node.Leaf.{Leaf}
@@ -50,10 +51,6 @@ module _ (text nodes : List ℕ) where
       go (Key w) Without h = absurd (let z : _≡_ {A = ℕ} 0 1 = cc in omega arith)
       go (Field w f) Without h = absurd (let z : _≡_ {A = ℕ} 0 1 = cc in omega arith)
       go (Attribute f) Without h = absurd (let z : _≡_ {A = ℕ} 0 1 = cc in omega arith)
-
-  some-joined : {ts : List Tree} {t : Tree} → JoinedLeft ts t → 1 ≤ length ts
-  some-joined (alone t) = omega arith
-  some-joined (then {ts = ts} j at r) = omega (arith, length-append ts (r ∷ []))
 
   pub roots-are : (n i : ℕ) {ts : List Tree} {t : Tree} → treeAt text nodes i ≡ t → JoinedLeft ts t → length ts ≡ n
       → map (treeAt text nodes) (spine nodes i n) ≡ ts

@@ -80,8 +80,8 @@ module _ (text list : List ℕ) where
 
     module _ (l : Counted) (says : countedSays l ≡ keyCount list) where
       -- a refusal of the list is one of the whole
-      pub not-listed : (nodes : List ℕ) {n : ℕ} {p : Place} → l ≡ Refused n p → Restricts text list nodes l
-      not-listed nodes e = subst (Restricts text list nodes) (sym e) (short ∙ rw (K.not-listed list (sym says ∙ ap countedSays e)))
+      pub not-listed : {n : ℕ} {p : Place} → l ≡ Refused n p → restriction text list ≡ refused n (inputOf p) (offsetOf p)
+      not-listed e = short ∙ rw (K.not-listed list (sym says ∙ ap countedSays e))
 
       module _ {n : ℕ} (e : l ≡ Count n) where
         pub good : keys list ≡ ok (keysIn list)

@@ -7,11 +7,17 @@
 // `restrict` takes a key list too. It gives the first refusal that document 01 gives the two (1; 2; 3 and 4; 5 to 10; 11 to 14), or
 // how many nodes stand before the root, which is its number. What it promises is the definition `restriction`. The names of the tree that
 // it leaves in `nodes` are resolved: each has its mark, for the walks that judge and translate it.
+//
+// `restrict_parts` gives the same refusals, or how many parts the text has. They are found while the tokens still stand on the tape, and
+// stored in rows (crate parts); the trees at their roots can be judged one by one. A reader that is lent no rows looks for no parts.
 ghost use Prim.Native.Nat.{_≤_};
 ghost use lib.ListN.{length};
 ghost use Rattle.paper.specs.Tokens.{mostText};
-ghost use Rattle.reading.specs.Grown.{Room, Short, CutOn, Grows};
+ghost use Rattle.parts.specs.Found.{Taped, Noded, Finds};
+ghost use Rattle.reading.specs.Grown.{Room, Short, CutOn, CountedOn, ofTree, Grows, RowRoom, Sows};
 ghost use Rattle.reading.specs.Restricted.{Types, Restricts};
+ghost use Rattle.reading.specs.Parted.{Readies, RestrictsParts};
+use crate::grown::Grown;
 use paper::Checking;
 use paper::Counted;
 use paper::Place;
@@ -19,6 +25,8 @@ use paper::refused;
 use tokens::MOST_TOKENS;
 use tokens::rows::Row;
 use trees::Node;
+
+mod grown;
 
 // No text is longer: document 01's refusal 1, which is given before a text comes here.
 pub const MOST_TEXT: usize = 4096;
@@ -32,40 +40,88 @@ pub const SHORT_TEXT: usize = 256;
 // The words of its nodes.
 pub const SHORT_NODE_WORDS: usize = Node::WORDS * SHORT_TEXT;
 
-// The number of nodes, of which the last is the root; or a refusal. What was cut from the text stands on a tape that is lent.
-fn grow(text: &[u8], tape: &[u32], tokenized: Counted, nodes: &mut [u32]) -> Counted
+// The words of the rows of a text's parts.
+pub const PART_WORDS: usize = parts::PART_WORDS;
+
+// How many parts a text has, each of which is stored in a row. Where the rows have no room for them, none is looked for.
+fn find_parts(tape: &[u32], count: usize, nodes: &[u32], root: usize, rows: &mut [u32]) -> usize
+    requires { ⌜ Taped (now tape) count ⌝ }
+    requires { ⌜ Noded (now nodes) root ⌝ }
+    ensures { λ r. ⌜ (RowRoom (now (rows .exit)) → Finds (now (tape .entry)) count (now (nodes .entry)) root (now (rows .exit)) r) ⌝ }
+{
+    if rows.len() < PART_WORDS {
+        return 0;
+    }
+    parts::find(tape, count, nodes, root, rows)
+}
+
+// The number of nodes, of which the last is the root, and the parts; or a refusal. Of tokens that are counted.
+fn plant(text: &[u8], tape: &[u32], count: usize, nodes: &mut [u32], rows: &mut [u32]) -> Grown
+    requires { ⌜ CountedOn (now text) (now tape) count ⌝ }
+    requires { ⌜ Room (now text) (now tape) ⌝ }
+    requires { ⌜ Room (now text) (now nodes) ⌝ }
+    ensures { λ r. ⌜ Grows (now (text .entry)) (now (nodes .exit)) (ofTree r) ⌝ }
+    ensures { λ r. ⌜ Sows (now (text .entry)) (now (nodes .exit)) (now (rows .exit)) r ⌝ }
+{
+    let parsed = grammar::parse(text, tape, count, nodes);
+    match parsed {
+        Counted::Refused(number, place) => Grown::Refused(number, place),
+        Counted::Count(size) => {
+            let found = find_parts(tape, count, nodes, size - 1, rows);
+            Grown::Tree(size, found)
+        }
+    }
+}
+
+// The same of what was cut from the text, which stands on a tape that is lent.
+fn grow(text: &[u8], tape: &[u32], tokenized: Counted, nodes: &mut [u32], rows: &mut [u32]) -> Grown
     requires { ⌜ CutOn (now text) (now tape) tokenized ⌝ }
     requires { ⌜ Room (now text) (now tape) ⌝ }
     requires { ⌜ Room (now text) (now nodes) ⌝ }
-    ensures { λ r. ⌜ Grows (now (text .entry)) (now (nodes .exit)) r ⌝ }
+    ensures { λ r. ⌜ Grows (now (text .entry)) (now (nodes .exit)) (ofTree r) ⌝ }
+    ensures { λ r. ⌜ Sows (now (text .entry)) (now (nodes .exit)) (now (rows .exit)) r ⌝ }
 {
-    let Counted::Count(count) = tokenized else {
-        return tokenized;
-    };
-    grammar::parse(text, tape, count, nodes)
+    match tokenized {
+        Counted::Refused(number, place) => Grown::Refused(number, place),
+        Counted::Count(count) => plant(text, tape, count, nodes, rows),
+    }
 }
 
 // Two functions cut the text, each on a tape of its own length. That makes them too large for the compiler to put them into their callers, so
 // that no walk over the tree has a tape under it.
 
-fn read_short(text: &[u8], nodes: &mut [u32]) -> Counted
+fn read_short(text: &[u8], nodes: &mut [u32], rows: &mut [u32]) -> Grown
     requires { ⌜ Short (now text) ⌝ }
     requires { ⌜ Room (now text) (now nodes) ⌝ }
-    ensures { λ r. ⌜ Grows (now (text .entry)) (now (nodes .exit)) r ⌝ }
+    ensures { λ r. ⌜ Grows (now (text .entry)) (now (nodes .exit)) (ofTree r) ⌝ }
+    ensures { λ r. ⌜ Sows (now (text .entry)) (now (nodes .exit)) (now (rows .exit)) r ⌝ }
 {
     let mut tape = [0u32; Row::WORDS * SHORT_TEXT];
     let tokenized = tokens::tokenize(text, &mut tape);
-    grow(text, &tape, tokenized, nodes)
+    grow(text, &tape, tokenized, nodes, rows)
 }
 
-fn read_long(text: &[u8], nodes: &mut [u32]) -> Counted
+fn read_long(text: &[u8], nodes: &mut [u32], rows: &mut [u32]) -> Grown
     requires { ⌜ length (now text) ≤ mostText ⌝ }
     requires { ⌜ Room (now text) (now nodes) ⌝ }
-    ensures { λ r. ⌜ Grows (now (text .entry)) (now (nodes .exit)) r ⌝ }
+    ensures { λ r. ⌜ Grows (now (text .entry)) (now (nodes .exit)) (ofTree r) ⌝ }
+    ensures { λ r. ⌜ Sows (now (text .entry)) (now (nodes .exit)) (now (rows .exit)) r ⌝ }
 {
     let mut tape = [0u32; Row::WORDS * MOST_TOKENS];
     let tokenized = tokens::tokenize(text, &mut tape);
-    grow(text, &tape, tokenized, nodes)
+    grow(text, &tape, tokenized, nodes, rows)
+}
+
+fn read_parts(text: &[u8], nodes: &mut [u32], rows: &mut [u32]) -> Grown
+    requires { ⌜ length (now text) ≤ mostText ⌝ }
+    requires { ⌜ Room (now text) (now nodes) ⌝ }
+    ensures { λ r. ⌜ Grows (now (text .entry)) (now (nodes .exit)) (ofTree r) ⌝ }
+    ensures { λ r. ⌜ Sows (now (text .entry)) (now (nodes .exit)) (now (rows .exit)) r ⌝ }
+{
+    if text.len() <= SHORT_TEXT {
+        return read_short(text, nodes, rows);
+    }
+    read_long(text, nodes, rows)
 }
 
 // The number of nodes, of which the last is the root; or a refusal.
@@ -74,29 +130,45 @@ pub fn read_tree(text: &[u8], nodes: &mut [u32]) -> Counted
     requires { ⌜ Room (now text) (now nodes) ⌝ }
     ensures { λ r. ⌜ Grows (now (text .entry)) (now (nodes .exit)) r ⌝ }
 {
-    if text.len() <= SHORT_TEXT {
-        return read_short(text, nodes);
-    }
-    read_long(text, nodes)
+    let mut none = [0u32; 0];
+    let grown = read_parts(text, nodes, &mut none);
+    grown.of_tree()
 }
 
-// Of a text that is not too long and a list that is good: 5 to 10; 11 to 14. Names are resolved in between.
-fn typed_root(text: &[u8], list: &[u8], nodes: &mut [u32]) -> Counted
+// Of a text that is not too long and a list that is good: 5 to 10; 11 to 14. Names are resolved in between. The tree's number is its root's.
+fn typed_root(text: &[u8], list: &[u8], nodes: &mut [u32], rows: &mut [u32]) -> Grown
     requires { ⌜ length (now text) ≤ mostText ⌝ }
     requires { ⌜ length (now list) ≤ 2560 ⌝ }
     requires { ⌜ Room (now text) (now nodes) ⌝ }
-    ensures { λ r. ⌜ Types (now (text .entry)) (now (list .entry)) (now (nodes .exit)) r ⌝ }
+    ensures { λ r. ⌜ Types (now (text .entry)) (now (list .entry)) (now (nodes .exit)) (ofTree r) ⌝ }
+    ensures { λ r. ⌜ Readies (now (text .entry)) (now (list .entry)) (now (nodes .exit)) (now (rows .exit)) r ⌝ }
 {
-    let grown = read_tree(text, nodes);
-    let Counted::Count(size) = grown else {
+    let grown = read_parts(text, nodes, rows);
+    let Grown::Tree(size, found) = grown else {
         return grown;
     };
     resolving::resolve(text, list, nodes, size);
     let root = size - 1;
     let checked = typing::check_types(list, nodes, root);
     match checked {
-        Checking::Refused(number, place) => Counted::Refused(number, place),
-        Checking::Passed => Counted::Count(root),
+        Checking::Refused(number, place) => Grown::Refused(number, place),
+        Checking::Passed => Grown::Tree(root, found),
+    }
+}
+
+// The root of a text that is good for the keys of a list, and its parts; or the first refusal of the two.
+fn restrict_both(text: &[u8], list: &[u8], nodes: &mut [u32], rows: &mut [u32]) -> Grown
+    requires { ⌜ Room (now text) (now nodes) ⌝ }
+    ensures { λ r. ⌜ Restricts (now (text .entry)) (now (list .entry)) (now (nodes .exit)) (ofTree r) ⌝ }
+    ensures { λ r. ⌜ Readies (now (text .entry)) (now (list .entry)) (now (nodes .exit)) (now (rows .exit)) r ⌝ }
+{
+    if MOST_TEXT < text.len() {
+        return Grown::Refused(refused::TEXT_TOO_LONG, Place::Text(MOST_TEXT));
+    }
+    let listed = keys::check_list(list);
+    match listed {
+        Counted::Refused(number, place) => Grown::Refused(number, place),
+        Counted::Count(_) => typed_root(text, list, nodes, rows),
     }
 }
 
@@ -105,12 +177,17 @@ pub fn restrict(text: &[u8], list: &[u8], nodes: &mut [u32]) -> Counted
     requires { ⌜ Room (now text) (now nodes) ⌝ }
     ensures { λ r. ⌜ Restricts (now (text .entry)) (now (list .entry)) (now (nodes .exit)) r ⌝ }
 {
-    if MOST_TEXT < text.len() {
-        return Counted::Refused(refused::TEXT_TOO_LONG, Place::Text(MOST_TEXT));
-    }
-    let listed = keys::check_list(list);
-    let Counted::Count(_) = listed else {
-        return listed;
-    };
-    typed_root(text, list, nodes)
+    let mut none = [0u32; 0];
+    let restricted = restrict_both(text, list, nodes, &mut none);
+    restricted.of_tree()
+}
+
+// The number of its parts, each of which is stored in a row, or that refusal.
+pub fn restrict_parts(text: &[u8], list: &[u8], nodes: &mut [u32], rows: &mut [u32]) -> Counted
+    requires { ⌜ Room (now text) (now nodes) ⌝ }
+    requires { ⌜ RowRoom (now rows) ⌝ }
+    ensures { λ r. ⌜ RestrictsParts (now (text .entry)) (now (list .entry)) (now (nodes .exit)) (now (rows .exit)) r ⌝ }
+{
+    let restricted = restrict_both(text, list, nodes, rows);
+    restricted.of_parts()
 }

@@ -1,4 +1,5 @@
 -- `reading::read_long` meets its contract: its tape has as many rows as a text has tokens at most.
+use native.Mathlib.Omega.{arith}
 use mathlib.Core.Path.{refl}
 use borrow.Author.Needs.{needs}
 use Rattle.reading.proofs.Rooms.{room-for-all}
@@ -7,16 +8,28 @@ use Rattle.reading.proofs.read_long.Tie as tie
 
 tape-fits : tie.Need-tokenize-requires
 tape-fits c κs =
-    let s : tie.Start = c .before .before .before in
+    let s : tie.Start = c .before .before .before .before in
     (s .pre .0, room-for-all (s .args .text .now) _ refl)
 
 -- what was cut from the text stands on the tape
 cut-there : tie.Need-grow-requires
 cut-there c κs =
-    let cut : tie.After-tokenize = c .before .before .before in
-    let s : tie.Start = cut .before .before .before .before in
+    let cut : tie.After-tokenize = c .before .before .before .before in
+    let s : tie.Start = cut .before .before .before .before .before in
     (record { says = cut .tokenize .ensures .0; placed = cut .tokenize .ensures .1 }, (room-for-all (s .args .text .now) _ (cut .tokenize .kept .1 .0), s .pre .1))
+
+-- where `grow` has answered
+abbrev grown-at : tie.After-slice-known4 → tie.After-grow
+grown-at c = c .before .before .before .before
 
 pub read-long-spec : {M : Type 1} → statement M
 read-long-spec =
-    tie.close (tie.spec (λ c. search needs) tape-fits (λ c. search needs) cut-there (λ c. search needs) (λ c. search needs))
+    tie.close
+    (tie.spec
+    (λ c. search needs)
+    tape-fits
+    (λ c. search needs)
+    cut-there
+    (λ c. omega (arith, grown-at c .grow .kept))
+    (λ c. omega (arith, grown-at c .grow .kept))
+    (λ c. grown-at c .grow .ensures))

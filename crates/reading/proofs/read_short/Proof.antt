@@ -8,16 +8,28 @@ use Rattle.reading.proofs.read_short.Tie as tie
 
 tape-fits : tie.Need-tokenize-requires
 tape-fits c κs =
-    let s : tie.Start = c .before .before .before in
+    let s : tie.Start = c .before .before .before .before in
     (omega (arith, s .pre .0), room-for-short (s .args .text .now) _ (s .pre .0) refl)
 
 -- what was cut from the text stands on the tape
 cut-there : tie.Need-grow-requires
 cut-there c κs =
-    let cut : tie.After-tokenize = c .before .before .before in
-    let s : tie.Start = cut .before .before .before .before in
+    let cut : tie.After-tokenize = c .before .before .before .before in
+    let s : tie.Start = cut .before .before .before .before .before in
     (record { says = cut .tokenize .ensures .0; placed = cut .tokenize .ensures .1 }, (room-for-short (s .args .text .now) _ (s .pre .0) (cut .tokenize .kept .1 .0), s .pre .1))
+
+-- where `grow` has answered
+abbrev grown-at : tie.After-slice-known4 → tie.After-grow
+grown-at c = c .before .before .before .before
 
 pub read-short-spec : {M : Type 1} → statement M
 read-short-spec =
-    tie.close (tie.spec (λ c. search needs) tape-fits (λ c. search needs) cut-there (λ c. search needs) (λ c. search needs))
+    tie.close
+    (tie.spec
+    (λ c. search needs)
+    tape-fits
+    (λ c. search needs)
+    cut-there
+    (λ c. omega (arith, grown-at c .grow .kept))
+    (λ c. omega (arith, grown-at c .grow .kept))
+    (λ c. grown-at c .grow .ensures))

@@ -1,0 +1,3 @@
+mod AtRecords
+mod RowByRow
+pub mod Reasons

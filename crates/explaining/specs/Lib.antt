@@ -1,0 +1,2 @@
+pub mod FirstFalse
+pub mod KeyShown

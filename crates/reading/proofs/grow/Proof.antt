@@ -5,17 +5,24 @@ use Rattle.reading.proofs.Planted.{not-cut, counted}
 use Rattle.reading.proofs.grow.Statement.{statement}
 use Rattle.reading.proofs.grow.Tie as tie
 
+-- where the tokens are counted, and where they are refused: what the function was given
+
+abbrev counted-start : tie.After-tokenized2 → tie.Start
+counted-start c = c .before .before .before .before .before .before
+
+abbrev refused-start : tie.After-tokenized → tie.Start
+refused-start c = c .before .before .before .before .before .before
+
 tokens-counted : tie.Need-plant-requires
 tokens-counted c κs =
     let told : tie.After-tokenized2 = c .before .before .before in
-    let s : tie.Start = told .before .before .before .before .before .before in
+    let s = counted-start told in
     (counted _ _ (s .args .tokenized) (s .pre .0) (told .tokenized2 .given .1), s .pre .1)
 
 no-tokens : tie.Need-returns
 no-tokens c =
-    let told : tie.After-tokenized = c .before in
-    let s : tie.Start = told .before .before .before .before .before .before in
-    (not-cut _ _ (s .args .tokenized) (s .pre .0) (told .tokenized .given .1), tt)
+    let s = refused-start (c .before) in
+    (not-cut _ _ (s .args .tokenized) (s .pre .0) (c .before .tokenized .given .1), tt)
 
 -- where `plant` has answered
 abbrev planted-at : tie.After-slice-known4 → tie.After-plant

@@ -7,21 +7,29 @@ use Rattle.reading.proofs.Parted.{sown}
 use Rattle.reading.proofs.plant.Statement.{statement}
 use Rattle.reading.proofs.plant.Tie as tie
 
+-- before the grammar is asked: what the function was given
+abbrev given : tie.After-parse-arg → tie.Start
+given c = c .before .before .before .before .before
+
 tokens-sound : tie.Need-parse-requires
 tokens-sound c κs =
-    let s : tie.Start = c .before .before .before .before .before in
+    let s = given c in
     (sound _ _ _ (s .pre .0) (s .pre .1 .0), nodes-fit _ _ _ (s .pre .0) (s .args .nodes .now) (s .pre .1 .1))
 
--- where the grammar has answered; and from there what the function was given
+-- where it has answered
 abbrev start : tie.After-parse → tie.Start
-start c = c .before .before .before .before .before .before
+start c = given (c .before)
+
+-- where that is a refusal
+abbrev refused-at : tie.After-known-told → tie.After-parse
+refused-at c = c .before .before .before .before .before
 
 no-sentence : tie.Need-returns
 no-sentence c =
-    let at-parse : tie.After-parse = c .before .before .before .before .before in
+    let at-parse = refused-at c in
     (tree-refused _ _ _ (start at-parse .pre .0) _ _ (at-parse .parse .result) (at-parse .parse .ensures) (c .before .parsed .given .1), tt)
 
--- where there is a tree
+-- where it is a tree
 abbrev parsed-at : tie.After-known-told2 → tie.After-parse
 parsed-at c = c .before .before .before .before .before
 
@@ -45,10 +53,17 @@ stands c κs =
       },
     )
 
+-- where its parts have been looked for; and from there the tree
+abbrev found-at : tie.After-slice-known4 → tie.After-find-parts
+found-at c = c .before .before
+
+abbrev told-at : tie.After-find-parts → tie.After-known-told2
+told-at c = c .before .before .before
+
 planted : tie.Need-returns-2
 planted c =
-    let found : tie.After-find-parts = c .before .before in
-    let told = found .before .before .before in
+    let found = found-at c in
+    let told = told-at found in
     let at-parse = parsed-at told in
     let s = start at-parse in
     let p = tree-read _ _ _ (s .pre .0) _ _ (at-parse .parse .result) (at-parse .parse .ensures) (told .before .parsed2 .given .1) (s .pre .1 .1) in
@@ -63,8 +78,8 @@ plant-spec =
     (λ c. search needs)
     some-node
     stands
-    (λ c. omega (arith, c .before .before .before .before .before .parse .kept))
+    (λ c. omega (arith, refused-at c .parse .kept))
     no-sentence
-    (λ c. omega (arith, parsed-at (c .before .before .before .before .before) .parse .kept))
-    (λ c. omega (arith, c .before .before .find-parts .kept))
+    (λ c. omega (arith, parsed-at (told-at (found-at c)) .parse .kept))
+    (λ c. omega (arith, found-at c .find-parts .kept))
     planted)

@@ -13,6 +13,7 @@ pub use marks::Operand;
 pub use marks::mark;
 pub use marks::name_at;
 pub use names::spelled;
+pub use names::stretch;
 pub use node::Comparison;
 pub use node::Join;
 pub use node::Leaf;

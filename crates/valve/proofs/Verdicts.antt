@@ -1,8 +1,8 @@
 -- From the stages' answers to those of `judge`.
 use Prim.Native.Nat.{ℕ}
-use mathlib.Core.Path.{_≡_, sym, _∙_, ap, subst}
+use mathlib.Core.Path.{_≡_, sym, _∙_, ap}
 use mathlib.Core.Bool.{Bool}
-use mathlib.Core.Option.{Option, some}
+use mathlib.Core.Option.{some}
 use mathlib.Core.List.{List}
 use Rattle.paper.specs.declared.Place.{Place}
 use Rattle.paper.specs.declared.Counted.{Counted}
@@ -12,17 +12,16 @@ use Rattle.paper.specs.declared.Checking.the-variants as C
 use Rattle.paper.specs.Answers.{ok, refused, _>>=_, inputOf, offsetOf, checkingSays}
 use Rattle.paper.specs.Grammar as G
 use Rattle.paper.specs.Entry.{entryOf}
-use Rattle.paper.specs.Meaning.{Value, truth, valueOf, isTrue}
+use Rattle.paper.specs.Meaning.{Value, valueOf, isTrue}
 use Rattle.paper.specs.Calls.{judgeAnswer}
-use Rattle.paper.proofs.TypeSoundness.{judged}
 use Rattle.keys.specs.Says.{keysIn, conforms}
-use Rattle.keys.proofs.Conforming.{matches-length}
 use Rattle.keys.proofs.Conforming as K
 use Rattle.values.specs.Held.{Is}
 use Rattle.operands.specs.Conforming.{entryIn, Conforming}
 use Rattle.trees.specs.Standing.{treeAt}
 use Rattle.reading.specs.Restricted.{Rooted, Restricts}
 use Rattle.reading.proofs.Stages.{not-restricted}
+use Rattle.judging.proofs.Truths.{truth-told}
 
 module _ (text list entry : List ℕ) where
   pub not-passed : (nodes : List ℕ) (r : Counted) → Restricts text list nodes r
@@ -50,7 +49,5 @@ module _ (text list entry : List ℕ) where
         pub judged-by : (v : Value) (b : Bool) → Is (valueOf (keysIn list) (entryIn list entry) root) v → b ≡ isTrue (some v)
             → ok b ≡ judgeAnswer text list entry
         judged-by v b i t =
-            let w = judged (keysIn list) (entryIn list entry) (matches-length entry 0 (keysIn list)) root (r .typed .checked) in
-            let h : v ≡ truth (w .0) = subst (λ (o : Option Value). Is o v) (w .1) i in
-            let f : b ≡ isTrue (valueOf (keysIn list) (entryIn list entry) root) = rw (t, h, w .1) in
+            let f : b ≡ isTrue (valueOf (keysIn list) (entryIn list entry) root) = t ∙ truth-told list entry root (r .typed .checked) v i in
             sym (by-entry ∙ rw (conforming .entered, f))

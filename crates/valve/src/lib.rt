@@ -5,6 +5,7 @@
 // nothing from one call to the next, and reads nothing past the bytes it is lent. The scratch of a call lies in its own frame.
 mod account;
 mod loading;
+mod reasons;
 mod running;
 mod style;
 mod text;
@@ -12,6 +13,7 @@ mod verdict;
 mod writing;
 
 pub use loading::load;
+pub use reasons::reason;
 pub use running::run;
 pub use style::print;
 pub use text::check;

@@ -5,6 +5,7 @@
 // nothing from one call to the next, and reads nothing past the bytes it is lent. The scratch of a call lies in its own frame.
 mod account;
 mod loading;
+mod pieces;
 mod reasons;
 mod running;
 mod style;
@@ -13,6 +14,12 @@ mod verdict;
 mod writing;
 
 pub use loading::load;
+pub use pieces::Explained;
+pub use pieces::explain;
+pub use pieces::explained_list;
+pub use pieces::explained_text;
+pub use pieces::list_piece;
+pub use pieces::text_piece;
 pub use reasons::reason;
 pub use running::run;
 pub use style::print;

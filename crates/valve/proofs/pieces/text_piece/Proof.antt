@@ -1,0 +1,15 @@
+use borrow.Author.Needs.{needs}
+use Rattle.valve.proofs.pieces.text_piece.Statement.{statement}
+use Rattle.valve.proofs.pieces.text_piece.Tie as tie
+
+returns : tie.Need-returns
+returns c = rw (c .before .before .why .given .1) (c .stretch .ensures)
+
+returns-2 : tie.Need-returns-2
+returns-2 c = rw (c .before .enum-told .given .1) (c .stretch2 .ensures)
+
+returns-3 : tie.Need-returns-3
+returns-3 c = rw (c .before .enum-told2 .given .1) (c .stretch3 .ensures)
+
+pub text-piece-spec : {M : Type 1} → statement M
+text-piece-spec = tie.close (tie.spec (λ c. search needs) (λ c κs. search needs) (λ c. search needs) (λ c κs. search needs) (λ c. search needs) (λ c κs. search needs) returns returns-2 returns-3)

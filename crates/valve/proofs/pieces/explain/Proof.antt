@@ -50,10 +50,10 @@ use Rattle.valve.specs.declared.pieces.Explained.{Explained}
 use Rattle.valve.proofs.Loans.{Loan, loan, Bytes, at, κs, qs, slices, vals, OwnText, OwnList, OwnEntry, OwnAll, tokens, Entered, passed-on, kept, stayed, stays, spelt, told}
 use Rattle.valve.proofs.pieces.Explained as T
 use Rattle.valve.proofs.pieces.Explained.Laws as T′
-use Rattle.valve.proofs.cause.reason as reason
-use Rattle.valve.proofs.cause.reason.Symbol as reason-def
-use Rattle.valve.proofs.cause.reason.Symbol.{name as #reason}
-use Rattle.valve.proofs.cause.reason.Met as reason-thm
+use Rattle.valve.proofs.reasons.reason as reason
+use Rattle.valve.proofs.reasons.reason.Symbol as reason-def
+use Rattle.valve.proofs.reasons.reason.Symbol.{name as #reason}
+use Rattle.valve.proofs.reasons.reason.Met as reason-thm
 use Rattle.valve.proofs.pieces.text_piece as text-piece
 use Rattle.valve.proofs.pieces.text_piece.Symbol as text-piece-def
 use Rattle.valve.proofs.pieces.text_piece.Symbol.{name as #text-piece}
@@ -244,6 +244,6 @@ explain-spec 𝓤 H 𝓜 𝓖 𝓡 =
     entered 𝓤 H (tripleOf 𝓤 H (𝓖 .A) explain.signature (explain.spec 𝓤 H (𝓖 .A) (𝓜 .mem) (𝓡 .run)))
     (tables 𝓤 H 𝓜 𝓡 code.env .C) (tables 𝓤 H 𝓜 𝓡 code.env .Λ) #explain code.function (code.unfolded 𝓤 H 𝓜 𝓡)
     (explain-meets 𝓤 H (𝓖 .A) (givenOf 𝓤 H 𝓜 𝓖) (𝓜 .mem) (𝓡 .run) (tablesOf 𝓤 H 𝓜 (tables 𝓤 H 𝓜 𝓡 code.env))
-    (cited 𝓤 H (Reason 𝓤 H (𝓖 .A) (𝓜 .mem) (𝓡 .run)) 𝓜 𝓡 code.env #reason reason-def.routine code.calls-valve·cause·reason (reason-thm.met 𝓤 H 𝓜 𝓖 𝓡))
+    (cited 𝓤 H (Reason 𝓤 H (𝓖 .A) (𝓜 .mem) (𝓡 .run)) 𝓜 𝓡 code.env #reason reason-def.routine code.calls-valve·reasons·reason (reason-thm.met 𝓤 H 𝓜 𝓖 𝓡))
     (cited 𝓤 H (TextPiece 𝓤 H (𝓖 .A) (𝓜 .mem) (𝓡 .run)) 𝓜 𝓡 code.env #text-piece text-piece-def.routine code.calls-valve·pieces·text-piece (text-piece-thm.met 𝓤 H 𝓜 𝓖 𝓡))
     (cited 𝓤 H (ListPiece 𝓤 H (𝓖 .A) (𝓜 .mem) (𝓡 .run)) 𝓜 𝓡 code.env #list-piece list-piece-def.routine code.calls-valve·pieces·list-piece (list-piece-thm.met 𝓤 H 𝓜 𝓖 𝓡)))

@@ -20,7 +20,8 @@ pub fn wrong_programs_exist()
 
 // A judge that refuses or accepts everything, a translator that writes nothing or only the first part, that wants 82 blocks or invents its
 // count, a loader that passes nothing or all that is laid out well, a printer that copies the text, leaves out or puts in all parentheses or
-// writes "&&" for ";": each fails a demand, or refusal 18.
+// writes "&&" for ";", an explainer that names the last false part, follows the tree's left spine or shows a key for a bad priority: each fails
+// a demand, or refusal 18.
 pub fn wrong_programs_fail()
     ensures { λ _. ⌜ WrongProgramsFail ⌝ }
 {}

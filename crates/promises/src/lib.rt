@@ -6,6 +6,7 @@ mod damage;
 mod demands;
 mod numbers;
 mod parts;
+mod pieces;
 mod printing;
 mod reading;
 mod rules;

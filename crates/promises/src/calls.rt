@@ -1,9 +1,10 @@
 // The real calls, held to the demands. Each function calls `valve`, and its contract states for its own inputs what is demanded of what was
 // answered, in the words of `paper` (specs/Demands). It holds by the contracts of `valve` alone, so one that is weakened fails here.
-ghost use Rattle.paper.specs.Demands.{ReadAnswered, ReadRight, CheckAnswered, CheckedRight, JudgeAnswered, JudgedRight, TranslateAnswered, TranslatedRight, LoadAnswered, RunAnswered, RanRight, PrintAnswered, PrintedRight};
+ghost use Rattle.paper.specs.Demands.{ReadAnswered, ReadRight, CheckAnswered, CheckedRight, JudgeAnswered, JudgedRight, TranslateAnswered, TranslatedRight, LoadAnswered, RunAnswered, RanRight, PrintAnswered, PrintedRight, ExplainAnswered, ExplainRight};
 ghost use Rattle.promises.specs.Held.{gave, lent, Carries};
 use blocks::Block;
 use paper::Checking;
+use paper::Explanation;
 use paper::Judgement;
 use paper::Loading;
 use paper::Place;
@@ -64,6 +65,14 @@ pub fn print(text: &[u8], buffer: &mut [u8]) -> Printing
     ensures { λ r. ⌜ PrintedRight (now (text .entry)) (now (buffer .entry)) (lent r (now (buffer .exit))) ⌝ }
 {
     valve::print(text, buffer)
+}
+
+// Demands 1 and 2 of the numbers of an explanation. What is demanded of its pieces stands in `pieces`.
+pub fn explain(text: &[u8], list: &[u8], entry: &[u8]) -> Explanation
+    ensures { λ r. ⌜ ExplainAnswered (now (text .entry)) (now (list .entry)) (now (entry .entry)) r ⌝ }
+    ensures { λ r. ⌜ ExplainRight (now (text .entry)) (now (list .entry)) (now (entry .entry)) r ⌝ }
+{
+    valve::reason(text, list, entry)
 }
 
 // What a text, a list and an entry come to by way of blocks, and by the text alone.

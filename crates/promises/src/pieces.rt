@@ -1,5 +1,6 @@
 // The pieces of an explanation: "handed back as the piece itself .. no copy".
 ghost use Rattle.paper.specs.PiecesRight.{OneShown, PiecesShown, CopiesFail};
+ghost use Rattle.promises.specs.PiecesHeld.{TextPieceRight, ListPieceRight};
 
 // For all inputs there is an explanation with its two pieces, and no second: pointer, length and bytes are fixed of a piece that has a byte, and
 // of an empty one its block.
@@ -16,3 +17,17 @@ pub fn pieces_are_what_is_named()
 pub fn copies_fail()
     ensures { λ _. ⌜ CopiesFail ⌝ }
 {}
+
+// Demand 2 of the real piece of the text.
+pub fn piece_of_text<'t, 'l>(text: &'t [u8], list: &'l [u8], entry: &[u8]) -> &'t [u8]
+    ensures { λ r. ⌜ TextPieceRight (text .entry) (list .entry) (now (entry .entry)) r ⌝ }
+{
+    valve::explained_text(text, list, entry)
+}
+
+// Demand 2 of the real piece of the list.
+pub fn piece_of_list<'t, 'l>(text: &'t [u8], list: &'l [u8], entry: &[u8]) -> &'l [u8]
+    ensures { λ r. ⌜ ListPieceRight (text .entry) (list .entry) (now (entry .entry)) r ⌝ }
+{
+    valve::explained_list(text, list, entry)
+}

@@ -1,14 +1,20 @@
--- An answer of the paper as four numbers: what it says (0 refused, 1 accepted, 2 violated, 3 passed, read, written, loaded or
--- printed), the
+-- An answer of the paper as four numbers: what it says (0 refused, 1 accepted, 2 violated, 3 passed, read, written, loaded or printed), the
 -- refusal's number or 0, its input (0 none, 1 text, 2 list, 3 entry, 4 blocks, 5 buffer), and the offset, or the count, or 0.
-use Prim.Native.Nat.{ℕ}
+--
+-- A reason as eight: the four of the judgement, and the number of the part that is shown, or 0; the place of its root in the text, or of the
+-- key's record in the entry; and the start and length of its stretch of the text, or of the name in the list. Where nothing is shown these are 0.
+use Prim.Native.Nat.{ℕ, _+_, _-_}
 use mathlib.Core.Path.{_≡_}
 use mathlib.Core.Bool.{Bool, true, false, cond}
 use lib.Dec.{eqb}
 use mathlib.Core.List.{List}
 use Rattle.paper.specs.Answers.{Answer, ok, refused, Input, inText, inList, inEntry, inBlocks, inBuffer, readingSays, checkingSays, judgementSays, translationSays, loadingSays, printingSays}
-use Rattle.paper.specs.Promised.{ReadPromised, CheckPromised, JudgePromised, TranslateResult, TranslatePromised, LoadPromised, RunPromised, PrintPromised, Sole}
+use Rattle.paper.specs.Explained.{Reason, inPart, atKey, nothingToShow, keyIndex, stretchFrom, explanationSays}
+use Rattle.paper.specs.ExplainedRight.{judgementOf}
+use Rattle.paper.specs.Promised.{ReadPromised, CheckPromised, JudgePromised, TranslateResult, TranslatePromised, LoadPromised, RunPromised, PrintPromised, ExplainPromised, Sole}
+use Rattle.paper.specs.declared.Explanation.{Explanation}
 use Rattle.abi.specs.declared.answer.PolluxAnswer.{PolluxAnswer}
+use Rattle.abi.specs.declared.reason.PolluxReason.{PolluxReason}
 
 abbrev pub inputNo : Input → ℕ
 inputNo inText = 1
@@ -40,8 +46,28 @@ verdict false = record { says = 2; number = 0; input = 0; value = 0 }
 abbrev pub judged : Answer Bool → PolluxAnswer
 judged = told verdict
 
--- What C is told by a call: four numbers that stand for a result that keeps the call's promise.
-pub record Tells {R : Type 0} (Promised : R → Type 0) (numbers : R → PolluxAnswer) (a : PolluxAnswer) : Type 0 where
+-- what is shown, beside the judgement
+
+abbrev pub showing : PolluxAnswer → ℕ → ℕ → ℕ → ℕ → PolluxReason
+showing a part place start length =
+    record {
+      says = a .says;
+      number = a .number;
+      input = a .input;
+      value = a .value;
+      part = part;
+      place = place;
+      start = start;
+      length = length;
+    }
+
+abbrev pub reasoned : Reason → PolluxReason
+reasoned (inPart n at s) = showing (judged (judgementOf (inPart n at s))) n at (s .from) (s .to - s .from)
+reasoned (atKey at k s) = showing (judged (judgementOf (atKey at k s))) 0 at (s .from) (s .to - s .from)
+reasoned (nothingToShow a) = showing (judged a) 0 0 0 0
+
+-- What C is told by a call: numbers that stand for a result that keeps the call's promise.
+pub record Tells {R N : Type 0} (Promised : R → Type 0) (numbers : R → N) (a : N) : Type 0 where
   pub result : R
   pub promised : Promised result
   pub same : a ≡ numbers result
@@ -70,6 +96,9 @@ RunTold list blocks entry = Tells (RunPromised list blocks entry) (λ r. judged 
 abbrev pub PrintTold : List ℕ → List ℕ → List ℕ → PolluxAnswer → Type 0
 PrintTold text buffer exit = Tells (λ r. PrintPromised text buffer (record { answer = r; buffer = exit })) (λ r. counted (printingSays r))
 
+abbrev pub ExplainTold : List ℕ → List ℕ → List ℕ → PolluxReason → Type 0
+ExplainTold text list entry = Tells (ExplainPromised text list entry) (λ r. reasoned (explanationSays r))
+
 -- so for all inputs C is told one thing, and no second; of `translate` and `print`, one answer with one buffer at exit
 pub record OneAnswerForC : Type 0 where
   pub read : (text : List ℕ) → Sole (ReadTold text)
@@ -81,6 +110,7 @@ pub record OneAnswerForC : Type 0 where
   pub run : (list blocks entry : List ℕ) → Sole (RunTold list blocks entry)
   pub print : (text buffer exit other : List ℕ) (a b : PolluxAnswer) → PrintTold text buffer exit a → PrintTold text buffer other b
       → (a ≡ b) × (exit ≡ other)
+  pub explain : (text list entry : List ℕ) → Sole (ExplainTold text list entry)
 
 -- the way back, by which a caller reads an answer
 
@@ -90,7 +120,28 @@ inputFrom n = cond (eqb n 1) inText (cond (eqb n 2) inList (cond (eqb n 3) inEnt
 abbrev pub heard : {A : Type 0} → (PolluxAnswer → A) → PolluxAnswer → Answer A
 heard means p = cond (eqb (p .says) 0) (refused (p .number) (inputFrom (p .input)) (p .value)) (ok (means p))
 
+abbrev pub heardJudged : PolluxAnswer → Answer Bool
+heardJudged = heard (λ p. eqb (p .says) 1)
+
+abbrev pub answerIn : PolluxReason → PolluxAnswer
+answerIn p = record { says = p .says; number = p .number; input = p .input; value = p .value }
+
+-- what is shown has a byte, and a part's number is not 0
+abbrev pub heardReason : PolluxReason → Reason
+heardReason p =
+    let stretch = stretchFrom (p .start) (p .start + p .length) in
+    cond (eqb (p .length) 0) (nothingToShow (heardJudged (answerIn p)))
+    (cond (eqb (p .part) 0) (atKey (p .place) (keyIndex (p .place)) stretch) (inPart (p .part) (p .place) stretch))
+
 pub record TellsAll : Type 0 where
   pub counts : (x : Answer ℕ) → heard (λ p. p .value) (counted x) ≡ x
   pub passes : (x : Answer (Unit {0})) → heard (λ _. tt) (passed x) ≡ x
-  pub verdicts : (x : Answer Bool) → heard (λ p. eqb (p .says) 1) (judged x) ≡ x
+  pub verdicts : (x : Answer Bool) → heardJudged (judged x) ≡ x
+  pub reasons : (text list entry : List ℕ) (r : Explanation) → ExplainPromised text list entry r
+      → heardReason (reasoned (explanationSays r)) ≡ explanationSays r
+
+-- a reason's first four numbers are those of the judgement
+abbrev pub ReasonsAsJudged : Type 0
+ReasonsAsJudged =
+    (text list entry : List ℕ) (r : PolluxReason) (a : PolluxAnswer) → ExplainTold text list entry r → JudgeTold text list entry a
+    → answerIn r ≡ a

@@ -1,12 +1,14 @@
 // The calls for C: include/pollux.h says the same in its words.
 //
-// Each takes every input as a pointer and a length, and answers four numbers by value, which stand for a result that keeps the promise of
-// the call of `valve` below it (specs/Told); `translate` and `print` also promise what each byte of the buffer holds afterwards.
+// Each takes every input as a pointer and a length, and answers four numbers by value, `explain` eight, which stand for a result that keeps the
+// promise of the call of `valve` below it (specs/Told); `translate` and `print` also promise what each byte of the buffer holds afterwards.
 mod answer;
+mod reason;
 mod told;
 
-ghost use Rattle.abi.specs.Told.{ReadTold, CheckTold, JudgeTold, TranslateTold, LoadTold, RunTold, PrintTold};
+ghost use Rattle.abi.specs.Told.{ReadTold, CheckTold, JudgeTold, TranslateTold, LoadTold, RunTold, PrintTold, ExplainTold};
 use crate::answer::PolluxAnswer;
+use crate::reason::PolluxReason;
 
 // How many nodes the text's tree has.
 #[no_mangle]
@@ -62,4 +64,13 @@ pub extern "C" fn pollux_print(text: &[u8], buffer: &mut [u8]) -> PolluxAnswer
     ensures { λ r. ⌜ PrintTold (now (text .entry)) (now (buffer .entry)) (now (buffer .exit)) r ⌝ }
 {
     answer::of_printing(valve::print(text, buffer))
+}
+
+// What broke: the part that is false or the key whose record is bad, where it stands in the text or the list, and the judgement. A caller makes
+// the piece itself from its own pointer.
+#[no_mangle]
+pub extern "C" fn pollux_explain(text: &[u8], list: &[u8], entry: &[u8]) -> PolluxReason
+    ensures { λ r. ⌜ ExplainTold (now (text .entry)) (now (list .entry)) (now (entry .entry)) r ⌝ }
+{
+    reason::of_explanation(valve::reason(text, list, entry))
 }

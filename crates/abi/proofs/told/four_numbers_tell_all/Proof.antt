@@ -1,11 +1,22 @@
--- Two answers that are told by the same four numbers are read back as one.
-use Prim.Native.Nat.{ℕ}
-use mathlib.Core.Path.{_≡_, refl}
+-- Two answers that are told by the same four numbers are read back as one; and so are two reasons: a piece that is shown has a byte, and a
+-- part's number is not 0.
+use Prim.Native.Nat.{ℕ, _+_, _-_, _≤_}
+use native.Mathlib.Omega.{arith}
+use mathlib.Core.Path.{_≡_, refl, sym, ap}
 use mathlib.Core.Bool.{Bool, true, false}
+use mathlib.Core.List.{List}
 use lib.Dec.{eqb}
-use Rattle.paper.specs.Answers.{Answer, ok, refused, Input, inText, inList, inEntry, inBlocks, inBuffer}
+use borrow.Author.Tests.{ne-eqb}
+use Rattle.paper.specs.Answers.{Answer, ok, refused, Input, inText, inList, inEntry, inBlocks, inBuffer, judgementSays}
+use Rattle.paper.specs.declared.Explanation.{Explanation}
+use Rattle.paper.specs.declared.Explanation.the-variants as X
+use Rattle.paper.specs.Parts.{Stretch}
+use Rattle.paper.specs.Explained.{inPart, nothingToShow, keyIndex, stretchFrom, explanationSays}
+use Rattle.paper.specs.ExplainedRight.{Explains, names-part}
+use Rattle.paper.specs.Promised.{ExplainPromised}
+use Rattle.paper.proofs.ExplainedRight.{explained-is-right, pieces-in-inputs}
 use Rattle.abi.specs.declared.answer.PolluxAnswer.{PolluxAnswer}
-use Rattle.abi.specs.Told.{turnedAway, told, verdict, done, heard, TellsAll}
+use Rattle.abi.specs.Told.{turnedAway, told, judged, reasoned, verdict, done, heard, heardJudged, heardReason, TellsAll}
 use Rattle.abi.proofs.told.four_numbers_tell_all.Statement.{statement}
 use Rattle.abi.proofs.told.four_numbers_tell_all.Tie as tie
 
@@ -23,16 +34,41 @@ all-heard : {A : Type 0} (means : PolluxAnswer → A) (say : A → PolluxAnswer)
 all-heard means say good (ok a) = good a
 all-heard means say good (refused n i at) = refusal-heard means n i at
 
-verdict-heard : (b : Bool) → heard (λ p. eqb (p .says) 1) (verdict b) ≡ ok b
+verdict-heard : (b : Bool) → heardJudged (verdict b) ≡ ok b
 verdict-heard true = refl
 verdict-heard false = refl
+
+judged-heard : (x : Answer Bool) → heardJudged (judged x) ≡ x
+judged-heard = all-heard (λ p. eqb (p .says) 1) verdict verdict-heard
+
+-- a reason
+
+numbered : (text list entry : List ℕ) (n at : ℕ) (s : Stretch) → Explains text list entry (inPart n at s) → 1 ≤ n
+numbered text list entry n at s (names-part j f) = omega arith
+
+module _ (text list entry : List ℕ) where
+  reason-heard : (r : Explanation) → ExplainPromised text list entry r → heardReason (reasoned (explanationSays r)) ≡ explanationSays r
+  reason-heard (X.Part n at from to) p =
+      let lies = pieces-in-inputs .of-part text list entry n at (stretchFrom from to) (sym p) in
+      let one = numbered text list entry n at (stretchFrom from to) (explained-is-right text list entry (inPart n at (stretchFrom from to)) .0 (sym p)) in
+      let some : eqb (to - from) 0 ≡ false = ne-eqb (to - from) 0 (λ e. omega (arith, e, lies .stretch .some)) in
+      let first : eqb n 0 ≡ false = ne-eqb n 0 (λ e. omega (arith, e, one)) in
+      let end : from + (to - from) ≡ to = omega (arith, lies .stretch .some) in
+      rw (some, first, end)
+  reason-heard (X.Key at from to) p =
+      let lies = pieces-in-inputs .of-key text list entry at (keyIndex at) (stretchFrom from to) (sym p) in
+      let some : eqb (to - from) 0 ≡ false = ne-eqb (to - from) 0 (λ e. omega (arith, e, lies .stretch .some)) in
+      let end : from + (to - from) ≡ to = omega (arith, lies .stretch .some) in
+      rw (some, end)
+  reason-heard (X.Nothing j) p = ap nothingToShow (judged-heard (judgementSays j))
 
 tells-all : TellsAll
 tells-all =
     record {
       counts = all-heard (λ p. p .value) done (λ _. refl);
       passes = all-heard (λ _. tt) (λ _. done 0) (λ _. refl);
-      verdicts = all-heard (λ p. eqb (p .says) 1) verdict verdict-heard;
+      verdicts = judged-heard;
+      reasons = reason-heard;
     }
 
 pub four-numbers-tell-all-spec : {M : Type 1} → statement M

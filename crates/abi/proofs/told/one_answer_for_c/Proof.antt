@@ -3,14 +3,15 @@ use mathlib.Core.Path.{_≡_, refl, sym, ap, _∙_}
 use mathlib.Core.List.{List}
 use Prim.Native.Nat.{ℕ}
 use Rattle.paper.specs.Answers.{readingSays, checkingSays, judgementSays, translationSays, loadingSays, printingSays}
+use Rattle.paper.specs.Explained.{explanationSays}
 use Rattle.paper.specs.Promised.{TranslateResult, TranslatePromised, PrintResult, PrintPromised, Sole}
 use Rattle.paper.proofs.Promised.{no-second-result}
 use Rattle.abi.specs.declared.answer.PolluxAnswer.{PolluxAnswer}
-use Rattle.abi.specs.Told.{counted, passed, judged, Tells, OneAnswerForC}
+use Rattle.abi.specs.Told.{counted, passed, judged, reasoned, Tells, OneAnswerForC}
 use Rattle.abi.proofs.told.one_answer_for_c.Statement.{statement}
 use Rattle.abi.proofs.told.one_answer_for_c.Tie as tie
 
-told-once : {R : Type 0} (Promised : R → Type 0) (numbers : R → PolluxAnswer) → Sole Promised → Sole (Tells Promised numbers)
+told-once : {R N : Type 0} (Promised : R → Type 0) (numbers : R → N) → Sole Promised → Sole (Tells Promised numbers)
 told-once Promised numbers one =
     record {
       result = numbers (one .result);
@@ -46,6 +47,7 @@ one-answer =
       print = λ text buffer.
           told-with-buffer (λ r s. record { answer = r; buffer = s }) (λ (r : PrintResult). r .answer) (λ (r : PrintResult). r .buffer) (λ r s. refl) (λ r s. refl)
           (PrintPromised text buffer) (λ r. counted (printingSays r)) (one .print text buffer);
+      explain = λ text list entry. told-once _ (λ r. reasoned (explanationSays r)) (one .explain text list entry);
     }
 
 pub one-answer-for-c-spec : {M : Type 1} → statement M

@@ -4,6 +4,7 @@ ghost use Rattle.paper.specs.Calls.{translateBuffer, printBuffer};
 ghost use Rattle.answers.specs.Calls.{afterCall, written};
 use crate::adler;
 use crate::framing;
+use paper::Explanation;
 
 // The calls, by the first byte of a request.
 const READ: u8 = 1;
@@ -20,6 +21,25 @@ const RUN: u8 = 6;
 
 const PRINT: u8 = 7;
 
+const EXPLAIN: u8 = 8;
+
+// The sum of some bytes, after what a call answered.
+fn say_sum(bytes: &[u8]) {
+    lines::say(b" ");
+    lines::say_number(adler::adler_of(bytes));
+}
+
+// What broke for an entry, with the sum of the piece that is shown.
+fn explain(text: &[u8], list: &[u8], entry: &[u8]) {
+    let why = valve::reason(text, list, entry);
+    lines::say_explanation(why);
+    match why {
+        Explanation::Part(_, _, _, _) => say_sum(valve::text_piece(text, why)),
+        Explanation::Key(_, _, _) => say_sum(valve::list_piece(list, why)),
+        Explanation::Nothing(_) => {}
+    }
+}
+
 // A call that only reads.
 fn reading_call(call: u8, first: &[u8], second: &[u8], third: &[u8]) {
     match call {
@@ -28,18 +48,12 @@ fn reading_call(call: u8, first: &[u8], second: &[u8], third: &[u8]) {
         JUDGE => lines::say_judgement(valve::judge(first, second, third)),
         LOAD => lines::say_loading(valve::load(first, second)),
         RUN => lines::say_judgement(valve::run(first, second, third)),
+        EXPLAIN => explain(first, second, third),
         _ => lines::say(b"unknown"),
     }
-    lines::say(b"\n");
 }
 
-// What the buffer holds after a call, by its sum.
-fn say_sum(buffer: &[u8]) {
-    lines::say(b" ");
-    lines::say_number(adler::adler_of(buffer));
-    lines::say(b"\n");
-}
-
+// A translation or a print, with the sum of the whole buffer as it stands after it.
 fn translate(text: &[u8], list: &[u8], buffer: &mut [u8])
     ensures { λ _. ⌜ now (buffer .exit) ≡ translateBuffer (now (text .entry)) (now (list .entry)) (now (buffer .entry)) ⌝ }
 {
@@ -70,6 +84,7 @@ pub(crate) fn answer(call: u8, first: &[u8], second: &[u8], third: &mut [u8], n:
     ensures { λ _. ⌜ now (third .exit) ≡ afterCall call (now (first .entry)) (now (second .entry)) (now (third .entry)) n ⌝ }
 {
     if n <= third.len() {
-        writing_call(call, first, second, &mut third[..n])
+        writing_call(call, first, second, &mut third[..n]);
+        lines::say(b"\n")
     }
 }

@@ -1,12 +1,15 @@
 // What the calls answer, in the words of a line on standard output: `read N`, `passed`, `accepted`, `violated`, `translated N`,
-// `loaded N`, `printed N`, or `refused NUMBER INPUT OFFSET` with INPUT one of text, list, entry, blocks, buffer. The programs share these words.
+// `loaded N`, `printed N`, or `refused NUMBER INPUT OFFSET` with INPUT one of text, list, entry, blocks, buffer. What broke for an entry is
+// `part NUMBER at OFFSET START LENGTH`, `key at OFFSET START LENGTH`, or `nothing ` and what was judged. The programs share these words.
 //
 // These only write, and a line's end is written by the caller. `start` is for programs that fill a room and use as much of it as they
 // filled.
 ghost use mathlib.Core.Path.{_≡_};
+ghost use Prim.Native.Nat.{_-_};
 ghost use lib.ListN.{take};
 use libc::STDOUT_FILENO;
 use paper::Checking;
+use paper::Explanation;
 use paper::Judgement;
 use paper::Loading;
 use paper::Place;
@@ -87,6 +90,38 @@ pub fn say_printing(printing: Printing) {
     match printing {
         Printing::Printed(n) => say_count(b"printed ", n),
         Printing::Refused(number, place) => say_refused(number, place),
+    }
+}
+
+// How many bytes stand from one offset up to another.
+fn length_of(from: usize, to: usize) -> usize
+    ensures { λ r. ⌜ r ≡ to - from ⌝ }
+{
+    if from < to { to - from } else { 0 }
+}
+
+// Where something stands, and the start and length of its stretch.
+fn say_stretch(place: usize, from: usize, to: usize) {
+    say_count(b" at ", place);
+    say_count(b" ", from);
+    say_count(b" ", length_of(from, to));
+}
+
+// Writes what `reason` answered: a part of the text, a key of the list, or nothing and the judgement.
+pub fn say_explanation(why: Explanation) {
+    match why {
+        Explanation::Part(number, place, from, to) => {
+            say_count(b"part ", number);
+            say_stretch(place, from, to)
+        }
+        Explanation::Key(place, from, to) => {
+            say(b"key");
+            say_stretch(place, from, to)
+        }
+        Explanation::Nothing(judgement) => {
+            say(b"nothing ");
+            say_judgement(judgement)
+        }
     }
 }
 

@@ -18,13 +18,16 @@ n-bytes c =
     let a = start (c .before) .args in
     sym (length-take-le (a .n) (a .third .now) (search needs))
 
+-- the call that was made, before its line was ended
+abbrev called : tie.After-say → tie.After-writing-call
+called c = c .before .before .before .before
+
 written : tie.Need-returns
 written c =
-    let called : tie.After-writing-call = c .before .before in
-    let there : tie.Then1 = called .before .before in
+    let there : tie.Then1 = called c .before .before in
     let a = start there .args in
     rw (le-leb (a .n) (length (a .third .now)) (there .if1 .taken))
-    (ap (λ (b : List ℕ). b ++ drop (a .n) (a .third .now)) (called .writing-call .ensures))
+    (ap (λ (b : List ℕ). b ++ drop (a .n) (a .third .now)) (called c .writing-call .ensures))
 
 no-room : tie.Need-returns-2
 no-room c =
@@ -34,4 +37,12 @@ no-room c =
 pub answer-spec : {M : Type 1} → statement M
 answer-spec =
     tie.close
-    (tie.spec (λ c. search needs) n-bytes (λ c κs. search needs) (λ c. search needs) written no-room)
+    (tie.spec
+    (λ c. search needs)
+    n-bytes
+    (λ c κs. search needs)
+    (λ c. search needs)
+    (λ c κs. search needs)
+    (λ c. search needs)
+    written
+    no-room)

@@ -1,5 +1,5 @@
--- The line of a place in a text, and how it is shown.
-use Prim.Native.Nat.{ℕ, suc, _+_, _-_, _≤_}
+-- The line of a place in a text, how it is shown, and how much of it is marked.
+use Prim.Native.Nat.{ℕ, suc, _+_, _-_, _≤_, min, max}
 use mathlib.Core.Path.{_≡_}
 use mathlib.Core.Logic.{_⊎_}
 use mathlib.Core.Bool.{cond, _&&_}
@@ -44,3 +44,7 @@ pub record Window (line : Line) (at : ℕ) (shown : Stretch) : Type 0 where
 -- a tab as a blank, and a byte that does not print as '?'
 abbrev pub shownAs : ℕ → ℕ
 shownAs b = cond (eqb b 9) 32 (cond (leb 32 b && leb b 126) b 63)
+
+-- how many columns of a line are marked, from an offset up to another or to the end of what is shown; a place has one
+abbrev pub carets : ℕ → ℕ → ℕ → ℕ
+carets from to end = max 1 (min to end - from)

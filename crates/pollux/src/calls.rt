@@ -1,5 +1,5 @@
 // The calls, on the files that arguments 2 to 4 name.
-use crate::entries::Form;
+use crate::entries::Way;
 use crate::entries::judge_file;
 use crate::files::read_argument;
 use crate::refusals::refused;
@@ -27,15 +27,16 @@ pub enum Call {
     Translate,
     Load,
     Judge,
+    Explain,
     Run,
 }
 
 // What a text that passed is for.
 fn passed(call: Call, text: &[u8], list: &[u8]) {
-    if let Call::Judge = call {
-        judge_file(Form::Text, text, list)
-    } else {
-        say(b"passed\n")
+    match call {
+        Call::Judge => judge_file(Way::Judge, text, list),
+        Call::Explain => judge_file(Way::Explain, text, list),
+        _ => say(b"passed\n"),
     }
 }
 
@@ -77,7 +78,7 @@ fn translate(text: &[u8], list: &[u8], text_size: usize, list_size: usize) {
 // What blocks that loaded are for.
 fn loaded(call: Call, instructions: usize, list: &[u8], blocks: &[u8]) {
     if let Call::Run = call {
-        judge_file(Form::Blocks, blocks, list)
+        judge_file(Way::Run, blocks, list)
     } else {
         say_count(
             b"loaded # instruction\n",
@@ -98,7 +99,9 @@ fn load(call: Call, list: &[u8], blocks: &[u8], list_size: usize, blocks_size: u
 
 fn answer_on(call: Call, first: &[u8], second: &[u8], first_size: usize, second_size: usize) {
     match call {
-        Call::Check | Call::Judge => check(call, first, second, first_size, second_size),
+        Call::Check | Call::Judge | Call::Explain => {
+            check(call, first, second, first_size, second_size)
+        }
         Call::Translate => translate(first, second, first_size, second_size),
         Call::Load | Call::Run => load(call, first, second, first_size, second_size),
     }

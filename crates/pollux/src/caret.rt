@@ -1,9 +1,10 @@
-// The line that a place of a text stands in, with a caret under the place.
-ghost use Prim.Native.Nat.{_+_, _≤_};
+// The line that a place or a stretch of a text stands in, with carets under it.
+ghost use Prim.Native.Nat.{_+_, _≤_, min};
 ghost use mathlib.Core.Path.{_≡_};
 ghost use lib.ListN.{length};
-ghost use Rattle.pollux.specs.Lines.{seenAt, LineOf, Window, shownAs};
+ghost use Rattle.pollux.specs.Lines.{seenAt, LineOf, Window, shownAs, carets};
 use crate::say::say_number;
+use crate::say::say_two;
 use lines::say;
 use lines::start;
 use spelling::runs::Run;
@@ -132,14 +133,42 @@ fn say_line(text: &[u8], line: Line, shown: Stretch)
     }
 }
 
-// Shows the line of a text that an offset stands in, with a caret under the place.
-pub(crate) fn show(text: &[u8], at: usize) {
-    let seen = seen_at(text, at);
-    let line = line_of(text, seen);
-    let shown = window(line, seen);
-    say_number(b"line #:\n", line.number);
+fn earlier(one: usize, other: usize) -> usize
+    ensures { λ r. ⌜ r ≡ min one other ⌝ }
+{
+    if one < other { one } else { other }
+}
+
+// How many columns are marked from an offset up to another, on a line that is shown up to its `end`; a place has one.
+fn carets_under(from: usize, to: usize, end: usize) -> usize
+    ensures { λ r. ⌜ r ≡ carets from to end ⌝ }
+{
+    let past = earlier(to, end);
+    if from < past { past - from } else { 1 }
+}
+
+// Which lines a stretch stands in.
+fn say_lines(first: usize, last: usize) {
+    if first == last {
+        say_number(b"line #:\n", first)
+    } else {
+        say_two(b"lines # to #, the first:\n", first, last)
+    }
+}
+
+// Shows the line of a text that a stretch begins in, with carets under what the line has of the stretch. A place is a stretch that ends
+// where it begins.
+pub(crate) fn show(text: &[u8], from: usize, to: usize) {
+    let first = seen_at(text, from);
+    let past = seen_at(text, to);
+    let line = line_of(text, first);
+    let last = line_of(text, past);
+    let shown = window(line, first);
+    say_lines(line.number, last.number);
     say_line(text, line, shown);
     let blanks = [b' '; 104];
-    say(start(&blanks, 4 + (seen - shown.from)));
-    say(b"^\n")
+    say(start(&blanks, 4 + (first - shown.from)));
+    let marks = [b'^'; COLUMNS];
+    say(start(&marks, carets_under(first, past, shown.to)));
+    say(b"\n")
 }

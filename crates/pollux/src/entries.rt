@@ -3,21 +3,23 @@ ghost use Prim.Native.Nat.{_+_, _≤_, _<_};
 ghost use mathlib.Core.Path.{_≡_};
 ghost use lib.ListN.{length};
 ghost use Rattle.pollux.specs.Tallies.{total, counted, mostCounted};
+use crate::broken::judged_as;
+use crate::broken::say_judged;
 use crate::files::at_end;
-use crate::refusals::entry_refused;
 use crate::say::cannot_read;
 use crate::say::say_count;
-use crate::say::say_number;
 use crate::say::say_three;
 use crate::sizes::entry_end;
 use crate::sizes::entry_size;
 use crate::sizes::whole_entries;
+use paper::Explanation;
 use paper::Judgement;
 
-// What a restriction is given as.
-pub enum Form {
-    Text,
-    Blocks,
+// How entries are judged: by a text, without a word of what broke or with one, or by blocks.
+pub enum Way {
+    Judge,
+    Explain,
+    Run,
 }
 
 struct Tally {
@@ -48,23 +50,17 @@ impl Tally {
     }
 }
 
-fn judged(form: Form, rule: &[u8], list: &[u8], entry: &[u8]) -> Judgement {
-    match form {
-        Form::Text => valve::judge(rule, list, entry),
-        Form::Blocks => valve::run(list, rule, entry),
-    }
-}
-
-fn say_judged(judgement: Judgement, n: usize) {
-    match judgement {
-        Judgement::Accepted => say_number(b"accepted entry #\n", n),
-        Judgement::Violated => say_number(b"violated entry #\n", n),
-        Judgement::Refused(number, place) => entry_refused(n, number, place),
+// What is said of an entry, by a text or blocks.
+fn answered(way: Way, rule: &[u8], list: &[u8], entry: &[u8]) -> Explanation {
+    match way {
+        Way::Judge => Explanation::Nothing(valve::judge(rule, list, entry)),
+        Way::Explain => valve::reason(rule, list, entry),
+        Way::Run => Explanation::Nothing(valve::run(list, rule, entry)),
     }
 }
 
 // An entry has at least one byte, so there are no more entries than bytes.
-fn judge_held(form: Form, rule: &[u8], list: &[u8], part: &[u8], got: usize, before: Tally) -> Tally
+fn judge_held(way: Way, rule: &[u8], list: &[u8], part: &[u8], got: usize, before: Tally) -> Tally
     requires { ⌜ got ≤ length (now part) ⌝ }
     requires { ⌜ total before + got < mostCounted ⌝ }
     ensures { λ r. ⌜ total r ≤ total before + got ⌝ }
@@ -74,16 +70,16 @@ fn judge_held(form: Form, rule: &[u8], list: &[u8], part: &[u8], got: usize, bef
     let mut at = 0;
     while at < got {
         let to = entry_end(at, size, got);
-        let judgement = judged(form, rule, list, &part[at..to]);
-        tally = tally.count(judgement);
-        say_judged(judgement, tally.entries());
+        let why = answered(way, rule, list, &part[at..to]);
+        tally = tally.count(judged_as(why));
+        say_judged(tally.entries(), why, rule, list);
         at = to;
     }
     tally
 }
 
 // Judges what a file has left, as much at a time as the part holds. A file has fewer than 2^63 bytes, so the turns are enough.
-fn judge_turns(form: Form, rule: &[u8], list: &[u8], fd: i32, part: &mut [u8]) -> Tally
+fn judge_turns(way: Way, rule: &[u8], list: &[u8], fd: i32, part: &mut [u8]) -> Tally
     requires { ⌜ length (now part) ≤ 65536 ⌝ }
     ensures { λ r. ⌜ total r ≤ mostCounted ⌝ }
 {
@@ -95,7 +91,7 @@ fn judge_turns(form: Form, rule: &[u8], list: &[u8], fd: i32, part: &mut [u8]) -
     let mut turns: usize = 1 << 47;
     while 0 < turns {
         let got = io::read_full(fd, part);
-        tally = judge_held(form, rule, list, part, got, tally);
+        tally = judge_held(way, rule, list, part, got, tally);
         if (0 < got) & (got == part.len()) {
             turns -= 1;
         } else {
@@ -118,14 +114,14 @@ fn say_tally(tally: Tally)
 }
 
 // As many whole entries at a time as the buffer holds, so that none stands across two turns.
-fn judge_entries(form: Form, rule: &[u8], list: &[u8], path: &[u8]) {
+fn judge_entries(way: Way, rule: &[u8], list: &[u8], path: &[u8]) {
     let fd = os::open_read(path);
     if fd < 0 {
         cannot_read(path)
     } else {
         let want = whole_entries(entry_size(list));
         let mut buffer = io::large_buffer();
-        let tally = judge_turns(form, rule, list, fd, &mut buffer[..want]);
+        let tally = judge_turns(way, rule, list, fd, &mut buffer[..want]);
         if at_end(fd) {
             say_tally(tally)
         } else {
@@ -135,11 +131,11 @@ fn judge_entries(form: Form, rule: &[u8], list: &[u8], path: &[u8]) {
 }
 
 // The entries in the file that argument 4 names, against a text or blocks that are not refused.
-pub(crate) fn judge_file(form: Form, rule: &[u8], list: &[u8]) {
+pub(crate) fn judge_file(way: Way, rule: &[u8], list: &[u8]) {
     let mut path = io::buffer();
     let n = os::arg(4, &mut path);
     if os::errno() == 0 {
-        judge_entries(form, rule, list, &path[..n])
+        judge_entries(way, rule, list, &path[..n])
     } else {
         cannot_read(b"a path that is too long")
     }

@@ -1,9 +1,11 @@
-// Polluxvalve for people: checks, prints, translates, loads, judges and runs what stands in files, and tells the answer in words.
+// Polluxvalve for people: checks, prints, translates, loads, judges, explains and runs what stands in files, and tells the answer in words.
 //
 // Each answer is a line on standard output whose first word is passed, translated, loaded, printed, accepted, violated, refused,
 // cannot or usage; the script `pollux` at the root makes an exit status of it. A refusal of a text is followed by the line and a caret under
-// the place. Files may have any length: a place that is a length is the file's true length, and entries stream through one buffer.
-// No output file is touched unless the whole call passes, and it is written whole or not at all.
+// the place, what broke for an entry by the line and carets under the part, or by the key's name. Files may have any length: a place that
+// is a length is the file's true length, and entries stream through one buffer. No output file is touched unless the whole call passes, and
+// it is written whole or not at all.
+mod broken;
 mod calls;
 mod caret;
 mod entries;
@@ -26,6 +28,7 @@ fn usage() {
        pollux translate TEXT KEYS OUT
        pollux load KEYS BLOCKS
        pollux judge TEXT KEYS ENTRIES
+       pollux explain TEXT KEYS ENTRIES
        pollux run KEYS BLOCKS ENTRIES
 ",
     )
@@ -57,6 +60,8 @@ fn with_three(call: &[u8]) {
         answer(Call::Translate)
     } else if same_bytes(call, b"judge") {
         answer(Call::Judge)
+    } else if same_bytes(call, b"explain") {
+        answer(Call::Explain)
     } else if same_bytes(call, b"run") {
         answer(Call::Run)
     } else {

@@ -47,7 +47,7 @@ pub(crate) fn refused(
                 rule.len(),
                 rule_size,
             );
-            caret::show(rule, at)
+            caret::show(rule, at, at)
         }
         Place::List(_) => say_refused(
             b"refused #: key list, byte #: ",

@@ -6,10 +6,10 @@ use Rattle.pollux.proofs.entries.judge_held.Statement.{statement}
 use Rattle.pollux.proofs.entries.judge_held.Tie as tie
 
 abbrev Inv-loop : tie.InvT-loop
-Inv-loop form rule list part got size tally₀ at₀ tally at = (at ≤ got) × (total tally ≤ total tally₀ + at)
+Inv-loop way rule list part got size tally₀ at₀ tally at = (at ≤ got) × (total tally ≤ total tally₀ + at)
 
 abbrev μ-loop : tie.MeasureT-loop
-μ-loop form rule list part got size tally₀ at₀ tally at = got - at
+μ-loop way rule list part got size tally₀ at₀ tally at = got - at
 
 pub judge-held-spec : {M : Type 1} → statement M
 judge-held-spec =
@@ -23,6 +23,7 @@ judge-held-spec =
     (λ c. search needs)
     (λ c. search needs)
     (λ c. search needs)
+    (λ c κs. search needs)
     (λ c κs. search needs)
     (λ c κs. search needs)
     (λ c κs. search needs)

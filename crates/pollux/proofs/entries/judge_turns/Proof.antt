@@ -8,11 +8,11 @@ use Rattle.pollux.proofs.entries.judge_turns.Statement.{statement}
 use Rattle.pollux.proofs.entries.judge_turns.Tie as tie
 
 abbrev Inv-loop : tie.InvT-loop
-Inv-loop form rule list fd part₀ tally₀ turns₀ part tally turns =
+Inv-loop way rule list fd part₀ tally₀ turns₀ part tally turns =
     (length part ≡ length part₀) × (total tally + 65536 * turns ≤ 9223372036854775808)
 
 abbrev μ-loop : tie.MeasureT-loop
-μ-loop form rule list fd part₀ tally₀ turns₀ part tally turns = turns
+μ-loop way rule list fd part₀ tally₀ turns₀ part tally turns = turns
 
 pub judge-turns-spec : {M : Type 1} → statement M
 judge-turns-spec =

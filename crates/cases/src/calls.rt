@@ -3,6 +3,7 @@ use crate::inputs::put_input;
 use crate::names::CHECK;
 use crate::names::CODE;
 use crate::names::ENTRY;
+use crate::names::EXPLAIN;
 use crate::names::JUDGE;
 use crate::names::LIST;
 use crate::names::LOAD;
@@ -13,6 +14,7 @@ use crate::names::TRANSLATE;
 use crate::scan::not_understood;
 use crate::scan::part;
 use blocks::Block;
+use paper::Explanation;
 use paper::Printing;
 use paper::Translation;
 
@@ -34,16 +36,31 @@ fn say_translation(call: usize, translation: Translation) {
     }
 }
 
-// The longest print that is shown.
+// The longest print, or piece of an input, that is shown.
 const SHOWN: usize = 100;
+
+fn show(bytes: &[u8]) {
+    if bytes.len() <= SHOWN {
+        lines::say(b": ");
+        lines::say(bytes)
+    }
+}
 
 fn say_print(printing: Printing, room: &[u8]) {
     lines::say_printing(printing);
     if let Printing::Printed(n) = printing {
-        if n <= SHOWN {
-            lines::say(b": ");
-            lines::say(lines::start(room, n))
-        }
+        show(lines::start(room, n))
+    }
+}
+
+// What broke for an entry, in numbers, and the piece itself as `explain` hands it back.
+fn explain(text: &[u8], list: &[u8], entry: &[u8]) {
+    let why = valve::reason(text, list, entry);
+    lines::say_explanation(why);
+    match why {
+        Explanation::Part(_, _, _, _) => show(valve::explained_text(text, list, entry)),
+        Explanation::Key(_, _, _) => show(valve::explained_list(text, list, entry)),
+        Explanation::Nothing(_) => {}
     }
 }
 
@@ -62,6 +79,7 @@ fn answer(call: usize, text: &[u8], list: &[u8], entry: &[u8], room: &[u8]) {
         READ => lines::say_reading(valve::read(text)),
         CHECK => lines::say_checking(valve::check(text, list)),
         JUDGE => lines::say_judgement(valve::judge(text, list, entry)),
+        EXPLAIN => explain(text, list, entry),
         LOAD => lines::say_loading(valve::load(list, room)),
         _ => lines::say_judgement(valve::run(list, room, entry)),
     }

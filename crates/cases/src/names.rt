@@ -1,4 +1,4 @@
-// The commands, by the places of their names in a list: the first four give what calls are lent, and the last seven print an answer.
+// The commands, by the places of their names in a list: the first four give what calls are lent, and the last eight print an answer.
 ghost use Prim.Native.Nat.{_≤_};
 ghost use mathlib.Core.Path.{_≡_};
 ghost use lib.ListN.{length};
@@ -35,9 +35,11 @@ pub const CHECK: usize = 12;
 
 pub const JUDGE: usize = 13;
 
-pub const LOAD: usize = 14;
+pub const EXPLAIN: usize = 14;
 
-pub const RUN: usize = 15;
+pub const LOAD: usize = 15;
+
+pub const RUN: usize = 16;
 
 // Which of some words a word is, counted from 0; their count for none of them.
 fn place_in(words: &[u8], word: &[u8]) -> usize
@@ -62,7 +64,7 @@ pub(crate) fn command_at(file: &[u8], at: usize) -> usize
     ensures { λ r. ⌜ r ≡ commandAt (now (file .entry)) at ⌝ }
 {
     place_in(
-        b"text list entry room title change show code blocks translate print read check judge load run",
+        b"text list entry room title change show code blocks translate print read check judge explain load run",
         part(file, at, scan(file, at, b':')),
     )
 }

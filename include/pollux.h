@@ -4,6 +4,7 @@
  *
  *   On the author's desk     pollux_check, pollux_print, pollux_translate, pollux_judge: from the restriction's text
  *   On the switch            pollux_load once for a table, then pollux_run for every entry
+ *   On site                  pollux_explain, with text and entry: which part of the restriction, or which key, turned it away
  *
  * Inputs
  *   Each input is a pointer and a length in bytes, in that order. It may have any length and any content: whatever does not
@@ -44,6 +45,7 @@ extern "C" {
 #define POLLUX_MAX_PRINT 4096 /* bytes */
 #define POLLUX_MAX_TOKENS 1024
 #define POLLUX_MAX_LEVELS 64 /* parentheses and prefix operators that are open at one time */
+#define POLLUX_MAX_PARTS 512 /* what stands between the ";" signs outside parentheses */
 
 #define POLLUX_KEY_SIZE 80 /* one record of a key list */
 #define POLLUX_MAX_KEYS 32
@@ -110,7 +112,7 @@ enum pollux_refusal {
 };
 
 /*
- * An answer of any call.
+ * An answer of any call but pollux_explain, which has more to tell.
  *
  *   refused               says POLLUX_REFUSED, number and input as above, value the byte offset in that input
  *   accepted, violated    the other three are 0
@@ -164,6 +166,34 @@ struct pollux_answer pollux_run(const uint8_t *list, size_t list_length,
  */
 struct pollux_answer pollux_print(const uint8_t *text, size_t text_length,
                                   uint8_t *buffer, size_t buffer_length);
+
+/*
+ * What broke for an entry. The first four are what pollux_judge answers; the last four show a piece of the text or of the key list,
+ * by its first byte and its length there, no copy.
+ *
+ *   violated                   part is the number, from 1, of the first part of the text that is false: what stands between two ";"
+ *                              signs outside parentheses. place is its root's place in the text: its operator, or else its first
+ *                              token; start and length are its stretch of the text, from its first token to its last
+ *   refused with 20 at a       part is 0, place the record's place in the entry, as value is; start and length are the key's name
+ *   key's record               in the list
+ *   accepted, and all other    nothing to show: the last four are 0
+ *   refusals
+ */
+struct pollux_reason {
+    uint64_t says;   /* enum pollux_says: refused, accepted or violated */
+    uint64_t number; /* enum pollux_refusal, or 0 */
+    uint64_t input;  /* enum pollux_input */
+    uint64_t value;
+    uint64_t part;
+    uint64_t place;
+    uint64_t start;
+    uint64_t length; /* at least 1 where a piece is shown */
+};
+
+/* Judges one entry directly from the text, as pollux_judge does, and shows what broke. */
+struct pollux_reason pollux_explain(const uint8_t *text, size_t text_length,
+                                    const uint8_t *list, size_t list_length,
+                                    const uint8_t *entry, size_t entry_length);
 
 #ifdef __cplusplus
 }

@@ -15,6 +15,7 @@ void raw_pollux_translate(answer *, bytes, size_t, bytes, size_t, uint8_t *, siz
 void raw_pollux_load(answer *, bytes, size_t, bytes, size_t);
 void raw_pollux_run(answer *, bytes, size_t, bytes, size_t, bytes, size_t);
 void raw_pollux_print(answer *, bytes, size_t, uint8_t *, size_t);
+void raw_pollux_explain(struct pollux_reason *, bytes, size_t, bytes, size_t, bytes, size_t);
 
 answer pollux_read(bytes text, size_t text_length)
 {
@@ -62,5 +63,12 @@ answer pollux_print(bytes text, size_t text_length, uint8_t *buffer, size_t buff
 {
     answer given;
     raw_pollux_print(&given, text, text_length, buffer, buffer_length);
+    return given;
+}
+
+struct pollux_reason pollux_explain(bytes text, size_t text_length, bytes list, size_t list_length, bytes entry, size_t entry_length)
+{
+    struct pollux_reason given;
+    raw_pollux_explain(&given, text, text_length, list, list_length, entry, entry_length);
     return given;
 }

@@ -6,7 +6,7 @@
 
 const char *call_name(unsigned call)
 {
-    static const char *const names[] = { "no call", "read", "check", "judge", "translate", "load", "run", "print" };
+    static const char *const names[] = { "no call", "read", "check", "judge", "translate", "load", "run", "print", "explain" };
     return names[call <= LAST_CALL ? call : 0];
 }
 
@@ -20,6 +20,7 @@ const char *input_name(unsigned call, unsigned input)
         [LOAD] = { "list", "blocks", "" },
         [RUN] = { "list", "blocks", "entry" },
         [PRINT] = { "text", "", "buffer" },
+        [EXPLAIN] = { "text", "list", "entry" },
     };
     return names[call][input];
 }
@@ -81,10 +82,10 @@ void write_request(FILE *file, const struct request *request)
 }
 
 const struct calls pollux_calls = {
-    pollux_read, pollux_check, pollux_judge, pollux_translate, pollux_load, pollux_run, pollux_print,
+    pollux_read, pollux_check, pollux_judge, pollux_translate, pollux_load, pollux_run, pollux_print, pollux_explain,
 };
 
-struct pollux_answer make_call(const struct calls *calls, const struct request *request)
+static struct pollux_answer make_plain_call(const struct calls *calls, const struct request *request)
 {
     const struct input *a = &request->inputs[0], *b = &request->inputs[1], *c = &request->inputs[2];
     switch (request->call) {
@@ -98,20 +99,30 @@ struct pollux_answer make_call(const struct calls *calls, const struct request *
     }
 }
 
-static uint32_t adler32(const struct input *input)
+struct pollux_reason make_call(const struct calls *calls, const struct request *request)
+{
+    const struct input *a = &request->inputs[0], *b = &request->inputs[1], *c = &request->inputs[2];
+    if (request->call == EXPLAIN)
+        return calls->explain(a->at, a->length, b->at, b->length, c->at, c->length);
+    struct pollux_answer answer = make_plain_call(calls, request);
+    return (struct pollux_reason){ answer.says, answer.number, answer.input, answer.value, 0, 0, 0, 0 };
+}
+
+static uint32_t adler32(struct input input)
 {
     uint32_t low = 1, high = 0;
-    for (size_t i = 0; i < input->length; i++) {
-        low = (low + input->at[i]) % 65521;
+    for (size_t i = 0; i < input.length; i++) {
+        low = (low + input.at[i]) % 65521;
         high = (high + low) % 65521;
     }
     return high << 16 | low;
 }
 
-/* Does the answer say what this call may say, with zeros where it says nothing? */
-static bool fits_call(unsigned call, struct pollux_answer answer)
+/* ---- Does an answer say what its call may say, with zeros where it says nothing? */
+
+static bool fits_call(unsigned call, struct pollux_reason answer)
 {
-    bool judges = call == JUDGE || call == RUN;
+    bool judges = call == JUDGE || call == RUN || call == EXPLAIN;
     switch (answer.says) {
     case POLLUX_REFUSED: return answer.number >= 1 && answer.input >= POLLUX_TEXT && answer.input <= POLLUX_BUFFER;
     case POLLUX_ACCEPTED:
@@ -121,26 +132,86 @@ static bool fits_call(unsigned call, struct pollux_answer answer)
     }
 }
 
-static void words_of(char line[LINE_SIZE], unsigned call, struct pollux_answer answer)
+/* What an explanation must show: a part of the text for a violated entry, a key for one refused with 20 at a record, else nothing. */
+enum shown { NOTHING, PART, KEY };
+
+static enum shown what_is_shown(unsigned call, struct pollux_reason answer)
+{
+    if (call != EXPLAIN)
+        return NOTHING;
+    if (answer.says == POLLUX_VIOLATED)
+        return PART;
+    return answer.says == POLLUX_REFUSED && answer.number == POLLUX_ENTRY_RULE && answer.value >= POLLUX_PRIORITY_SIZE ? KEY : NOTHING;
+}
+
+static bool lies_in(struct pollux_reason answer, size_t length)
+{
+    return answer.length >= 1 && answer.start <= length && answer.length <= length - answer.start;
+}
+
+static bool fits_shown(const struct request *request, struct pollux_reason answer)
+{
+    switch (what_is_shown(request->call, answer)) {
+    case PART:
+        return answer.part >= 1 && answer.part <= POLLUX_MAX_PARTS && lies_in(answer, request->inputs[0].length) &&
+               answer.place >= answer.start && answer.place - answer.start < answer.length;
+    case KEY:
+        return answer.part == 0 && answer.place == answer.value && lies_in(answer, request->inputs[1].length) &&
+               answer.length <= POLLUX_MAX_NAME;
+    default: return answer.part == 0 && answer.place == 0 && answer.start == 0 && answer.length == 0;
+    }
+}
+
+/* ---- Lines. */
+
+/* Writes at the end of a line. */
+#define ADD(line, ...) snprintf((line) + strlen(line), LINE_SIZE - strlen(line), __VA_ARGS__)
+
+static void add_answer(char line[LINE_SIZE], unsigned call, struct pollux_reason answer)
 {
     static const char *const inputs[] = { "", "text", "list", "entry", "blocks", "buffer" };
     static const char *const counted[] = { [READ] = "read", [TRANSLATE] = "translated", [LOAD] = "loaded", [PRINT] = "printed" };
-    if (!fits_call(call, answer))
-        snprintf(line, LINE_SIZE, "odd %" PRIu64 " %" PRIu64 " %" PRIu64 " %" PRIu64, answer.says, answer.number, answer.input,
-                 answer.value);
-    else if (answer.says == POLLUX_REFUSED)
-        snprintf(line, LINE_SIZE, "refused %" PRIu64 " %s %" PRIu64, answer.number, inputs[answer.input], answer.value);
+    if (answer.says == POLLUX_REFUSED)
+        ADD(line, "refused %" PRIu64 " %s %" PRIu64, answer.number, inputs[answer.input], answer.value);
     else if (answer.says == POLLUX_DONE && call != CHECK)
-        snprintf(line, LINE_SIZE, "%s %" PRIu64, counted[call], answer.value);
+        ADD(line, "%s %" PRIu64, counted[call], answer.value);
     else
-        snprintf(line, LINE_SIZE, "%s", answer.says == POLLUX_DONE ? "passed" : answer.says == POLLUX_ACCEPTED ? "accepted" : "violated");
+        ADD(line, "%s", answer.says == POLLUX_DONE ? "passed" : answer.says == POLLUX_ACCEPTED ? "accepted" : "violated");
 }
 
-void answer_line(char line[LINE_SIZE], const struct request *request, struct pollux_answer answer)
+static void add_piece(char line[LINE_SIZE], struct pollux_reason answer, struct input input)
 {
-    words_of(line, request->call, answer);
-    if (writes(request->call)) {
-        size_t end = strlen(line);
-        snprintf(line + end, LINE_SIZE - end, " %u", adler32(&request->inputs[2]));
+    struct input piece = { input.at + answer.start, (size_t)answer.length };
+    ADD(line, " at %" PRIu64 " %" PRIu64 " %" PRIu64 " %u", answer.place, answer.start, answer.length, adler32(piece));
+}
+
+static void add_explanation(char line[LINE_SIZE], const struct request *request, struct pollux_reason answer)
+{
+    switch (what_is_shown(EXPLAIN, answer)) {
+    case PART:
+        ADD(line, "part %" PRIu64, answer.part);
+        add_piece(line, answer, request->inputs[0]);
+        break;
+    case KEY:
+        ADD(line, "key");
+        add_piece(line, answer, request->inputs[1]);
+        break;
+    default:
+        ADD(line, "nothing ");
+        add_answer(line, EXPLAIN, answer);
     }
+}
+
+void answer_line(char line[LINE_SIZE], const struct request *request, struct pollux_reason answer)
+{
+    line[0] = '\0';
+    if (!fits_call(request->call, answer) || !fits_shown(request, answer))
+        ADD(line, "odd %" PRIu64 " %" PRIu64 " %" PRIu64 " %" PRIu64 " %" PRIu64 " %" PRIu64 " %" PRIu64 " %" PRIu64, answer.says,
+            answer.number, answer.input, answer.value, answer.part, answer.place, answer.start, answer.length);
+    else if (request->call == EXPLAIN)
+        add_explanation(line, request, answer);
+    else
+        add_answer(line, request->call, answer);
+    if (writes(request->call))
+        ADD(line, " %u", adler32(request->inputs[2]));
 }

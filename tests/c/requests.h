@@ -3,7 +3,7 @@
  *
  * A request is a byte for the call and three inputs, each a length of 4 bytes, big-endian, and its bytes; a call that has fewer
  * inputs finds the rest empty. The line of a translation or a print ends in the Adler-32 sum of the buffer as it stands after
- * the call.
+ * the call, and that of an explanation in the sum of the piece that is shown.
  */
 #ifndef REQUESTS_H
 #define REQUESTS_H
@@ -13,8 +13,8 @@
 
 #include "pollux.h"
 
-enum { READ = 1, CHECK, JUDGE, TRANSLATE, LOAD, RUN, PRINT, LAST_CALL = PRINT };
-enum { INPUTS = 3, LONGEST_INPUT = 65536, LINE_SIZE = 80 };
+enum { READ = 1, CHECK, JUDGE, TRANSLATE, LOAD, RUN, PRINT, EXPLAIN, LAST_CALL = EXPLAIN };
+enum { INPUTS = 3, LONGEST_INPUT = 65536, LINE_SIZE = 200 };
 
 struct input {
     uint8_t *at; /* never NULL */
@@ -49,13 +49,15 @@ struct calls {
     struct pollux_answer (*load)(const uint8_t *, size_t, const uint8_t *, size_t);
     struct pollux_answer (*run)(const uint8_t *, size_t, const uint8_t *, size_t, const uint8_t *, size_t);
     struct pollux_answer (*print)(const uint8_t *, size_t, uint8_t *, size_t);
+    struct pollux_reason (*explain)(const uint8_t *, size_t, const uint8_t *, size_t, const uint8_t *, size_t);
 };
 
 extern const struct calls pollux_calls;
 
-struct pollux_answer make_call(const struct calls *calls, const struct request *request);
+/* Makes a call. Of an answer that shows no piece the last four numbers are 0. */
+struct pollux_reason make_call(const struct calls *calls, const struct request *request);
 
-/* The answer as a line, without its end. An answer that no call may give is told as "odd" with its four numbers. */
-void answer_line(char line[LINE_SIZE], const struct request *request, struct pollux_answer answer);
+/* The answer as a line, without its end. An answer that no call may give is told as "odd" with its eight numbers. */
+void answer_line(char line[LINE_SIZE], const struct request *request, struct pollux_reason answer);
 
 #endif

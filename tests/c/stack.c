@@ -62,7 +62,10 @@ static void measure(const struct request *request)
     call_on(stacks[request->call] + STACK);
 }
 
-/* ---- The deepest texts: of 1,024 tokens in a row, and of 64 levels, the innermost of which holds the rest of the tokens. */
+/*
+ * ---- The deepest texts: of 1,024 tokens in a row, and of 64 levels, the innermost of which holds the rest of the tokens. The last
+ * word is false, so that an explanation has all parts to go through and one to show.
+ */
 
 static size_t repeat(uint8_t *text, const char *piece, size_t times)
 {
@@ -78,6 +81,8 @@ static void measure_text(uint8_t *text, size_t length)
     struct request request = { .inputs = { { text, length }, { entry, 0 }, { entry, sizeof entry } } };
     for (request.call = READ; request.call <= JUDGE; request.call++)
         measure(&request);
+    request.call = EXPLAIN;
+    measure(&request);
     request.inputs[2] = (struct input){ buffer, sizeof buffer };
     request.call = TRANSLATE;
     measure(&request);
@@ -88,13 +93,16 @@ static void measure_text(uint8_t *text, size_t length)
 static void measure_deepest(void)
 {
     static uint8_t text[POLLUX_MAX_TEXT];
-    measure_text(text, repeat(text, "true;", POLLUX_MAX_TOKENS / 2));
+    size_t end = repeat(text, "true;", POLLUX_MAX_PARTS - 1);
+    end += repeat(text + end, "false;", 1);
+    measure_text(text, end);
 
     static const char *const levels[] = { "(", "!", "-" };
     for (int i = 0; i < 3; i++) {
-        size_t end = repeat(text, levels[i], POLLUX_MAX_LEVELS);
+        end = repeat(text, levels[i], POLLUX_MAX_LEVELS);
         end += repeat(text + end, i == 2 ? "ipv6('1:2:3:4:5:6:7:8')==1" : "true", 1);
-        end += repeat(text + end, ";true", (POLLUX_MAX_TOKENS - 2 * POLLUX_MAX_LEVELS) / 2 - 6);
+        end += repeat(text + end, ";true", (POLLUX_MAX_TOKENS - 2 * POLLUX_MAX_LEVELS) / 2 - 7);
+        end += repeat(text + end, ";false", 1);
         end += repeat(text + end, ")", i == 0 ? POLLUX_MAX_LEVELS : 0);
         measure_text(text, end);
     }

@@ -73,6 +73,9 @@ fn every_refusal_occurs_often() {
     ] {
         assert!(counts[answer] >= 1_000, "{answer}: {}", counts[answer]);
     }
+    for answer in ["part", "key", "nothing"] {
+        assert!(counts[answer] >= 500, "{answer}: {}", counts[answer]);
+    }
     assert!(counts.contains_key("unknown") && counts.contains_key("too"));
 }
 

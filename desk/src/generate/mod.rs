@@ -30,6 +30,7 @@ pub const SHARES: &[(Call, usize)] = &[
     (Call::Load, 3),
     (Call::Run, 4),
     (Call::Print, 3),
+    (Call::Explain, 4),
 ];
 
 /// Request `index` of the run with this seed.

@@ -15,7 +15,7 @@
 #include "tables.h"
 
 static const struct calls plain_calls = {
-    plain_read, plain_check, plain_judge, plain_translate, plain_load, plain_run, plain_print,
+    plain_read, plain_check, plain_judge, plain_translate, plain_load, plain_run, plain_print, plain_explain,
 };
 
 /* ---- The requests that show what every version answers, in one order. */
@@ -33,6 +33,7 @@ static void each_request(const struct table *table, with_request *use)
     use(&(struct request){ LOAD, { table->list, table->blocks, nothing } }, table);
     for (size_t i = 0; i < entry_count(table); i++) {
         use(&(struct request){ JUDGE, { table->text, table->list, entry_of(table, i) } }, table);
+        use(&(struct request){ EXPLAIN, { table->text, table->list, entry_of(table, i) } }, table);
         use(&(struct request){ RUN, { table->list, table->blocks, entry_of(table, i) } }, table);
     }
 }
@@ -116,6 +117,8 @@ WORK(run_unchecked, plain_accepts(table->list.at, table->blocks.at, table->instr
 WORK(run_by_hand, table->by_hand(entry))
 WORK(judge_pollux, pollux_judge(TEXT, LIST, ENTRY).says)
 WORK(judge_plain, plain_judge(TEXT, LIST, ENTRY).says)
+WORK(explain_pollux, pollux_explain(TEXT, LIST, ENTRY).start)
+WORK(explain_plain, plain_explain(TEXT, LIST, ENTRY).start)
 WORK(load_pollux, pollux_load(LIST, BLOCKS).value)
 WORK(load_plain, plain_load(LIST, BLOCKS).value)
 WORK(translate_pollux, pollux_translate(TEXT, LIST, scratch, sizeof scratch).value)
@@ -133,15 +136,22 @@ static const struct measured {
 } all_measured[] = {
     { "run", { run_pollux, run_plain, run_unchecked, run_by_hand } },
     { "judge", { judge_pollux, judge_plain, NULL, NULL } },
+    { "explain", { explain_pollux, explain_plain, NULL, NULL } },
     { "load", { load_pollux, load_plain, NULL, NULL } },
     { "translate", { translate_pollux, translate_plain, NULL, NULL } },
     { "read", { read_pollux, read_plain, NULL, NULL } },
     { "print", { print_pollux, print_plain, NULL, NULL } },
 };
 
-/* Two calls of Polluxvalve that take turns as two versions do. */
-enum { PRINTING, READING };
-static const struct measured print_beside_read = { "print", { [PRINTING] = print_pollux, [READING] = read_pollux } };
+/* Two calls of Polluxvalve that take turns as two versions do: one that has more to do, and what it has to do at least. */
+enum { MORE, LESS };
+static const struct beside {
+    const char *more, *less;
+    struct measured calls;
+} all_beside[] = {
+    { "print", "read", { "print", { [MORE] = print_pollux, [LESS] = read_pollux } } },
+    { "explain", "judge", { "explain", { [MORE] = explain_pollux, [LESS] = judge_pollux } } },
+};
 
 /* ---- Time. */
 
@@ -222,14 +232,15 @@ static void measure_all(const struct table tables[TABLES])
         }
 }
 
-static void measure_print_beside_read(const struct table tables[TABLES])
+static void measure_beside(const struct table tables[TABLES], const struct beside *beside)
 {
-    printf("\nTimes a second, Polluxvalve alone. Each ratio is how many times longer it takes to print a text than to read it.\n\n");
-    printf("%-13s %12s %12s %6s\n", "restriction", "print", "read", "ratio");
+    printf("\nTimes a second, Polluxvalve alone. Each ratio is how many times longer it takes to %s than to %s.\n\n", beside->more,
+           beside->less);
+    printf("%-13s %12s %12s %6s\n", "restriction", beside->more, beside->less, "ratio");
     for (int i = 0; i < TABLES; i++) {
         double best[VERSIONS] = { 0 };
-        measure(&print_beside_read, &tables[i], best);
-        printf("%-13s %12.0f %12.0f %6.2f\n", tables[i].name, best[PRINTING], best[READING], best[READING] / best[PRINTING]);
+        measure(&beside->calls, &tables[i], best);
+        printf("%-13s %12.0f %12.0f %6.2f\n", tables[i].name, best[MORE], best[LESS], best[LESS] / best[MORE]);
     }
 }
 
@@ -296,7 +307,8 @@ static int hold_and_measure(const struct table tables[TABLES], const char *path)
     for (int i = 0; i < TABLES; i++)
         each_request(&tables[i], hold_all);
     measure_all(tables);
-    measure_print_beside_read(tables);
+    for (size_t i = 0; i < sizeof all_beside / sizeof all_beside[0]; i++)
+        measure_beside(tables, &all_beside[i]);
     return 0;
 }
 

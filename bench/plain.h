@@ -32,6 +32,10 @@ struct pollux_answer plain_run(const uint8_t *list, size_t list_length,
 struct pollux_answer plain_print(const uint8_t *text, size_t text_length,
                                  uint8_t *buffer, size_t buffer_length);
 
+struct pollux_reason plain_explain(const uint8_t *text, size_t text_length,
+                                   const uint8_t *list, size_t list_length,
+                                   const uint8_t *entry, size_t entry_length);
+
 /* Runs blocks that load on an entry that conforms, and checks nothing. */
 bool plain_accepts(const uint8_t *list, const uint8_t *blocks, size_t instructions, const uint8_t *entry);
 

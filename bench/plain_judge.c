@@ -50,13 +50,18 @@ bool text_tree(const uint8_t *text, size_t text_length, struct tokens *tokens, s
            read_tree(text, tokens, tree, answer);
 }
 
-bool checked_tree(const uint8_t *text, size_t text_length, const uint8_t *list, size_t list_length, struct tree *tree,
-                  struct pollux_answer *answer)
+bool checked_tree(const uint8_t *text, size_t text_length, const uint8_t *list, size_t list_length, struct tokens *tokens,
+                  struct tree *tree, struct pollux_answer *answer)
 {
-    struct tokens tokens;
     return check_length(text_length, answer) && check_list(list, list_length, answer) &&
-           read_tokens(text, text_length, &tokens, answer) && read_tree(text, &tokens, tree, answer) &&
-           check_types(text, &tokens, tree, list, list_length, answer);
+           read_tokens(text, text_length, tokens, answer) && read_tree(text, tokens, tree, answer) &&
+           check_types(text, tokens, tree, list, list_length, answer);
+}
+
+bool holds_at(const struct tree *tree, const uint8_t *list, const uint8_t *entry, size_t node)
+{
+    struct judged judged = { tree, list, entry };
+    return truth_of(&judged, node);
 }
 
 struct pollux_answer plain_read(const uint8_t *text, size_t text_length)
@@ -69,19 +74,20 @@ struct pollux_answer plain_read(const uint8_t *text, size_t text_length)
 
 struct pollux_answer plain_check(const uint8_t *text, size_t text_length, const uint8_t *list, size_t list_length)
 {
+    struct tokens tokens;
     struct tree tree;
     struct pollux_answer answer;
-    return checked_tree(text, text_length, list, list_length, &tree, &answer) ? done(0) : answer;
+    return checked_tree(text, text_length, list, list_length, &tokens, &tree, &answer) ? done(0) : answer;
 }
 
 struct pollux_answer plain_judge(const uint8_t *text, size_t text_length, const uint8_t *list, size_t list_length,
                                  const uint8_t *entry, size_t entry_length)
 {
+    struct tokens tokens;
     struct tree tree;
     struct pollux_answer answer;
-    if (!checked_tree(text, text_length, list, list_length, &tree, &answer) ||
+    if (!checked_tree(text, text_length, list, list_length, &tokens, &tree, &answer) ||
         !check_entry(list, list_length, entry, entry_length, &answer))
         return answer;
-    struct judged judged = { &tree, list, entry };
-    return verdict(truth_of(&judged, tree.count - 1));
+    return verdict(holds_at(&tree, list, entry, tree.count - 1));
 }

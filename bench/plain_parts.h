@@ -160,7 +160,10 @@ bool check_types(const uint8_t *text, const struct tokens *tokens, struct tree *
 
 /* The stages that need no key list, 1 and 5 to 10; and stages 1 to 14 (plain_judge.c). */
 bool text_tree(const uint8_t *text, size_t text_length, struct tokens *tokens, struct tree *tree, struct pollux_answer *answer);
-bool checked_tree(const uint8_t *text, size_t text_length, const uint8_t *list, size_t list_length, struct tree *tree,
-                  struct pollux_answer *answer);
+bool checked_tree(const uint8_t *text, size_t text_length, const uint8_t *list, size_t list_length, struct tokens *tokens,
+                  struct tree *tree, struct pollux_answer *answer);
+
+/* Is the tree at a node, which is a bool, true of an entry that conforms? (plain_judge.c) */
+bool holds_at(const struct tree *tree, const uint8_t *list, const uint8_t *entry, size_t node);
 
 #endif

@@ -56,9 +56,10 @@ static void seal(uint8_t *block, size_t index, size_t total, size_t keys)
 struct pollux_answer plain_translate(const uint8_t *text, size_t text_length, const uint8_t *list, size_t list_length,
                                      uint8_t *buffer, size_t buffer_length)
 {
+    struct tokens tokens;
     struct tree tree;
     struct pollux_answer answer;
-    if (!checked_tree(text, text_length, list, list_length, &tree, &answer))
+    if (!checked_tree(text, text_length, list, list_length, &tokens, &tree, &answer))
         return answer;
     size_t total = instructions_of(&tree);
     size_t needed = POLLUX_BLOCKS_SIZE(total);

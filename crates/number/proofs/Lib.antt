@@ -8,3 +8,4 @@ pub mod Orders
 pub mod Powers
 pub mod Quotients
 pub mod Signs
+pub mod Zeros

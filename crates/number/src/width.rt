@@ -18,6 +18,20 @@ fn low(limb: u32, w: u32) -> u32
     limb % (1 << w)
 }
 
+// Whether the lowest k bits of a limb are zero. The processor counts 32 zeros at most, those of a limb that is zero.
+fn clear(limb: u32, k: u32) -> bool
+    ensures { λ r. ⌜ r ≡ eqb (limb % 2 ^ k) 0 ⌝ }
+{
+    at_most(k, 32) <= u32::trailing_zeros(limb)
+}
+
+// The lesser of k and n.
+fn at_most(k: u32, n: u32) -> u32
+    ensures { λ r. ⌜ r ≡ min k n ⌝ }
+{
+    if k < n { k } else { n }
+}
+
 // How far w reaches past n.
 fn past(w: u32, n: u32) -> u32
     ensures { λ r. ⌜ r ≡ w - n ⌝ }
@@ -92,10 +106,22 @@ impl Magnitude {
         self.lowest(w).equal(self)
     }
 
-    // Whether the lowest k bits of the number are zero.
+    // Whether the lowest k bits of the number are zero. The lowest limb that is not zero decides.
     pub fn low_clear(self, k: u32) -> bool
         ensures { λ r. ⌜ r ≡ eqb (value self % 2 ^ k) 0 ⌝ }
     {
-        self.lowest(k).is_zero()
+        let first = self.limbs[0];
+        if first != 0 {
+            return clear(first, k);
+        }
+        let second = self.limbs[1];
+        if second != 0 {
+            return clear(second, past(k, 32));
+        }
+        let third = self.limbs[2];
+        if third != 0 {
+            return clear(third, past(k, 64));
+        }
+        clear(self.limbs[3], past(k, 96))
     }
 }

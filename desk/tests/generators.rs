@@ -134,6 +134,44 @@ fn ranges_reach_their_limit() {
     assert!(above >= 200, "{above} ranges with low just above high");
 }
 
+/// Prefixes that end where one word of 32 bits passes into the next, or next to
+/// it: with their lowest bit set, and with the bit below it.
+#[test]
+fn prefixes_reach_the_borders_of_words() {
+    let keys = [NamedKey::new(b"p", Kind::Lpm, 128)];
+    let mut counts = BTreeMap::new();
+    for index in 0..6_000 {
+        let mut rng = Rng::for_item(9, index);
+        let entry = entries::good(&mut rng, &keys);
+        let damaged = entries::damaged(&mut rng, &keys, &entry);
+        for bytes in [entry.to_bytes(), damaged] {
+            if let Some(border) = lowest_bit_at_border(&bytes) {
+                *counts.entry(border).or_insert(0) += 1;
+            }
+        }
+    }
+    // Eleven counts of low bits, each conforming and not; 128 low bits conform
+    // where no bit is set.
+    assert_eq!(counts.len(), 21, "{counts:?}");
+    for (border, count) in counts {
+        assert!(count >= 5, "{border:?}: {count}");
+    }
+}
+
+/// The number of low bits that the prefix of the one key leaves, if it is near
+/// a border, and whether the lowest bit that is set is the lowest of the prefix
+/// rather than the bit below it.
+fn lowest_bit_at_border(bytes: &[u8]) -> Option<(u32, bool)> {
+    let record: &[u8; 36] = bytes.get(4..)?.try_into().ok()?;
+    let first = u128::from_be_bytes(record[4..20].try_into().ok()?);
+    let left = 128u32.checked_sub(u32::from(record[1]))?;
+    let near_border = left > 30 && [31, 0, 1].contains(&(left % 32));
+    let lowest = first.trailing_zeros();
+    let conforms = lowest == left && first != 0;
+    let breaks = lowest + 1 == left;
+    (record[0] == 1 && near_border && (conforms || breaks)).then_some((left, conforms))
+}
+
 #[test]
 fn good_programs_load() {
     for index in 0..3_000 {

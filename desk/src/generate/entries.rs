@@ -71,17 +71,25 @@ fn ternary(rng: &mut Rng, width: u8, plain: Record) -> Record {
 }
 
 fn lpm(rng: &mut Rng, width: u8, plain: Record) -> Record {
-    let prefix_length = match rng.below(4) {
-        0 => width,
-        1 => 0,
-        _ => rng.between(0, usize::from(width)) as u8,
-    };
-    let free = width - prefix_length;
-    let free_bits = if free == 0 { 0 } else { all_ones(free) };
+    let free = free_bits(rng, width);
+    let low_bits = if free == 0 { 0 } else { all_ones(free) };
     Record {
-        first: plain.first & !free_bits,
-        prefix_length,
+        first: plain.first & !low_bits,
+        prefix_length: width - free,
         ..plain
+    }
+}
+
+/// How many low bits a prefix leaves: none, all, any number, or one at which a
+/// test of 32 bits at a time passes from one to the next, or next to it.
+fn free_bits(rng: &mut Rng, width: u8) -> u8 {
+    const AT_BORDERS: [u8; 10] = [31, 32, 33, 63, 64, 65, 95, 96, 97, 127];
+    let at_border = rng.pick(&AT_BORDERS);
+    match rng.below(4) {
+        0 => 0,
+        1 => width,
+        2 if at_border < width => at_border,
+        _ => rng.between(0, usize::from(width)) as u8,
     }
 }
 

@@ -58,6 +58,39 @@ static void make_small(struct table *table)
     }
 }
 
+/* ---- Prefixes: 32 lpm keys of 128 bits, and a text that is just true. */
+
+static void set_wide_key(struct input *list, size_t key, unsigned kind)
+{
+    char name[8];
+    snprintf(name, sizeof name, "k%02zu", key);
+    set_key(list, key, name, kind, 128);
+}
+
+/* A prefix of bits that are all set. */
+static void set_prefix(uint8_t *record, unsigned length)
+{
+    record[0] = 1;
+    record[1] = (uint8_t)length;
+    for (unsigned bit = 0; bit < length; bit++)
+        record[4 + bit / 8] |= (uint8_t)(0x80 >> bit % 8);
+}
+
+/* The prefixes have 0, 4, 8 and up to 124 bits. In the second entry the last key has a bit below its prefix, so that it is refused. */
+static void make_prefixes(struct table *table)
+{
+    *table = (struct table){ .name = "prefixes", .text = from_words("true"), .entry_size = POLLUX_ENTRY_SIZE(POLLUX_MAX_KEYS) };
+    table->list = room(POLLUX_MAX_LIST);
+    table->entries = room(2 * table->entry_size);
+    for (size_t key = 0; key < POLLUX_MAX_KEYS; key++) {
+        uint8_t *record = table->entries.at + POLLUX_ENTRY_SIZE(key);
+        set_wide_key(&table->list, key, LPM);
+        set_prefix(record, 4 * (unsigned)key);
+        set_prefix(record + table->entry_size, 4 * (unsigned)key);
+    }
+    table->entries.at[table->entries.length - POLLUX_RECORD_SIZE + 19] = 1;
+}
+
 /* ---- At the limits: 4,096 bytes of text, 1,024 tokens, 32 keys of 128 bits, and a print that is just not too long. */
 
 enum { COMPARISONS = POLLUX_MAX_TOKENS / 4, FIRST_NUMERAL = 10000 };
@@ -92,15 +125,13 @@ static void set_limit_record(uint8_t *record, size_t key, uint32_t value)
 /* The first entry is accepted; the second is violated by the last comparison. */
 static void make_limit(struct table *table)
 {
-    char name[8];
     *table = (struct table){ .name = "limit", .entry_size = POLLUX_ENTRY_SIZE(POLLUX_MAX_KEYS) };
     make_limit_text(table);
     table->list = room(POLLUX_MAX_LIST);
     table->entries = room(2 * table->entry_size);
     for (size_t key = 0; key < POLLUX_MAX_KEYS; key++) {
         uint8_t *record = table->entries.at + POLLUX_ENTRY_SIZE(key);
-        snprintf(name, sizeof name, "k%02zu", key);
-        set_key(&table->list, key, name, key % 5, 128);
+        set_wide_key(&table->list, key, key % 5);
         set_limit_record(record, key, (uint32_t)key + 1);
         bool last = key + 1 == POLLUX_MAX_KEYS;
         set_limit_record(record + table->entry_size, key, last ? FIRST_NUMERAL + COMPARISONS - 1 : (uint32_t)key + 1);
@@ -162,7 +193,8 @@ void make_tables(struct table tables[TABLES], const char *folder)
     make_example(&tables[1], folder, "ipv6-routing", by_hand_ipv6_routing);
     make_example(&tables[2], folder, "uplink", by_hand_uplink);
     make_example(&tables[3], folder, "acl", by_hand_acl);
-    make_limit(&tables[4]);
+    make_prefixes(&tables[4]);
+    make_limit(&tables[5]);
     for (int i = 0; i < TABLES; i++) {
         add_blocks(&tables[i]);
         add_conforming(&tables[i]);

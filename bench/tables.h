@@ -1,4 +1,4 @@
-/* The tables that are measured: a small one, one at the limits, and those of examples/. */
+/* The tables that are measured: a small one, one of prefixes, one at the limits, and those of examples/. */
 #ifndef TABLES_H
 #define TABLES_H
 
@@ -15,7 +15,7 @@ struct table {
     struct input conforming; /* the entries that are not refused, end to end */
 };
 
-enum { TABLES = 5 };
+enum { TABLES = 6 };
 
 /* FOLDER has NAME.text, NAME.list and NAME.entries for each example. */
 void make_tables(struct table tables[TABLES], const char *folder);

@@ -81,6 +81,7 @@ pub mod PrintIsPhrase
 pub mod PrintIsShortest
 pub mod PrintReadsBack
 pub mod PrintDemands
+pub mod BasesIgnored
 pub mod PartsCut
 pub mod PartsDecide
 pub mod PartsTyped

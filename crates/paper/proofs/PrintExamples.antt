@@ -9,6 +9,8 @@ unfolding tree print printAnswer printBuffer
 printExamples =
     record {
       of-leaves = refl;
+      of-bases = refl;
+      of-longest = refl;
       of-operators = refl;
       of-parentheses = refl;
       at-limits = refl;

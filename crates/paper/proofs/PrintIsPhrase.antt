@@ -5,12 +5,13 @@ use native.Mathlib.Nat.{lt-of-lt-of-le, le-max-left, le-max-right, le-trans}
 use native.Mathlib.Omega.{arith}
 use mathlib.Core.Path.{_≡_, refl, sym, ap, ap₂, subst, _∙_}
 use mathlib.Core.Bool.{Bool, true, false, cond, true≢false, and-eq-true-iff}
+use mathlib.Core.Option.{some}
 use mathlib.Core.List.{List, [], _∷_, _++_, map, append-assoc, append-nil}
 use lib.ListN.{length, drop, length-append}
 use lib.Dec.{eqb, ltb}
 use borrow.Author.Tests.{ltb-false, leb-true}
 use Rattle.paper.specs.Numbers.{inBase}
-use Rattle.paper.specs.Tokens.{bytes, isDigit, isIdStart, wordMore, isKey, Literal, plain, Prefix, notSign, minusSign, Join, sequel, implies, orElse, andAlso, Comparison, equal, unequal, greater, atLeast, less, atMost, join, comparison, prefix, opening, closing, colons, Tok, word, numeral, sign, Token, token, scan}
+use Rattle.paper.specs.Tokens.{bytes, isDigit, isIdStart, isIdByte, wordMore, isKey, Base, decimal, binary, octal, hex, radix, baseOf, Literal, literalIn, Prefix, notSign, minusSign, Join, sequel, implies, orElse, andAlso, Comparison, equal, unequal, greater, atLeast, less, atMost, join, comparison, prefix, opening, closing, colons, Tok, word, numeral, sign, Token, Scan, token, scan}
 use Rattle.paper.specs.Addresses.{address}
 use Rattle.paper.specs.Grammar.{Tree, truth, number, key, field, attribute, prefixed, joined, compared}
 use Rattle.paper.specs.BlocksRoundTrip.{All}
@@ -19,7 +20,7 @@ use Rattle.paper.specs.Print.{bare, mostDigits, digitsIn, digitByte, num
 use Rattle.paper.specs.Sized.{deeper, wider, levels, count, Clean}
 use Rattle.paper.proofs.DigitsReadBack.{digits-back, digits-below}
 use Rattle.paper.proofs.Rungs.{Rung, looser-rung, join-rung, comparison-rung, enclosed-rung}
-use Rattle.paper.proofs.WordsScanned.{unlike, Loose, low-is-digit, scan-word, scan-decimal}
+use Rattle.paper.proofs.WordsScanned.{unlike, Loose, low-is-digit, counted, scan-word, scan-decimal, scan-announced}
 use Rattle.paper.proofs.PiecesCut.{Lexed, lexed-then, lexed-token, lexed-blank, after}
 
 -- signs
@@ -34,12 +35,45 @@ unfolding scan
 scan-closing [] = refl
 scan-closing (c ∷ s) = refl
 
-digits-some : (n : ℕ) → 0 < length (digitsIn 10 mostDigits n)
-digits-some n = go (ltb n 10)
+digits-some : (base n : ℕ) → 0 < length (digitsIn base mostDigits n)
+digits-some base n = go (ltb n base)
   where
-    go : (b : Bool) → 0 < length (cond b (n ∷ []) (digitsIn 10 127 (n / 10) ++ (n % 10 ∷ [])))
+    go : (b : Bool) → 0 < length (cond b (n ∷ []) (digitsIn base 127 (n / base) ++ (n % base ∷ [])))
     go true = omega arith
-    go false = omega (arith, length-append (digitsIn 10 127 (n / 10)) (n % 10 ∷ []))
+    go false = omega (arith, length-append (digitsIn base 127 (n / base)) (n % base ∷ []))
+
+radix-two : (base : Base) → 2 ≤ radix base
+radix-two decimal = omega arith
+radix-two binary = omega arith
+radix-two octal = omega arith
+radix-two hex = omega arith
+
+-- a number below 2^128 has digits enough in each base
+all-digits : (base : Base) → 2 ^ 128 ≤ radix base ^ mostDigits
+all-digits decimal = leb-true (2 ^ 128) (10 ^ mostDigits) refl
+all-digits binary = leb-true (2 ^ 128) (2 ^ mostDigits) refl
+all-digits octal = leb-true (2 ^ 128) (8 ^ mostDigits) refl
+all-digits hex = leb-true (2 ^ 128) (16 ^ mostDigits) refl
+
+-- digits of a number in a base: there is one, each is of the base, and they count the number
+record DigitsOf (base : Base) (v : ℕ) (ds : List ℕ) : Type 0 where
+  pub some-digit : 0 < length ds
+  pub of-base : All (λ d. d < radix base) ds
+  pub count-it : inBase (radix base) ds ≡ v
+
+own-digits : (base : Base) (v : ℕ) → v < 2 ^ 128 → DigitsOf base v (digitsIn (radix base) mostDigits v)
+own-digits base v small =
+    let two = radix-two base in
+    record {
+      some-digit = digits-some (radix base) v;
+      of-base = digits-below (radix base) mostDigits v (omega arith);
+      count-it = digits-back (radix base) mostDigits v two (lt-of-lt-of-le small (all-digits base));
+    }
+
+-- the digits of a number that is small enough, scanned to a token: to the token of the number
+own-token : (base : Base) (v : ℕ) (ds : List ℕ) (n : ℕ) (found : Scan) → v < 2 ^ 128 → inBase (radix base) ds ≡ v
+    → (inBase (radix base) ds < 2 ^ 128 → found ≡ token (numeral (counted base ds)) n) → found ≡ token (numeral (literalIn base v)) n
+own-token base v ds n found small e h = h (subst (λ x. x < 2 ^ 128) (sym e) small) ∙ ap (λ (x : ℕ). token (numeral (literalIn base x)) n) e
 
 -- an operand has no prefix of leaves that are no levels deep
 atom : (l : ℕ) (t : Tree) (ts : List Token) → ((Inner Outer : Phrases) → Operand address Inner Outer t ts) → Prefixed address l t ts
@@ -121,20 +155,40 @@ module _ (text : List ℕ) where
         lexed = lexed-token text at b s rest k here e;
       }
 
-  number-reads : (p : ℕ) (n : Literal) → n .value < 2 ^ 128 → Reads tightest (literalBytes n) 0 1 (number p n)
-  number-reads p n small l at rest lv here loose =
-      let ds = digitsIn 10 mostDigits (n .value) in
-      go ds (digits-some (n .value)) (digits-below 10 mostDigits (n .value) (omega arith)) (digits-back 10 mostDigits (n .value) (omega arith) below) here
-    where
-      below : n .value < 10 ^ mostDigits
-      below = lt-of-lt-of-le small (leb-true (2 ^ 128) (10 ^ mostDigits) refl)
+  -- numerals: in decimal digits alone, in any other base after a 0 and the letter that announces it
 
-      go : (ds : List ℕ) → 0 < length ds → All (λ d. d < 10) ds → inBase 10 ds ≡ n .value → drop at text ≡ map digitByte ds ++ rest
-          → Back at (map digitByte ds) l 5 1 (number p n)
-      go [] some h e here = absurd (omega arith)
-      go (d ∷ ds) some h e here =
+  decimal-reads : (p v : ℕ) → v < 2 ^ 128 → Reads tightest (numeralIn 10 v) 0 1 (number p (literalIn decimal v))
+  decimal-reads p v small l at rest lv = go (digitsIn 10 mostDigits v) (own-digits decimal v small)
+    where
+      go : (ds : List ℕ) → DigitsOf decimal v ds → drop at text ≡ map digitByte ds ++ rest → Loose rest
+          → Back at (map digitByte ds) l 5 1 (number p (literalIn decimal v))
+      go [] h here loose = absurd (omega (arith, h .some-digit))
+      go (d ∷ ds) h here loose =
+          let n = literalIn decimal v in
           leaf (number p n) (number at n) (digitByte d) (map digitByte ds) (numeral n) l at rest refl (λ I O. a-numeral at n) here
-          (scan-decimal d ds rest h (subst (λ x. x < 2 ^ 128) (sym e) small) loose ∙ ap (λ x. token (numeral (plain x)) (length (map digitByte ds))) e)
+          (own-token decimal v (d ∷ ds) (length (map digitByte ds)) _ small (h .count-it) (λ m. scan-decimal d ds rest (h .of-base) m loose))
+
+  announced-reads : (letter : ℕ) (base : Base) → isIdByte letter ≡ true → baseOf letter ≡ some base → (p v : ℕ) → v < 2 ^ 128
+      → Reads tightest (48 ∷ letter ∷ numeralIn (radix base) v) 0 1 (number p (literalIn base v))
+  announced-reads letter base id announces p v small l at rest lv = go (digitsIn (radix base) mostDigits v) (own-digits base v small)
+    where
+      go : (ds : List ℕ) → DigitsOf base v ds → drop at text ≡ (48 ∷ letter ∷ map digitByte ds) ++ rest → Loose rest
+          → Back at (48 ∷ letter ∷ map digitByte ds) l 5 1 (number p (literalIn base v))
+      go [] h here loose = absurd (omega (arith, h .some-digit))
+      go (d ∷ ds) h here loose =
+          let n = literalIn base v in
+          leaf (number p n) (number at n) 48 (letter ∷ map digitByte (d ∷ ds)) (numeral n) l at rest refl (λ I O. a-numeral at n) here
+          (own-token base v (d ∷ ds) (length (letter ∷ map digitByte (d ∷ ds))) _ small (h .count-it)
+          (λ m. scan-announced letter base id announces d ds rest (h .of-base) m loose))
+
+  in-base-reads : (base : Base) (p v : ℕ) → v < 2 ^ 128 → Reads tightest (literalBytes (literalIn base v)) 0 1 (number p (literalIn base v))
+  in-base-reads decimal = decimal-reads
+  in-base-reads binary = announced-reads 98 binary refl refl
+  in-base-reads octal = announced-reads 111 octal refl refl
+  in-base-reads hex = announced-reads 120 hex refl refl
+
+  number-reads : (p : ℕ) (n : Literal) → n .value < 2 ^ 128 → Reads tightest (literalBytes n) 0 1 (number p n)
+  number-reads p n small = in-base-reads (n .base) p (n .value) small
 
   -- words; one that is a key has a first byte
 
@@ -289,13 +343,19 @@ module _ (text : List ℕ) where
         }
 
   digits-apart : (n : ℕ) → Apart (numeralIn 10 n)
-  digits-apart n = go (digitsIn 10 mostDigits n) (digits-some n) (digits-below 10 mostDigits n (omega arith))
+  digits-apart n = go (digitsIn 10 mostDigits n) (digits-some 10 n) (digits-below 10 mostDigits n (omega arith))
     where
       go : (ds : List ℕ) → 0 < length ds → All (λ d. d < 10) ds → Apart (map digitByte ds)
-      go [] some h = absurd (omega arith)
-      go (d ∷ ds) some h =
+      go [] one h = absurd (omega arith)
+      go (d ∷ ds) one h =
           let e = low-is-digit d (h .0) in
           (unlike isDigit (digitByte d) 61 e refl, unlike isDigit (digitByte d) 62 e refl)
+
+  literal-apart : (base : Base) (v : ℕ) → Apart (literalBytes (literalIn base v))
+  literal-apart decimal v = digits-apart v
+  literal-apart binary v = (refl, refl)
+  literal-apart octal v = (refl, refl)
+  literal-apart hex v = (refl, refl)
 
   key-apart : (w s : List ℕ) → isKey w ≡ true → Apart (w ++ s)
   key-apart [] s h = absurd (true≢false (sym h))
@@ -307,7 +367,7 @@ module _ (text : List ℕ) where
   unfolding print
   operand-apart (truth p true) h = (refl, refl)
   operand-apart (truth p false) h = (refl, refl)
-  operand-apart (number p n) h = digits-apart (n .value)
+  operand-apart (number p n) h = literal-apart (n .base) (n .value)
   operand-apart (key p w) h = subst Apart (append-nil w) (key-apart w [] (h .0))
   operand-apart (field p w q f) h = subst Apart (sym (append-assoc w (bytes "::") f)) (key-apart w (bytes "::" ++ f) (h .0))
   operand-apart (attribute p q f) h = (refl, refl)

@@ -1,17 +1,17 @@
--- A word and a decimal numeral are each one token wherever they stand, since a byte follows that goes on with neither.
+-- A word and a numeral in any base are each one token wherever they stand, since a byte follows that goes on with neither.
 use Prim.Native.Nat.{ℕ, suc, _+_, _^_, _≤_, _<_}
 use native.Mathlib.Nat.{suc-inj}
 use native.Mathlib.Omega.{arith}
 use mathlib.Core.Path.{_≡_, refl, sym, ap, ap₂, _∙_}
 use mathlib.Core.Bool.{Bool, true, false, cond, _&&_, _||_, true≢false, and-eq-true-iff}
-use mathlib.Core.Option.{Option, none}
+use mathlib.Core.Option.{Option, none, some}
 use mathlib.Core.List.{List, [], _∷_, _++_, map, append-nil}
 use lib.ListN.{length}
 use lib.Seq.{take-at}
 use lib.Dec.{eqb, leb, ltb}
 use borrow.Author.Tests.{eqb-true, leb-true, lt-leb, le-leb, ne-eqb, eq-eqb, ltb-true, ltb-false, lt-ltb, le-ltb}
 use Rattle.paper.specs.Numbers.{inBase}
-use Rattle.paper.specs.Tokens.{is, isDigit, isIdStart, isIdByte, span, starts, wordMore, isKey, digitOf, baseOf, spelling, spelled, isNumeral, numeralValue, plain, word, numeral, token, scan, isLetter, isFigure, classOf}
+use Rattle.paper.specs.Tokens.{is, isDigit, isIdStart, isIdByte, span, starts, wordMore, isKey, digitOf, Base, decimal, binary, octal, hex, radix, baseOf, Numeral, spelling, spelled, isNumeral, numeralValue, Literal, literalIn, literalOf, word, numeral, Scan, token, noToken, tooLarge, scan, isLetter, isFigure, classOf}
 use Rattle.paper.specs.BlocksRoundTrip.{All}
 use Rattle.paper.specs.Print.{digitByte}
 
@@ -127,9 +127,15 @@ all-map : (P Q : ℕ → Type 0) (f : ℕ → ℕ) → ((d : ℕ) → P d → Q 
 all-map P Q f g [] h = tt
 all-map P Q f g (d ∷ ds) h = (g d (h .0), all-map P Q f g ds (h .1))
 
-digits-same : (base : ℕ) → base ≤ 16 → (ds : List ℕ) → All (λ d. d < base) ds → map digitOf (map digitByte ds) ≡ ds
-digits-same base l [] h = refl
-digits-same base l (d ∷ ds) h = ap₂ _∷_ (digit-back d (omega (arith, h .0))) (digits-same base l ds (h .1))
+radix-small : (base : Base) → radix base ≤ 16
+radix-small decimal = omega arith
+radix-small binary = omega arith
+radix-small octal = omega arith
+radix-small hex = omega arith
+
+digits-same : (base : Base) (ds : List ℕ) → All (λ d. d < radix base) ds → map digitOf (map digitByte ds) ≡ ds
+digits-same base [] h = refl
+digits-same base (d ∷ ds) h = ap₂ _∷_ (digit-back d (omega (arith, h .0, radix-small base))) (digits-same base ds (h .1))
 
 no-base : (b : ℕ) → isDigit b ≡ true → baseOf b ≡ none
 no-base b h =
@@ -161,44 +167,70 @@ figure-class b h =
       h,
     )
 
+-- digits, as a numeral in a base
+abbrev written : Base → List ℕ → Numeral
+written base ds = record { base = base; digits = map digitByte ds }
+
+abbrev pub counted : Base → List ℕ → Literal
+counted base ds = literalIn base (inBase (radix base) ds)
+
+module _ (base : Base) (d : ℕ) (ds : List ℕ) (h : All (λ e. e < radix base) (d ∷ ds)) where
+  numeral-good : isNumeral (written base (d ∷ ds)) ≡ true
+  numeral-good =
+      let s = map digitByte (d ∷ ds) in
+      let of-base : ℕ → Bool = λ b. ltb (digitOf b) (radix base) in
+      let below = all-map (λ e. e < radix base) (λ b. of-base b ≡ true) digitByte
+      (λ e m. rw (digit-back e (omega (arith, m, radix-small base))) (lt-ltb e (radix base) m)) (d ∷ ds) h
+      in
+      let whole : span of-base s ≡ length s = ap (span of-base) (sym (append-nil s)) ∙ span-all of-base s [] below tt in
+      rw (whole, eq-eqb (length s) (length s) refl, lt-ltb 0 (length s) (omega arith))
+
+  numeral-counts : numeralValue (written base (d ∷ ds)) ≡ inBase (radix base) (d ∷ ds)
+  numeral-counts = ap (inBase (radix base)) (digits-same base (d ∷ ds) h)
+
+  digits-ids : All (λ b. isIdByte b ≡ true) (map digitByte (d ∷ ds))
+  digits-ids = all-map (λ e. e < radix base) (λ b. isIdByte b ≡ true) digitByte (λ e m. digit-id e (omega (arith, m, radix-small base))) (d ∷ ds) h
+
 -- digits alone are spelled in decimal
-plain-spelling : (d : ℕ) (ds : List ℕ) → All (λ e. e < 10) ds
-    → spelling (map digitByte (d ∷ ds)) ≡ record { base = 10; digits = map digitByte (d ∷ ds) }
+plain-spelling : (d : ℕ) (ds : List ℕ) → All (λ e. e < 10) ds → spelling (map digitByte (d ∷ ds)) ≡ written decimal (d ∷ ds)
 plain-spelling d [] h = refl
 plain-spelling d (e ∷ ds) h = go (is "0" (digitByte d)) (baseOf (digitByte e)) (no-base (digitByte e) (low-is-digit e (h .0)))
   where
-    go : (t : Bool) (o : Option ℕ) → o ≡ none
-        → spelled (cond t o none) (map digitByte (d ∷ e ∷ ds)) (map digitByte ds) ≡ record { base = 10; digits = map digitByte (d ∷ e ∷ ds) }
+    go : (t : Bool) (o : Option Base) → o ≡ none
+        → spelled (cond t o none) (map digitByte (d ∷ e ∷ ds)) (map digitByte ds) ≡ written decimal (d ∷ e ∷ ds)
     go true o h = rw h
     go false o h = refl
 
-numeral-good : (base : ℕ) → base ≤ 16 → (d : ℕ) (ds : List ℕ) → All (λ e. e < base) (d ∷ ds)
-    → isNumeral (record { base = base; digits = map digitByte (d ∷ ds) }) ≡ true
-numeral-good base l d ds h =
-    let s = map digitByte (d ∷ ds) in
-    let below = all-map (λ e. e < base) (λ b. ltb (digitOf b) base ≡ true) digitByte
-    (λ e m. rw (digit-back e (omega (arith, m))) (lt-ltb e base m)) (d ∷ ds) h
-    in
-    let whole : span (λ b. ltb (digitOf b) base) s ≡ length s =
-    ap (span (λ b. ltb (digitOf b) base)) (sym (append-nil s)) ∙ span-all (λ b. ltb (digitOf b) base) s [] below tt
-    in
-    rw (whole, eq-eqb (length s) (length s) refl, lt-ltb 0 (length s) (omega arith))
+-- a run of letters and digits is scanned as a whole, whatever it spells
+abbrev whole-run : Numeral → ℕ → Scan
+whole-run n more = cond (isNumeral n) (cond (ltb (numeralValue n) (2 ^ 128)) (token (numeral (literalOf n)) more) tooLarge) noToken
+
+scan-run : (b : ℕ) (s rest : List ℕ) → isDigit b ≡ true → All (λ c. isIdByte c ≡ true) s → Loose rest
+    → scan b (s ++ rest) ≡ whole-run (spelling (b ∷ s)) (length s)
+unfolding scan
+scan-run b s rest h ids loose =
+    rw (figure-class b h, span-all isIdByte s rest ids (loose-stops rest loose), take-at s rest (length s) refl)
+
+run-fits : (base : Base) (d : ℕ) (ds : List ℕ) (more : ℕ) → All (λ e. e < radix base) (d ∷ ds) → inBase (radix base) (d ∷ ds) < 2 ^ 128
+    → whole-run (written base (d ∷ ds)) more ≡ token (numeral (counted base (d ∷ ds))) more
+run-fits base d ds more h small =
+    rw (numeral-good base d ds h, numeral-counts base d ds h, lt-ltb (inBase (radix base) (d ∷ ds)) (2 ^ 128) small)
 
 pub scan-decimal : (d : ℕ) (ds rest : List ℕ) → All (λ e. e < 10) (d ∷ ds) → inBase 10 (d ∷ ds) < 2 ^ 128 → Loose rest
-    → scan (digitByte d) (map digitByte ds ++ rest) ≡ token (numeral (plain (inBase 10 (d ∷ ds)))) (length (map digitByte ds))
-unfolding scan
+    → scan (digitByte d) (map digitByte ds ++ rest) ≡ token (numeral (counted decimal (d ∷ ds))) (length (map digitByte ds))
 scan-decimal d ds rest h small loose =
-    let s = map digitByte ds in
-    let ids = all-map (λ e. e < 10) (λ b. isIdByte b ≡ true) digitByte (λ e m. digit-id e (omega arith)) ds (h .1) in
-    let value : numeralValue (record { base = 10; digits = map digitByte (d ∷ ds) }) ≡ inBase 10 (d ∷ ds) =
-    ap (inBase 10) (digits-same 10 (omega arith) (d ∷ ds) h)
-    in
-    rw (
-      figure-class (digitByte d) (low-is-digit d (h .0)),
-      span-all isIdByte s rest ids (loose-stops rest loose),
-      take-at s rest (length s) refl,
-      plain-spelling d ds (h .1),
-      numeral-good 10 (omega arith) d ds h,
-      value,
-      lt-ltb (inBase 10 (d ∷ ds)) (2 ^ 128) small,
-    )
+    let more = length (map digitByte ds) in
+    scan-run (digitByte d) (map digitByte ds) rest (low-is-digit d (h .0)) (digits-ids decimal d ds h .1) loose
+    ∙ ap (λ (n : Numeral). whole-run n more) (plain-spelling d ds (h .1))
+    ∙ run-fits decimal d ds more h small
+
+-- a 0, the letter that announces a base, and digits of it
+pub scan-announced : (letter : ℕ) (base : Base) → isIdByte letter ≡ true → baseOf letter ≡ some base → (d : ℕ) (ds rest : List ℕ)
+    → All (λ e. e < radix base) (d ∷ ds) → inBase (radix base) (d ∷ ds) < 2 ^ 128 → Loose rest
+    → scan 48 ((letter ∷ map digitByte (d ∷ ds)) ++ rest) ≡ token (numeral (counted base (d ∷ ds))) (length (letter ∷ map digitByte (d ∷ ds)))
+scan-announced letter base id announces d ds rest h small loose =
+    let s = map digitByte (d ∷ ds) in
+    let more = length (letter ∷ s) in
+    scan-run 48 (letter ∷ s) rest refl (id, digits-ids base d ds h) loose
+    ∙ ap (λ (o : Option Base). whole-run (spelled o (48 ∷ letter ∷ s) s) more) announces
+    ∙ run-fits base d ds more h small

@@ -1,20 +1,21 @@
--- Each wrong printer fails on a short text: `a;b` and `a ; b`, or `!(a==b)`.
+-- Each wrong printer fails on a short text: `a;b` and `a ; b`, `!(a==b)`, `0x10`, or `ipv4('0.0.0.16')`.
 use Prim.Native.Nat.{ℕ, _≤_}
 use native.Mathlib.Omega.{arith}
 use mathlib.Core.Path.{_≡_, refl, sym, ap, _∙_}
 use mathlib.Core.List.{List, [], _∷_}
 use lib.ListN.{length}
 use Rattle.paper.specs.Answers.{ok}
-use Rattle.paper.specs.Tokens.{bytes, notSign, sequel, andAlso, equal, closing, opening, join, word, Token, tokens}
+use Rattle.paper.specs.Tokens.{bytes, hex, radix, literalIn, notSign, sequel, andAlso, equal, closing, opening, join, word, Token, tokens}
+use Rattle.paper.specs.Tokens as T
 use Rattle.paper.specs.Grammar.{Tree, truth, number, key, field, attribute, prefixed, joined, compared}
 use Rattle.paper.specs.Sentences.{tokenAt, signAt}
-use Rattle.paper.specs.Print.{bare, joinBytes, looser, print, rung}
+use Rattle.paper.specs.Print.{bare, literalBytes, joinBytes, looser, print, rung}
 use Rattle.paper.specs.Calls.{tree}
 use Rattle.paper.specs.WrongPrints.{Printer, PrintsBy, ReadsBack, SparesNothing, printWith, withAllParentheses, WrongPrintsFail}
 use Rattle.paper.proofs.Stages.{ok-same}
 use Rattle.paper.proofs.PrintReadsBack.{print-reads-back, prints-tell, nothing-to-spare}
 
-same-print : (t : Tree) → printWith joinBytes looser t ≡ print t
+same-print : (t : Tree) → printWith literalBytes joinBytes looser t ≡ print t
 unfolding print
 same-print (truth at b) = refl
 same-print (number at n) = refl
@@ -65,12 +66,42 @@ reads-negated-left : tree (bytes "!a == b") ≡ ok negated-left
 unfolding tree
 reads-negated-left = refl
 
--- a print that is read to a tree of another rung
-other-tree : (p : Printer) (text s : List ℕ) (t r : Tree) → tree text ≡ ok t → p text ≡ s → tree s ≡ ok r → ReadsBack p → rung (bare r) ≡ rung (bare t)
-other-tree p text s t r h e g back =
+abbrev pub sixteen : Tree
+sixteen = number 0 (T.plain 16)
+
+abbrev pub sixteen-in-hex : Tree
+sixteen-in-hex = number 0 (literalIn hex 16)
+
+reads-sixteen : tree (bytes "16") ≡ ok sixteen
+unfolding tree
+reads-sixteen = refl
+
+pub reads-hex : tree (bytes "0x10") ≡ ok sixteen-in-hex
+unfolding tree
+reads-hex = refl
+
+pub reads-address : tree (bytes "ipv4('0.0.0.16')") ≡ ok sixteen
+unfolding tree
+reads-address = refl
+
+-- a print that is read to another tree: one that a number told of trees tells apart
+other-tree : (told : Tree → ℕ) (p : Printer) (text s : List ℕ) (t r : Tree) → tree text ≡ ok t → p text ≡ s → tree s ≡ ok r → ReadsBack p
+    → told (bare r) ≡ told (bare t)
+other-tree told p text s t r h e g back =
     let (x, read, same) = back text t h in
     let one : r ≡ x = ok-same r x (sym g ∙ ap tree (sym e) ∙ read) in
-    ap rung (ap bare one ∙ same)
+    ap told (ap bare one ∙ same)
+
+-- the base of a numeral
+abbrev radix-of : Tree → ℕ
+radix-of (truth at b) = 0
+radix-of (number at n) = radix (n .base)
+radix-of (key at w) = 0
+radix-of (field at w to f) = 0
+radix-of (attribute at to f) = 0
+radix-of (prefixed at o t) = 0
+radix-of (joined at o l r) = 0
+radix-of (compared at c l r) = 0
 
 -- with all parentheses `a;b` has seven tokens
 
@@ -121,7 +152,7 @@ wrong-prints-fail =
           omega arith;
       without-parentheses = λ p prints back.
           let z : _≡_ {A = ℕ} 4 5 =
-          other-tree p (bytes "!(a==b)") (bytes "!a == b") negated negated-left reads-negated (prints (bytes "!(a==b)") negated reads-negated) reads-negated-left back
+          other-tree rung p (bytes "!(a==b)") (bytes "!a == b") negated negated-left reads-negated (prints (bytes "!(a==b)") negated reads-negated) reads-negated-left back
           in
           omega arith;
       with-all-parentheses = λ p prints spares.
@@ -129,7 +160,18 @@ wrong-prints-fail =
           omega arith;
       and-for-sequel = λ p prints back.
           let z : _≡_ {A = ℕ} 3 0 =
-          other-tree p (bytes "a;b") (bytes "a && b") close both reads-close (prints (bytes "a;b") close reads-close) reads-both back
+          other-tree rung p (bytes "a;b") (bytes "a && b") close both reads-close (prints (bytes "a;b") close reads-close) reads-both back
+          in
+          omega arith;
+      in-decimal = λ p prints back.
+          let z : _≡_ {A = ℕ} 10 16 =
+          other-tree radix-of p (bytes "0x10") (bytes "16") sixteen-in-hex sixteen reads-hex (prints (bytes "0x10") sixteen-in-hex reads-hex) reads-sixteen back
+          in
+          omega arith;
+      addresses-in-hex = λ p prints back.
+          let z : _≡_ {A = ℕ} 16 10 =
+          other-tree radix-of p (bytes "ipv4('0.0.0.16')") (bytes "0x10") sixteen sixteen-in-hex reads-address
+          (prints (bytes "ipv4('0.0.0.16')") sixteen reads-address) reads-hex back
           in
           omega arith;
     }

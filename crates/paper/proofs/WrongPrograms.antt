@@ -1,5 +1,5 @@
 -- The wrong programs fail, each at an input: the cases 2 and 7 of the marked judgements, `true` with no keys, `true; v == 0`, for printers
--- `a;b` and `!(a==b)`, and for explainers the texts of WrongExplainers.
+-- `a;b`, `!(a==b)`, `0x10` and `ipv4('0.0.0.16')`, and for explainers the texts of WrongExplainers.
 use Prim.Native.Nat.{ℕ, zero, suc, _+_, _*_, _≤_}
 use native.Mathlib.Omega.{arith}
 use mathlib.Core.Path.{_≡_, refl, sym, ap, _∙_}
@@ -27,9 +27,9 @@ use Rattle.paper.specs.Calls.{tree, Restriction, checkAnswer, translateA
 use Rattle.paper.specs.MarkedJudgements.{theKeys, theEntry}
 use Rattle.paper.specs.Promised.{verdict, PrintResult, Bytes, Programs, KeepsCheck, KeepsLoad}
 use Rattle.paper.specs.Demands.{DemandOne, DemandTwo, DemandThree}
-use Rattle.paper.specs.WrongPrints.{withoutParentheses, withAllParentheses, withAndForSequel}
+use Rattle.paper.specs.WrongPrints.{withoutParentheses, withAllParentheses, withAndForSequel, inDecimal, addressesInHex}
 use Rattle.paper.specs.WrongExplainers.{Right}
-use Rattle.paper.specs.WrongPrograms.{RefusesAll, AcceptsAll, WritesNothing, FirstPartOnly, PassesNothing, PassesAll, WantsAllBlocks, CountsRight, Lends, CopiesText, LeavesParentheses, EnclosesAll, WritesAndForSequel, explainer, NamesLastPart, FollowsLeftSpine, ShowsKeyForPriority, WrongProgramsFail, NoWrongProgram, paddedText, paddedBlocks, PaddingSeen}
+use Rattle.paper.specs.WrongPrograms.{RefusesAll, AcceptsAll, WritesNothing, FirstPartOnly, PassesNothing, PassesAll, WantsAllBlocks, CountsRight, Lends, CopiesText, LeavesParentheses, EnclosesAll, WritesAndForSequel, ForgetsBases, WritesAddressesInHex, explainer, NamesLastPart, FollowsLeftSpine, ShowsKeyForPriority, WrongProgramsFail, NoWrongProgram, paddedText, paddedBlocks, PaddingSeen}
 use Rattle.paper.proofs.Stages.{never-ok, ok-same}
 use Rattle.paper.proofs.LayoutPassed.{first-counted}
 use Rattle.paper.proofs.Table.{table-holds}
@@ -40,7 +40,7 @@ use Rattle.paper.proofs.DemandOne.{demand-one-met}
 use Rattle.paper.proofs.DemandTwo.{restricts, checkable-restriction, worth as value, judgeable-answer, answer-judgeable, judgeable-truth, demand-two-met}
 use Rattle.paper.proofs.DemandThree.{demand-three-met}
 use Rattle.paper.proofs.WellFormed.{tree-formed}
-use Rattle.paper.proofs.WrongPrints.{close, negated, reads-close, reads-negated}
+use Rattle.paper.proofs.WrongPrints.{close, negated, sixteen, sixteen-in-hex, reads-close, reads-negated, reads-hex, reads-address}
 use Rattle.paper.proofs.WrongExplainers.{wrong-explainers-fail}
 
 -- what demand 2 says of an entry that is judged
@@ -296,6 +296,21 @@ confusing-fails p two confuses =
     in
     omega arith
 
+forgetting-fails : (p : Programs) → DemandTwo p → ¬ ForgetsBases p
+unfolding print
+forgetting-fails p two forgets =
+    let z : _≡_ {A = ℕ} 2 4 =
+    same-count p two (λ text t. inDecimal t) forgets (bytes "0x10") (all-bytes (bytes "0x10") refl) sixteen-in-hex reads-hex refl refl refl
+    in
+    omega arith
+
+rewriting-fails : (p : Programs) → DemandTwo p → ¬ WritesAddressesInHex p
+unfolding print
+rewriting-fails p two rewrites =
+    let text = bytes "ipv4('0.0.0.16')" in
+    let z : _≡_ {A = ℕ} 4 2 = same-count p two addressesInHex rewrites text (all-bytes text refl) sixteen reads-address refl refl refl in
+    omega arith
+
 -- what demand 2 asks of an explainer is what 02 asks
 
 explains-right : (p : Programs) → DemandTwo p → Right (explainer p)
@@ -325,6 +340,8 @@ wrong-programs-fail p =
       leaving = leaving-fails p;
       enclosing = enclosing-fails p;
       confusing = confusing-fails p;
+      forgetting = forgetting-fails p;
+      rewriting = rewriting-fails p;
       naming-last = naming-last-fails p;
       following-spine = following-spine-fails p;
       showing-key = showing-key-fails p;
@@ -347,6 +364,8 @@ no-wrong-program p kept =
       leaving = leaving-fails p two;
       enclosing = enclosing-fails p two;
       confusing = confusing-fails p two;
+      forgetting = forgetting-fails p two;
+      rewriting = rewriting-fails p two;
       naming-last = naming-last-fails p two;
       following-spine = following-spine-fails p two;
       showing-key = showing-key-fails p two;

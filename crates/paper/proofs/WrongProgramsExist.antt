@@ -27,7 +27,7 @@ use Rattle.paper.specs.Calls.{sized, tree, Restriction, restriction, ove
 use Rattle.paper.specs.Explained.{Reason, keyIndex, explanationSays}
 use Rattle.paper.specs.Promised.{TranslateResult, PrintResult, Bytes, Programs, Kept}
 use Rattle.paper.specs.Demands.{blocksWritten}
-use Rattle.paper.specs.WrongPrints.{withoutParentheses, withAllParentheses, withAndForSequel}
+use Rattle.paper.specs.WrongPrints.{withoutParentheses, withAllParentheses, withAndForSequel, inDecimal, addressesInHex}
 use Rattle.paper.specs.WrongExplainers.{Explainer, Names}
 use Rattle.paper.specs.WrongPrograms.{FirstPartOnly, WantsAllBlocks, CountsRight, Lends, partOf, judging, translating, loading, printing, explaining, OthersKept, ThereIs, WrongProgramsExist}
 use Rattle.paper.proofs.Promised.{placeAt, explanationFor, translation-same, can-be-kept}
@@ -224,6 +224,8 @@ wrong-programs-exist =
       leaving = there-is q kept (λ text t. withoutParentheses t);
       enclosing = there-is q kept (λ text t. withAllParentheses t);
       confusing = there-is q kept (λ text t. withAndForSequel t);
+      forgetting = there-is q kept (λ text t. inDecimal t);
+      rewriting = there-is q kept addressesInHex;
       naming-last =
           let (x, names, _) = wrong-explainers-exist .last-part in (
             explainers q kept (worded x),

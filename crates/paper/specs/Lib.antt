@@ -27,6 +27,7 @@ pub mod TranslationCorrect
 pub mod DamageDetected
 pub mod MarkedJudgements
 pub mod PrintReadsBack
+pub mod BasesIgnored
 pub mod PartsDecide
 pub mod ExplainedRight
 pub mod Readings

@@ -1,14 +1,14 @@
 -- 02 a: "Print a read text in one form: one blank on each side of a binary operator and none elsewhere, numerals in decimal, only
 -- parentheses that the grammar needs, no trailing ";", and ";" kept distinct from "&&". An address counts, in tree and print, as
--- the decimal numeral of its number."
+-- the decimal numeral of its number." 02 e: "The print then uses that base".
 use Prim.Native.Nat.{ℕ, zero, suc, _+_, _/_, _%_}
 use mathlib.Core.Bool.{Bool, true, false, cond}
 use mathlib.Core.List.{List, [], _∷_, _++_, map}
 use lib.Dec.{ltb}
-use Rattle.paper.specs.Tokens.{bytes, Literal, Prefix, notSign, minusSign, Join, sequel, implies, orElse, andAlso, Comparison, equal, unequal, greater, atLeast, less, atMost}
+use Rattle.paper.specs.Tokens.{bytes, Base, decimal, binary, octal, hex, radix, Literal, Prefix, notSign, minusSign, Join, sequel, implies, orElse, andAlso, Comparison, equal, unequal, greater, atLeast, less, atMost}
 use Rattle.paper.specs.Grammar.{Tree, truth, number, key, field, attribute, prefixed, joined, compared}
 
--- "the same tree, places aside": two trees are that where these are equal
+-- "the same tree, places aside": two trees are that where these are equal. 02 e: "Trees that differ only in a base are now different"
 abbrev pub bare : Tree → Tree
 bare (truth at b) = truth 0 b
 bare (number at n) = number 0 n
@@ -39,9 +39,15 @@ mostDigits = 128
 abbrev pub numeralIn : ℕ → ℕ → List ℕ
 numeralIn base n = map digitByte (digitsIn base mostDigits n)
 
--- "numerals in decimal"
+-- 02 e: "The print then uses that base with lower-case digits and prefix (none for decimal), without leading zeros"
+abbrev pub basePrefix : Base → List ℕ
+basePrefix decimal = []
+basePrefix binary = bytes "0b"
+basePrefix octal = bytes "0o"
+basePrefix hex = bytes "0x"
+
 abbrev pub literalBytes : Literal → List ℕ
-literalBytes n = numeralIn 10 (n .value)
+literalBytes n = basePrefix (n .base) ++ numeralIn (radix (n .base)) (n .value)
 
 -- operators
 

@@ -1,4 +1,4 @@
--- 02 a by example: texts with their prints, where parentheses stay, numerals in each base, and what is lent.
+-- 02 a and e by example: texts with their prints, where parentheses stay, numerals in each base, and what is lent.
 use Prim.Native.Nat.{ℕ, _-_, _^_}
 use Prim.Native.String as S
 use mathlib.Core.Path.{_≡_}
@@ -9,7 +9,8 @@ use Rattle.paper.specs.declared.Place.the-variants as P
 use Rattle.paper.specs.declared.Printing.{Printing}
 use Rattle.paper.specs.declared.Printing.the-variants as W
 use Rattle.paper.specs.Answers.{Answer, ok, refused, _>>=_, inText, inBuffer, printingSays}
-use Rattle.paper.specs.Tokens.{plain, bytes, is, starts, sequel, equal, notSign}
+use Rattle.paper.specs.Tokens as H
+use Rattle.paper.specs.Tokens.{plain, literalIn, bytes, is, starts, sequel, equal, notSign}
 use Rattle.paper.specs.Grammar.{Tree, truth, number, key, field, attribute, prefixed, joined, compared}
 use Rattle.paper.specs.Print.{bare, digitsIn, numeralIn, print}
 use Rattle.paper.specs.Sized.{levels, count}
@@ -22,7 +23,7 @@ printed text = tree text >>= λ t. ok (print t)
 abbrev pub prints : S.String → S.String → OnText (List ℕ)
 prints text house = on text (ok (bytes house))
 
--- each leaf: "numerals in decimal", "An address counts, in tree and print, as the decimal numeral of its number", no blank round "::"
+-- each leaf: "An address counts, in tree and print, as the decimal numeral of its number", no blank round "::"
 abbrev pub leaves : List (OnText (List ℕ))
 leaves =
     prints " true" "true"
@@ -31,17 +32,37 @@ leaves =
     ∷ prints "k :: value" "k::value"
     ∷ prints "a.b::true" "a.b::true"
     ∷ prints ":: priority" "::priority"
-    ∷ prints "0" "0"
-    ∷ prints "007" "7"
-    ∷ prints "9" "9"
-    ∷ prints "0b1010" "10"
-    ∷ prints "0d0099" "99"
-    ∷ prints "0o144" "100"
-    ∷ prints "1234567890" "1234567890"
-    ∷ prints "0xffffffffffffffffffffffffffffffff" "340282366920938463463374607431768211455"
     ∷ prints "ipv4('0.0.1.0')" "256"
+    ∷ prints "ipv4('0.0.0.16')" "16"
     ∷ prints "ipv6 ( 'f::' )" "77884452878022414427957444938301440"
     ∷ prints "mac('00:00:00:00:00:05')" "5"
+    ∷ []
+
+-- numerals: "that base with lower-case digits and prefix (none for decimal), without leading zeros"
+abbrev pub inBases : List (OnText (List ℕ))
+inBases =
+    prints "0" "0"
+    ∷ prints "0d0" "0"
+    ∷ prints "0b0" "0b0"
+    ∷ prints "0o0" "0o0"
+    ∷ prints "0x0" "0x0"
+    ∷ prints "007" "7"
+    ∷ prints "0d10" "10"
+    ∷ prints "0D0099" "99"
+    ∷ prints "1234567890" "1234567890"
+    ∷ prints "0b1010" "0b1010"
+    ∷ prints "0B0011" "0b11"
+    ∷ prints "0o144" "0o144"
+    ∷ prints "0O017" "0o17"
+    ∷ prints "0xF0f0f0f0" "0xf0f0f0f0"
+    ∷ prints "0X0010" "0x10"
+    ∷ prints "0xabcdef0123456789" "0xabcdef0123456789"
+    ∷ prints "340282366920938463463374607431768211455" "340282366920938463463374607431768211455"
+    ∷ prints "0o3777777777777777777777777777777777777777777" "0o3777777777777777777777777777777777777777777"
+    ∷ prints "0xffffffffffffffffffffffffffffffff" "0xffffffffffffffffffffffffffffffff"
+    -- the same number in another base prints otherwise
+    ∷ prints "1" "1"
+    ∷ prints "0x1" "0x1"
     ∷ []
 
 -- each operator: "one blank on each side of a binary operator and none elsewhere", "no trailing ";"", "";" kept distinct from "&&""
@@ -81,7 +102,7 @@ parentheses =
     ∷ prints "a==(b&&c)" "a == (b && c)"
     ∷ prints "!(a==b)" "!(a == b)"
     ∷ prints "!a==b" "!a == b"
-    ∷ prints "- -2 < -(-0x1F)" "--2 < --31"
+    ∷ prints "- -2 < -(-0x1F)" "--2 < --0x1f"
     ∷ prints "!((a;b)->!(c))" "!((a ; b) -> !c)"
     ∷ []
 
@@ -122,7 +143,7 @@ keptAfter =
 abbrev pub keptUnder : List (List ℕ)
 keptUnder = map (λ o. map (λ s. marked (lastIs ")") (printed (bytes o ++ bytes "(" ++ bytes s ++ bytes ")"))) inside) ("!" ∷ "-" ∷ [])
 
--- numerals in any base, with lower-case digits and no 0 before another
+-- digits in any base, lower-case and no 0 before another
 
 pub record Numerals : Type 0 where
   pub binary : Agree (numeralIn 2) (on 0 (bytes "0") ∷ on 1 (bytes "1") ∷ on 2 (bytes "10") ∷ on 13 (bytes "1101") ∷ [])
@@ -136,6 +157,7 @@ abbrev pub bareTrees : List (OnText Tree)
 bareTrees =
     on " true" (ok (truth 0 true))
     ∷ on " 1" (ok (number 0 (plain 1)))
+    ∷ on " 0x1" (ok (number 0 (literalIn H.hex 1)))
     ∷ on " a" (ok (key 0 (bytes "a")))
     ∷ on " a::b" (ok (field 0 (bytes "a") 0 (bytes "b")))
     ∷ on " ::b" (ok (attribute 0 0 (bytes "b")))
@@ -188,6 +210,14 @@ lending s b = record { text = bytes s; buffer = bytes b }
 abbrev pub twoWords : ℕ → ℕ → List ℕ
 twoWords m n = replicate m 97 ++ bytes "&&" ++ replicate n 97
 
+-- the longest numeral: 130 bytes
+abbrev pub longest : List ℕ
+longest = bytes "0b" ++ replicate 128 49
+
+-- thirty of them, and a word of so many bytes, with ";" between them: the print has 60 blanks more
+abbrev pub longestThen : ℕ → List ℕ
+longestThen n = repeat 30 (longest ++ bytes ";") ++ replicate n 97
+
 abbrev pub into : List ℕ → ℕ → Lending
 into s n = record { text = s; buffer = replicate n 46 }
 
@@ -204,6 +234,10 @@ answers =
     ∷ on (into (twoWords 2046 2046) 4095) (refused 21 inBuffer 4095)
     ∷ on (into (twoWords 2047 2046) 5000) (refused 21 inBuffer 5000)
     ∷ on (into (twoWords 2047 2047) 4098) (refused 21 inBuffer 4098)
+    ∷ on (into longest 130) (ok 130)
+    ∷ on (into longest 129) (refused 21 inBuffer 129)
+    ∷ on (into (longestThen 106) 4096) (ok 4096)
+    ∷ on (into (longestThen 107) 4097) (refused 21 inBuffer 4097)
     ∷ []
 
 -- "Bytes after a print .. stay", and a refusal changes none
@@ -221,6 +255,8 @@ told = on (W.Printed 5) (ok 5) ∷ on (W.Refused 21 (P.Buffer 4)) (refused 21 in
 
 pub record PrintExamples : Type 0 where
   pub of-leaves : AgreeOnTexts printed leaves
+  pub of-bases : AgreeOnTexts printed inBases
+  pub of-longest : printed longest ≡ ok longest
   pub of-operators : AgreeOnTexts printed operators
   pub of-parentheses : AgreeOnTexts printed parentheses
   pub at-limits : Agree printed atLimits

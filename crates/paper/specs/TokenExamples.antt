@@ -5,7 +5,8 @@ use mathlib.Core.Bool.{Bool, not}
 use mathlib.Core.List.{List, [], _∷_, _++_, map}
 use lib.ListN.{length}
 use Rattle.paper.specs.Answers.{Answer, ok, refused, _>>=_, inText}
-use Rattle.paper.specs.Tokens.{plain, bytes, Token, word, numeral, string, join, sequel, implies, orElse, andAlso, comparison, equal, unequal, greater, atLeast, less, atMost, prefix, notSign, minusSign, opening, closing, colons, tokens}
+use Rattle.paper.specs.Tokens as T
+use Rattle.paper.specs.Tokens.{Base, plain, literalIn, bytes, Token, word, numeral, string, join, sequel, implies, orElse, andAlso, comparison, equal, unequal, greater, atLeast, less, atMost, prefix, notSign, minusSign, opening, closing, colons, tokens}
 use Rattle.paper.specs.Sentences.{tokenAt, signAt}
 use Rattle.paper.specs.Examples.{on, Agree, On, repeat, those, bytesThat, gives}
 
@@ -99,9 +100,12 @@ cuts =
     ∷ on [] (ok [])
     ∷ []
 
--- numerals: the one token of a text, and its number
+-- numerals: the one token of a text, with its base and number
+abbrev pub spellsIn : Base → ℕ → Answer (List Token)
+spellsIn base n = ok (tokenAt 0 (numeral (literalIn base n)) ∷ [])
+
 abbrev pub spells : ℕ → Answer (List Token)
-spells n = ok (tokenAt 0 (numeral (plain n)) ∷ [])
+spells n = spellsIn T.decimal n
 
 abbrev pub numerals : List (On (List Token))
 numerals =
@@ -112,12 +116,17 @@ numerals =
     ∷ on (bytes "1234567890") (spells 1234567890)
     ∷ on (bytes "0d19") (spells 19)
     ∷ on (bytes "0D091") (spells 91)
-    ∷ on (bytes "0b101") (spells 5)
-    ∷ on (bytes "0B011") (spells 3)
-    ∷ on (bytes "0o17") (spells 15)
-    ∷ on (bytes "0O70") (spells 56)
-    ∷ on (bytes "0x1234567890abcdef") (spells 0x1234567890abcdef)
-    ∷ on (bytes "0XABCDEF") (spells 0xabcdef)
+    ∷ on (bytes "0b101") (spellsIn T.binary 5)
+    ∷ on (bytes "0B011") (spellsIn T.binary 3)
+    ∷ on (bytes "0o17") (spellsIn T.octal 15)
+    ∷ on (bytes "0O70") (spellsIn T.octal 56)
+    ∷ on (bytes "0x1234567890abcdef") (spellsIn T.hex 0x1234567890abcdef)
+    ∷ on (bytes "0XABCDEF") (spellsIn T.hex 0xabcdef)
+    -- zero in each base
+    ∷ on (bytes "0d0") (spells 0)
+    ∷ on (bytes "0b0") (spellsIn T.binary 0)
+    ∷ on (bytes "0o00") (spellsIn T.octal 0)
+    ∷ on (bytes "0x000") (spellsIn T.hex 0)
     -- "must be one numeral of 004 as a whole, else refusal 5 at its start"
     ∷ on (bytes " 12ab") (refused 5 inText 1)
     ∷ on (bytes "1_0") (refused 5 inText 0)
@@ -129,6 +138,11 @@ numerals =
     -- 6: "a numeral above 2^128 − 1", its first byte; one that is none is 5, however long
     ∷ on (bytes "340282366920938463463374607431768211455") (spells (2 ^ 128 - 1))
     ∷ on (bytes " 340282366920938463463374607431768211456") (refused 6 inText 1)
+    ∷ on (bytes "0b" ++ repeat 128 (bytes "1")) (spellsIn T.binary (2 ^ 128 - 1))
+    ∷ on (bytes "0b1" ++ repeat 128 (bytes "0")) (refused 6 inText 0)
+    ∷ on (bytes "0o3" ++ repeat 42 (bytes "7")) (spellsIn T.octal (2 ^ 128 - 1))
+    ∷ on (bytes "0o4" ++ repeat 42 (bytes "0")) (refused 6 inText 0)
+    ∷ on (bytes "0x" ++ repeat 32 (bytes "f")) (spellsIn T.hex (2 ^ 128 - 1))
     ∷ on (bytes "0x" ++ repeat 33 (bytes "f")) (refused 6 inText 0)
     ∷ on (bytes "0x" ++ repeat 33 (bytes "f") ++ bytes "g") (refused 5 inText 0)
     ∷ []

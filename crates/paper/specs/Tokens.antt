@@ -84,8 +84,18 @@ undotted s = eqb (span (λ b. not (is "." b)) s) (length s)
 
 -- numerals: (0[dD])? [0-9]+, 0[bB] [0-1]+, 0[oO] [0-7]+, 0[xX] [0-9a-fA-F]+
 
+-- 02 e: "A numeral that is read must also report how it was written: decimal, binary, octal or hex."
+pub data Base : Type 0 where
+  decimal binary octal hex : Base
+
+abbrev pub radix : Base → ℕ
+radix decimal = 10
+radix binary = 2
+radix octal = 8
+radix hex = 16
+
 pub record Numeral : Type 0 where
-  pub base : ℕ
+  pub base : Base
   pub digits : List ℕ
 
 -- what a digit counts, in either case of a letter; 16, the digit of no base, for any other byte
@@ -96,39 +106,44 @@ digitOf b =
     (cond (within 65 70 b) (b - 55) 16))
 
 -- the base that a letter announces after a first 0
-abbrev pub baseOf : ℕ → Option ℕ
+abbrev pub baseOf : ℕ → Option Base
 baseOf b =
-    cond (is "d" b || is "D" b) (some 10)
-    (cond (is "b" b || is "B" b) (some 2)
-    (cond (is "o" b || is "O" b) (some 8)
-    (cond (is "x" b || is "X" b) (some 16) none)))
+    cond (is "d" b || is "D" b) (some decimal)
+    (cond (is "b" b || is "B" b) (some binary)
+    (cond (is "o" b || is "O" b) (some octal)
+    (cond (is "x" b || is "X" b) (some hex) none)))
 
-abbrev pub spelled : Option ℕ → List ℕ → List ℕ → Numeral
+abbrev pub spelled : Option Base → List ℕ → List ℕ → Numeral
 spelled (some base) run rest = record { base = base; digits = rest }
-spelled none run rest = record { base = 10; digits = run }
+spelled none run rest = record { base = decimal; digits = run }
 
 -- how a run is spelled: by its letter after a first 0, else in decimal. A run has a first byte: the clause of none is never asked
 abbrev pub spelling : List ℕ → Numeral
-spelling [] = record { base = 10; digits = [] }
-spelling (b ∷ []) = record { base = 10; digits = b ∷ [] }
+spelling [] = record { base = decimal; digits = [] }
+spelling (b ∷ []) = record { base = decimal; digits = b ∷ [] }
 spelling (b ∷ c ∷ s) = spelled (cond (is "0" b) (baseOf c) none) (b ∷ c ∷ s) s
 
 -- at least one digit, and all of them of the base
 abbrev pub isNumeral : Numeral → Bool
-isNumeral n = ltb 0 (length (n .digits)) && eqb (span (λ b. ltb (digitOf b) (n .base)) (n .digits)) (length (n .digits))
+isNumeral n = ltb 0 (length (n .digits)) && eqb (span (λ b. ltb (digitOf b) (radix (n .base))) (n .digits)) (length (n .digits))
 
 abbrev pub numeralValue : Numeral → ℕ
-numeralValue n = inBase (n .base) (map digitOf (n .digits))
+numeralValue n = inBase (radix (n .base)) (map digitOf (n .digits))
 
--- what a token and a tree keep of a number: its value, however it was spelled
+-- what a token and a tree keep of a number: how it was written, and its value. "Tokens, tree and print carry it."
 pub record Literal : Type 0 where
+  pub base : Base
   pub value : ℕ
 
+abbrev pub literalIn : Base → ℕ → Literal
+literalIn base n = record { base = base; value = n }
+
+-- "address numerals stay decimal"
 abbrev pub plain : ℕ → Literal
-plain n = record { value = n }
+plain n = literalIn decimal n
 
 abbrev pub literalOf : Numeral → Literal
-literalOf n = plain (numeralValue n)
+literalOf n = literalIn (n .base) (numeralValue n)
 
 -- signs
 

@@ -1,15 +1,17 @@
--- Printers that are wrong: one that copies the text, one without parentheses, one with all of them, and one that writes "&&" for ";".
--- Each fails what 02 a asks of a print; as programs they stand in WrongPrograms.
+-- Printers that are wrong: one that copies the text, one without parentheses, one with all of them, one that writes "&&" for ";", one that
+-- writes every numeral in decimal, and one that writes addresses in hex. Each fails what 02 a and e ask of a print; as programs they stand
+-- in WrongPrograms.
 use Prim.Native.Nat.{ℕ, _≤_}
 use mathlib.Core.Path.{_≡_}
 use mathlib.Core.Logic.{_↔_}
-use mathlib.Core.Bool.{Bool, true, false}
+use mathlib.Core.Bool.{Bool, true, false, not, cond}
 use mathlib.Core.List.{List, _++_}
 use lib.ListN.{length}
+use lib.Dec.{eqb}
 use Rattle.paper.specs.Answers.{ok}
-use Rattle.paper.specs.Tokens.{bytes, Join, sequel, implies, orElse, andAlso, Token, tokens}
+use Rattle.paper.specs.Tokens.{bytes, is, span, hex, Literal, literalIn, Join, sequel, implies, orElse, andAlso, Token, tokens}
 use Rattle.paper.specs.Grammar.{Tree, truth, number, key, field, attribute, prefixed, joined, compared}
-use Rattle.paper.specs.Print.{bare, literalBytes, prefixBytes, joinBytes, comparisonBytes, spaced, tightest, leftOf, rightOf, looser, enclosed, truthBytes, print}
+use Rattle.paper.specs.Print.{bare, numeralIn, literalBytes, prefixBytes, joinBytes, comparisonBytes, spaced, tightest, leftOf, rightOf, looser, enclosed, truthBytes, print}
 use Rattle.paper.specs.Calls.{tree}
 
 -- what a text is printed as
@@ -38,24 +40,28 @@ pub record Right (p : Printer) : Type 0 where
   pub tells : Tells p
   pub spares-nothing : SparesNothing p
 
--- a print with other signs for joins, or with parentheses by another rule
-abbrev pub printWith : (Join → List ℕ) → (ℕ → Tree → Bool) → Tree → List ℕ
-printWith signs needs (truth at b) = truthBytes b
-printWith signs needs (number at n) = literalBytes n
-printWith signs needs (key at w) = w
-printWith signs needs (field at w to f) = w ++ bytes "::" ++ f
-printWith signs needs (attribute at to f) = bytes "::" ++ f
-printWith signs needs (prefixed at o t) = prefixBytes o ++ enclosed (needs tightest t) (printWith signs needs t)
-printWith signs needs (joined at o l r) =
-    enclosed (needs (leftOf o) l) (printWith signs needs l) ++ spaced (signs o) ++ enclosed (needs (rightOf o) r) (printWith signs needs r)
-printWith signs needs (compared at c l r) =
-    enclosed (needs tightest l) (printWith signs needs l) ++ spaced (comparisonBytes c) ++ enclosed (needs tightest r) (printWith signs needs r)
+-- a print with other numerals, other signs for joins, or parentheses by another rule
+abbrev pub printWith : (Literal → List ℕ) → (Join → List ℕ) → (ℕ → Tree → Bool) → Tree → List ℕ
+printWith numerals signs needs (truth at b) = truthBytes b
+printWith numerals signs needs (number at n) = numerals n
+printWith numerals signs needs (key at w) = w
+printWith numerals signs needs (field at w to f) = w ++ bytes "::" ++ f
+printWith numerals signs needs (attribute at to f) = bytes "::" ++ f
+printWith numerals signs needs (prefixed at o t) = prefixBytes o ++ enclosed (needs tightest t) (printWith numerals signs needs t)
+printWith numerals signs needs (joined at o l r) =
+    enclosed (needs (leftOf o) l) (printWith numerals signs needs l)
+    ++ spaced (signs o)
+    ++ enclosed (needs (rightOf o) r) (printWith numerals signs needs r)
+printWith numerals signs needs (compared at c l r) =
+    enclosed (needs tightest l) (printWith numerals signs needs l)
+    ++ spaced (comparisonBytes c)
+    ++ enclosed (needs tightest r) (printWith numerals signs needs r)
 
 abbrev pub withoutParentheses : Tree → List ℕ
-withoutParentheses = printWith joinBytes (λ k t. false)
+withoutParentheses = printWith literalBytes joinBytes (λ k t. false)
 
 abbrev pub withAllParentheses : Tree → List ℕ
-withAllParentheses = printWith joinBytes (λ k t. true)
+withAllParentheses = printWith literalBytes joinBytes (λ k t. true)
 
 abbrev pub andForSequel : Join → List ℕ
 andForSequel sequel = bytes "&&"
@@ -64,13 +70,29 @@ andForSequel orElse = bytes "||"
 andForSequel andAlso = bytes "&&"
 
 abbrev pub withAndForSequel : Tree → List ℕ
-withAndForSequel = printWith andForSequel looser
+withAndForSequel = printWith literalBytes andForSequel looser
+
+-- as before 02 e
+abbrev pub inDecimal : Tree → List ℕ
+inDecimal = printWith (λ n. numeralIn 10 (n .value)) joinBytes looser
+
+abbrev pub inHex : Tree → List ℕ
+inHex = printWith (λ n. literalBytes (literalIn hex (n .value))) joinBytes looser
+
+-- a text with a quote has an address in it, or a comment
+abbrev pub quotes : List ℕ → Bool
+quotes text = not (eqb (span (λ b. not (is "'" b)) text) (length text))
+
+abbrev pub addressesInHex : List ℕ → Tree → List ℕ
+addressesInHex text t = cond (quotes text) (inHex t) (print t)
 
 pub record WrongPrintsFail : Type 0 where
   pub right : (p : Printer) → PrintsBy print p → Right p
-  -- with the signs and the rule of `print` it is the print
-  pub otherwise-same : (t : Tree) → printWith joinBytes looser t ≡ print t
+  -- with the numerals, the signs and the rule of `print` it is the print
+  pub otherwise-same : (t : Tree) → printWith literalBytes joinBytes looser t ≡ print t
   pub copies-text : (p : Printer) → ((text : List ℕ) (t : Tree) → tree text ≡ ok t → p text ≡ text) → ¬ Tells p
   pub without-parentheses : (p : Printer) → PrintsBy withoutParentheses p → ¬ ReadsBack p
   pub with-all-parentheses : (p : Printer) → PrintsBy withAllParentheses p → ¬ SparesNothing p
   pub and-for-sequel : (p : Printer) → PrintsBy withAndForSequel p → ¬ ReadsBack p
+  pub in-decimal : (p : Printer) → PrintsBy inDecimal p → ¬ ReadsBack p
+  pub addresses-in-hex : (p : Printer) → ((text : List ℕ) (t : Tree) → tree text ≡ ok t → p text ≡ addressesInHex text t) → ¬ ReadsBack p

@@ -1,4 +1,4 @@
--- 01, "Try these against it": programs that the promises must leave no room for; and wrong printers (02 a) and explainers (02 c). Each is
+-- 01, "Try these against it": programs that the promises must leave no room for; and wrong printers (02 a and e) and explainers (02 c). Each is
 -- refuted at an input, named in the proof.
 use Prim.Native.Nat.{ℕ, _+_, _*_, _≤_, _<_}
 use mathlib.Core.Path.{_≡_}
@@ -24,7 +24,7 @@ use Rattle.paper.specs.TranslationCorrect.{Carries}
 use Rattle.paper.specs.MarkedJudgements.{theKeys, theEntry}
 use Rattle.paper.specs.Explained.{explanationSays}
 use Rattle.paper.specs.Promised.{Bytes, Programs, KeepsRead, KeepsCheck, KeepsJudge, KeepsTranslate, KeepsLoad, KeepsRun, KeepsPrint, KeepsExplain, Kept}
-use Rattle.paper.specs.WrongPrints.{withoutParentheses, withAllParentheses, withAndForSequel}
+use Rattle.paper.specs.WrongPrints.{withoutParentheses, withAllParentheses, withAndForSequel, inDecimal, addressesInHex}
 use Rattle.paper.specs.WrongExplainers.{Explainer, NamesLast, FollowsSpine, KeyForPriority}
 use Rattle.paper.specs.Demands.{Refuses, blocksWritten, DemandOne, DemandTwo, DemandThree}
 
@@ -88,7 +88,7 @@ Lends made p =
     → length (made text t) ≤ mostText → length (made text t) ≤ length buffer
     → p .print text buffer ≡ record { answer = W.Printed (length (made text t)); buffer = over (made text t) buffer }
 
--- the four of WrongPrints
+-- those of WrongPrints
 
 abbrev pub CopiesText : Programs → Type 0
 CopiesText = Lends (λ text t. text)
@@ -101,6 +101,12 @@ EnclosesAll = Lends (λ text t. withAllParentheses t)
 
 abbrev pub WritesAndForSequel : Programs → Type 0
 WritesAndForSequel = Lends (λ text t. withAndForSequel t)
+
+abbrev pub ForgetsBases : Programs → Type 0
+ForgetsBases = Lends (λ text t. inDecimal t)
+
+abbrev pub WritesAddressesInHex : Programs → Type 0
+WritesAddressesInHex = Lends addressesInHex
 
 -- the three of WrongExplainers
 
@@ -144,6 +150,8 @@ pub record WrongProgramsExist : Type 0 where
   pub leaving : ThereIs LeavesParentheses printing
   pub enclosing : ThereIs EnclosesAll printing
   pub confusing : ThereIs WritesAndForSequel printing
+  pub forgetting : ThereIs ForgetsBases printing
+  pub rewriting : ThereIs WritesAddressesInHex printing
   pub naming-last : ThereIs NamesLastPart explaining
   pub following-spine : ThereIs FollowsLeftSpine explaining
   pub showing-key : ThereIs ShowsKeyForPriority explaining
@@ -162,6 +170,8 @@ pub record DemandsExclude (p : Programs) : Type 0 where
   pub leaving : DemandTwo p → ¬ LeavesParentheses p
   pub enclosing : DemandTwo p → ¬ EnclosesAll p
   pub confusing : DemandTwo p → ¬ WritesAndForSequel p
+  pub forgetting : DemandTwo p → ¬ ForgetsBases p
+  pub rewriting : DemandTwo p → ¬ WritesAddressesInHex p
   pub naming-last : DemandTwo p → ¬ NamesLastPart p
   pub following-spine : DemandTwo p → ¬ FollowsLeftSpine p
   pub showing-key : DemandTwo p → ¬ ShowsKeyForPriority p
@@ -183,6 +193,8 @@ pub record Excluded (p : Programs) : Type 0 where
   pub leaving : ¬ LeavesParentheses p
   pub enclosing : ¬ EnclosesAll p
   pub confusing : ¬ WritesAndForSequel p
+  pub forgetting : ¬ ForgetsBases p
+  pub rewriting : ¬ WritesAddressesInHex p
   pub naming-last : ¬ NamesLastPart p
   pub following-spine : ¬ FollowsLeftSpine p
   pub showing-key : ¬ ShowsKeyForPriority p

@@ -1,3 +1,4 @@
+pub mod Bases
 pub mod BigEndian
 pub mod Carries
 pub mod Cuts

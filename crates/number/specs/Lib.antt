@@ -1,2 +1,3 @@
 pub mod Values
 pub mod Numerals
+pub mod Bases

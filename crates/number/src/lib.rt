@@ -1,8 +1,9 @@
-// Numbers up to 2^128 - 1, held exactly, and whole numbers, which are such a number with a sign.
+// Numbers up to 2^128 - 1, held exactly, whole numbers, which are such a number with a sign, and the bases in which numerals are written.
 //
 // A Magnitude is four 32-bit limbs by value. Its operations are told by the number that the limbs stand for
 // (`value`), and a Whole's by the whole number (`wholeOf`), so no caller needs to look at a limb. All of them
 // take every value: only those that read or write bytes ask that the bytes be there, and those that divide ask for a base.
+mod base;
 mod bytes;
 mod compare;
 mod digits;
@@ -12,6 +13,8 @@ mod numeral;
 mod whole;
 mod width;
 
+pub use base::Base;
+pub use base::Literal;
 pub use bytes::word;
 pub use digits::Extended;
 pub use magnitude::Magnitude;

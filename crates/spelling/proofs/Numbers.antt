@@ -1,16 +1,16 @@
 -- Numerals: how a run is spelled, and what its digits count, a digit at a time.
 use Prim.Native.Nat.{ℕ, suc, _+_, _*_, _^_, _≤_, _<_}
 use mathlib.Core.Path.{_≡_, refl, sym, _∙_}
-use mathlib.Core.Bool.{true, false, and-false, true≢false}
+use mathlib.Core.Bool.{true, false, _&&_, and-false, true≢false}
 use mathlib.Core.Option.{none}
 use mathlib.Core.List.{List, [], _∷_, map}
 use native.Mathlib.Nat.{le-refl, le-trans, le-add-right, le-mul-of-pos-right, mod-eq-of-lt}
 use native.Mathlib.Omega.{arith}
 use lib.ListN.{length, getD, drop, drop-of-length-le}
-use lib.Dec.{ltb}
+use lib.Dec.{eqb, ltb}
 use borrow.Author.Tests.{ltb-true, ltb-false, lt-ltb, le-ltb, eq-eqb, ne-eqb}
 use Rattle.paper.specs.Numbers.{digitsAfter}
-use Rattle.paper.specs.Tokens.{spelling, spelled, baseOf, digitOf, span, isNumeral}
+use Rattle.paper.specs.Tokens.{spelling, spelled, baseOf, digitOf, span, isNumeral, Base, radix}
 use Rattle.spelling.proofs.Spans.{cut}
 use Rattle.number.specs.Values.{value, Grows}
 use Rattle.number.specs.declared.digits.Extended.{Extended}
@@ -47,20 +47,20 @@ module _ (base n : ℕ) (s : List ℕ) (i : ℕ) where
   pub digits-end : length s ≤ i → digitsAfter base n (map digitOf (drop i s)) ≡ n
   digits-end h = rw (drop-of-length-le s h)
 
-module _ (ds : List ℕ) (base end : ℕ) (f : EndsAt ds 0 (span (inRun (Digits base)) ds) end) where
+module _ (ds : List ℕ) (base : Base) (n end : ℕ) (same : n ≡ radix base) (f : EndsAt ds 0 (span (inRun (Digits n)) ds) end) where
   pub digits-none : end ≡ 0 → isNumeral (inBaseOf base ds) ≡ false
-  digits-none e = go ds (omega arith)
+  digits-none e = rw (← same) (go ds (omega arith))
     where
-      go : (l : List ℕ) → span (inRun (Digits base)) l ≡ 0 → isNumeral (inBaseOf base l) ≡ false
+      go : (l : List ℕ) → span (inRun (Digits n)) l ≡ 0 → (ltb 0 (length l) && eqb (span (inRun (Digits n)) l) (length l)) ≡ false
       go [] z = refl
       go (x ∷ l) z = rw (z, ne-eqb 0 (suc (length l)) (λ q. omega arith)) (and-false (ltb 0 (suc (length l))))
 
   pub digits-short : end < length ds → isNumeral (inBaseOf base ds) ≡ false
-  digits-short h = rw (ne-eqb (span (inRun (Digits base)) ds) (length ds) (λ q. omega arith)) (and-false (ltb 0 (length ds)))
+  digits-short h = rw (← same, ne-eqb (span (inRun (Digits n)) ds) (length ds) (λ q. omega arith)) (and-false (ltb 0 (length ds)))
 
   pub digits-all : (end ≡ 0 → ⊥) → length ds ≤ end → isNumeral (inBaseOf base ds) ≡ true
   digits-all z h =
-      rw (lt-ltb 0 (length ds) (omega arith), eq-eqb (span (inRun (Digits base)) ds) (length ds) (omega arith))
+      rw (← same, lt-ltb 0 (length ds) (omega arith), eq-eqb (span (inRun (Digits n)) ds) (length ds) (omega arith))
 
 -- one digit more, and what stands after it
 module _ (base n d : ℕ) (ds : List ℕ) (r : Extended) (g : Grows (n * base + d) r) where

@@ -1,29 +1,38 @@
 -- A base is announced by a first 0 and a letter after it; a shorter run, or one with another first byte, announces none.
+use Prim.Native.Nat.{ℕ, _≤_}
 use mathlib.Core.Path.{ap, sym, _∙_}
+use mathlib.Core.List.{List}
 use native.Mathlib.Omega.{arith}
 use borrow.Author.Needs.{needs}
-use lib.ListN.{drop}
+use lib.ListN.{length, drop}
 use Rattle.paper.specs.Tokens.{spelled}
+use Rattle.spelling.specs.declared.numerals.Announced.{Announced}
+use Rattle.spelling.specs.declared.numerals.Announced.the-variants.{Digits, Nothing}
+use Rattle.spelling.specs.Numerals.{Long}
 use Rattle.spelling.proofs.Numbers.{spelled-short, spelled-plain, spelled-by}
-use Rattle.spelling.proofs.numerals.announced.Statement.{statement}
-use Rattle.spelling.proofs.numerals.announced.Tie as tie
+use Rattle.spelling.proofs.numerals.base_announced.Statement.{statement}
+use Rattle.spelling.proofs.numerals.base_announced.Tie as tie
+
+long-of : (s : List ℕ) (r : Announced) → 2 ≤ length s → Long s r
+long-of s (Digits base) h = h
+long-of s Nothing h = tt
 
 returns : tie.Need-returns
-returns c = record { says = spelled-short (c .before .before .args .run .now) (c .if1 .taken); long = omega arith }
+returns c = record { says = spelled-short (c .before .before .args .run .now) (c .if1 .taken); long = tt }
 
 returns-2 : tie.Need-returns-2
-returns-2 c = record { says = spelled-plain (c .before .before .before .before .args .run .now) (c .if2 .taken); long = omega arith }
+returns-2 c = record { says = spelled-plain (c .before .before .before .before .args .run .now) (c .if2 .taken); long = tt }
 
 returns-3 : tie.Need-returns-3
 returns-3 c =
     let s = c .before .before .before .before .before .before .args .run .now in
     record {
       says = spelled-by s (search needs) (c .before .before .if2 .left) ∙ ap (λ b. spelled b s (drop 2 s)) (sym (c .base-of .ensures));
-      long = omega arith;
+      long = long-of s (c .base-of .result) (omega arith);
     }
 
-pub announced-spec : {M : Type 1} → statement M
-announced-spec =
+pub base-announced-spec : {M : Type 1} → statement M
+base-announced-spec =
     tie.close
     (tie.spec
     returns

@@ -1,51 +1,74 @@
 -- No digit, or a byte that is none, is no numeral; where all bytes are digits, what they count tells whether the number fits.
-use mathlib.Core.Path.{_≡_, sym, _∙_}
+use Prim.Native.Nat.{ℕ}
+use mathlib.Core.Path.{_≡_, sym, ap, _∙_}
 use mathlib.Core.Bool.{true}
+use mathlib.Core.List.{List}
 use borrow.Author.Needs.{needs}
-use Rattle.paper.specs.Tokens.{isNumeral}
-use Rattle.spelling.specs.Numerals.{inBaseOf}
+use Rattle.paper.specs.Tokens.{Base, isNumeral, numeralValue, literalIn}
+use Rattle.number.specs.Bases.{baseMeant}
+use Rattle.spelling.specs.Numerals.{inBaseOf, Counts}
 use Rattle.spelling.proofs.Numbers.{digits-none, digits-short, digits-all}
 use Rattle.spelling.proofs.numerals.in_base.Statement.{statement}
 use Rattle.spelling.proofs.numerals.in_base.Tie as tie
 
+-- where the end of the digits is known; and what the function was given
+abbrev start : tie.After-run-end → tie.Start
+start c = c .before .before .before
+
+abbrev digits : tie.After-run-end → List ℕ
+digits c = start c .args .digits .now
+
+abbrev base : tie.After-run-end → Base
+base c = baseMeant (start c .args .base)
+
 no-digit : tie.Need-returns
 no-digit c =
-    let a = c .before .before .before .before .args in
-    let e = c .before .before .run-end in
+    let ended : tie.After-run-end = c .before .before in
+    let e = ended .run-end in
     let w = c .without-number .ensures in
-    rw (w .0) (digits-none (a .digits .now) (a .base) (e .result) (e .ensures) (c .before .if1 .taken), w .1)
+    rw (w .0) (digits-none (digits ended) (base ended) _ (e .result) (ended .before .radix .ensures .0) (e .ensures) (c .before .if1 .taken), w .1)
 
 another-byte : tie.Need-returns-2
 another-byte c =
-    let a = c .before .before .before .before .before .args in
-    let e = c .before .before .before .run-end in
+    let ended : tie.After-run-end = c .before .before .before in
+    let e = ended .run-end in
     let w = c .without-number2 .ensures in
-    rw (w .0) (digits-short (a .digits .now) (a .base) (e .result) (e .ensures) (c .before .if2 .taken), w .1)
+    rw (w .0) (digits-short (digits ended) (base ended) _ (e .result) (ended .before .radix .ensures .0) (e .ensures) (c .before .if2 .taken), w .1)
 
 -- where the count is made, every byte is a digit
-all-digits : (c : tie.After-count)
-    → isNumeral (inBaseOf (c .before .before .before .before .before .args .base) (c .before .before .before .before .before .args .digits .now)) ≡ true
+
+abbrev count-ended : tie.After-count → tie.After-run-end
+count-ended c = c .before .before .before
+
+all-digits : (c : tie.After-count) → isNumeral (inBaseOf (base (count-ended c)) (digits (count-ended c))) ≡ true
 all-digits c =
-    let a = c .before .before .before .before .before .args in
-    let e = c .before .before .before .run-end in
-    digits-all (a .digits .now) (a .base) (e .result) (e .ensures) (c .before .before .if1 .left) (c .before .if2 .left)
+    let ended = count-ended c in
+    let e = ended .run-end in
+    digits-all (digits ended) (base ended) _ (e .result) (ended .before .radix .ensures .0) (e .ensures) (c .before .before .if1 .left) (c .before .if2 .left)
+
+-- and what it counts is the numeral's number
+counts : (c : tie.After-count) → Counts (numeralValue (inBaseOf (base (count-ended c)) (digits (count-ended c)))) (c .count .result)
+counts c = rw (← count-ended c .before .radix .ensures .0) (c .count .ensures)
 
 fits : tie.Need-returns-3
 fits c =
-    let n = c .before .before .count .ensures in
+    let counted : tie.After-count = c .before .before in
+    let n = counts counted in
     let h = c .before .if3 .taken in
-    (all-digits (c .before .before), sym (n .told) ∙ h, n .held h)
+    (all-digits counted, sym (n .told) ∙ h, ap (literalIn (base (count-ended counted))) (n .held h))
 
 too-large : tie.Need-returns-4
 too-large c =
-    let n = c .before .before .count .ensures in
+    let counted : tie.After-count = c .before .before in
     let w = c .without-number3 .ensures in
-    rw (w .0) (all-digits (c .before .before), sym (n .told) ∙ c .before .if3 .left, w .1)
+    rw (w .0) (all-digits counted, sym (counts counted .told) ∙ c .before .if3 .left, w .1)
 
 pub in-base-spec : {M : Type 1} → statement M
 in-base-spec =
     tie.close
     (tie.spec
+    (λ c κs. search needs)
+    (λ c. search needs)
     (λ c κs. search needs)
     (λ c κs. search needs)
     no-digit

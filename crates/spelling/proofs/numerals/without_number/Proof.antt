@@ -1,0 +1,11 @@
+-- `spelling::without_number` meets its contract: its literal is the plain one of zero.
+use mathlib.Core.Path.{refl}
+use borrow.Author.Needs.{needs}
+use Rattle.spelling.proofs.numerals.without_number.Statement.{statement}
+use Rattle.spelling.proofs.numerals.without_number.Tie as tie
+
+plain-zero : tie.Need-returns
+plain-zero c = let made = c .plain .ensures in (refl, rw (made .0, made .1, c .before .zero .ensures))
+
+pub without-number-spec : {M : Type 1} → statement M
+without-number-spec = tie.close (tie.spec (λ c κs. search needs) (λ c κs. search needs) plain-zero)

@@ -2,7 +2,7 @@
 use Prim.Native.Nat.{ℕ, zero, suc, _+_, _*_, _-_, _≤_, _<_}
 use native.Mathlib.Omega.{arith}
 use native.Mathlib.Decide.{decLt}
-use mathlib.Core.Path.{_≡_, refl, _∙_, ap₂}
+use mathlib.Core.Path.{_≡_, refl, sym, _∙_, ap₂}
 use mathlib.Core.Bool.{Bool, true, false, cond}
 use mathlib.Core.Option.{Option, none, some}
 use mathlib.Core.List.{List}
@@ -13,6 +13,8 @@ use borrow.Author.Tests.{ne-eqb, lt-ltb, ltb-false}
 use Rattle.paper.specs.Code.{bit}
 use Rattle.paper.specs.Types as T
 use Rattle.paper.specs.Keys as P
+use Rattle.number.specs.Bases.{ofRadix}
+use Rattle.number.specs.declared.base.Base.{Base}
 use Rattle.trees.specs.declared.node.Leaf.{Leaf}
 use Rattle.trees.specs.declared.node.Leaf.the-variants as L
 use Rattle.trees.specs.declared.marks.Operand.{Operand}
@@ -48,14 +50,21 @@ priority-back true = refl
 priority-back false = refl
 
 -- a node with a name is no operator, so its third word is no operand
-unmoved : (kind a b c d : ℕ) → Names (leafOf kind a b c d) → (i x y : ℕ) → nodeOf kind i x ≡ nodeOf kind i y
-unmoved kind a b c d h i x y =
+unmoved : (kind base a b c d : ℕ) → Names (leafOf kind base a b c d) → (i x y : ℕ) → nodeOf kind i x ≡ nodeOf kind i y
+unmoved kind base a b c d h i x y =
     elim (decLt kind 5) [
       | yes l ↦ rw (lt-ltb kind 5 l)
       | no l ↦
           absurd
           (rw (ne-eqb kind 0 (λ e. omega arith), ne-eqb kind 1 (λ e. omega arith), ne-eqb kind 2 (λ e. omega arith), ne-eqb kind 3 (λ e. omega arith), ne-eqb kind 4 (λ e. omega arith)) at h)
     ]
+
+-- nor is it a number, so its third word is no base
+not-base : (t n : Bool) (v : Bool) (x y : Base) (a b c d : ℕ) (rest : Leaf) → Names (cond t (L.Truth v) (cond n (L.Number x a b c d) rest))
+    → cond t (L.Truth v) (cond n (L.Number x a b c d) rest) ≡ cond t (L.Truth v) (cond n (L.Number y a b c d) rest)
+not-base true n v x y a b c d rest h = absurd h
+not-base false true v x y a b c d rest h = absurd h
+not-base false false v x y a b c d rest h = refl
 
 module _ (nodes : List ℕ) (i key name : ℕ) where
   abbrev after : List ℕ
@@ -68,6 +77,9 @@ module _ (nodes : List ℕ) (i key name : ℕ) where
   word : (j k : ℕ) → k < 7 → (k ≡ 2 → ⊥) → getD after (j * 8 + k) 0 ≡ getD nodes (j * 8 + k) 0
   word j k h two = other-word (j * 8 + k) (λ e. two (omega arith)) (λ e. omega arith)
 
+  third-word : (j : ℕ) → (j ≡ i → ⊥) → getD after (j * 8 + 2) 0 ≡ getD nodes (j * 8 + 2) 0
+  third-word j d = other-word (j * 8 + 2) (λ e. d (omega arith)) (λ e. omega arith)
+
   kind-word : (j : ℕ) → getD after (j * 8) 0 ≡ getD nodes (j * 8) 0
   kind-word j = other-word (j * 8) (λ e. omega arith) (λ e. omega arith)
 
@@ -77,33 +89,47 @@ module _ (nodes : List ℕ) (i key name : ℕ) where
   pub same-place : (j : ℕ) → placeAt after j ≡ placeAt nodes j
   same-place j = word j 1 (omega arith) (λ e. omega arith)
 
-  pub same-leaf : (j : ℕ) → leafAt after j ≡ leafAt nodes j
+  leaf-elsewhere : (j : ℕ) → (j ≡ i → ⊥) → leafAt after j ≡ leafAt nodes j
   unfolding leafAt
-  same-leaf j =
-      rw (kind-word j, word j 3 (omega arith) (λ e. omega arith), word j 4 (omega arith) (λ e. omega arith), word j 5 (omega arith) (λ e. omega arith), word j 6 (omega arith) (λ e. omega arith))
+  leaf-elsewhere j d =
+      rw (kind-word j, third-word j d, word j 3 (omega arith) (λ e. omega arith), word j 4 (omega arith) (λ e. omega arith), word j 5 (omega arith) (λ e. omega arith), word j 6 (omega arith) (λ e. omega arith))
+
+  leaf-here : Names (leafAt nodes i) → leafAt after i ≡ leafAt nodes i
+  unfolding leafAt
+  leaf-here h =
+      let kind = getD nodes (i * 8) 0 in
+      rw (kind-word i, word i 3 (omega arith) (λ e. omega arith), word i 4 (omega arith) (λ e. omega arith), word i 5 (omega arith) (λ e. omega arith), word i 6 (omega arith) (λ e. omega arith))
+      (sym (not-base (eqb kind 0) (eqb kind 1) _ _ _ _ _ _ _ _ h))
+
+  pub same-leaf : Names (leafAt nodes i) → (j : ℕ) → leafAt after j ≡ leafAt nodes j
+  same-leaf h j =
+      elim (decLt j i) [
+        | yes l ↦ leaf-elsewhere j (λ e. omega arith)
+        | no m ↦ elim (decLt i j) [ yes l ↦ leaf-elsewhere j (λ e. omega arith) | no l ↦ let e : j ≡ i = omega arith in rw e (leaf-here h) ]
+      ]
 
   pub same-node : Names (leafAt nodes i) → (j : ℕ) → nodeAt after j ≡ nodeAt nodes j
   unfolding leafAt nodeAt
   same-node h j = rw (kind-word j) (elim (decLt j i) [ yes l ↦ elsewhere (λ e. omega arith) | no m ↦ elim (decLt i j) [ yes l ↦ elsewhere (λ e. omega arith) | no l ↦ here (omega arith) ] ])
     where
       elsewhere : (j ≡ i → ⊥) → nodeOf (getD nodes (j * 8) 0) j (getD after (j * 8 + 2) 0) ≡ nodeOf (getD nodes (j * 8) 0) j (getD nodes (j * 8 + 2) 0)
-      elsewhere d = rw (other-word (j * 8 + 2) (λ e. d (omega arith)) (λ e. omega arith))
+      elsewhere d = rw (third-word j d)
 
       here : j ≡ i → nodeOf (getD nodes (j * 8) 0) j (getD after (j * 8 + 2) 0) ≡ nodeOf (getD nodes (j * 8) 0) j (getD nodes (j * 8 + 2) 0)
-      here e = rw e (unmoved (getD nodes (i * 8) 0) (getD nodes (i * 8 + 3) 0) (getD nodes (i * 8 + 4) 0) (getD nodes (i * 8 + 5) 0) (getD nodes (i * 8 + 6) 0) h i (getD after (i * 8 + 2) 0) (getD nodes (i * 8 + 2) 0))
+      here e = rw e (unmoved (getD nodes (i * 8) 0) (getD nodes (i * 8 + 2) 0) (getD nodes (i * 8 + 3) 0) (getD nodes (i * 8 + 4) 0) (getD nodes (i * 8 + 5) 0) (getD nodes (i * 8 + 6) 0) h i (getD after (i * 8 + 2) 0) (getD nodes (i * 8 + 2) 0))
 
-  pub marked : i * 8 + 8 ≤ length nodes → operandAt after i ≡ operandOf (leafAt nodes i) key name
+  pub marked : Names (leafAt nodes i) → i * 8 + 8 ≤ length nodes → operandAt after i ≡ operandOf (leafAt nodes i) key name
   unfolding operandAt
-  marked room =
+  marked h room =
       rw (
-        same-leaf i,
+        leaf-here h,
         getD-set-other (set nodes (i * 8 + 2) key) (i * 8 + 7) (i * 8 + 2) name 0 (λ e. omega arith) ∙ getD-set-same nodes (i * 8 + 2) key 0 (omega arith),
         getD-set-same (set nodes (i * 8 + 2) key) (i * 8 + 7) name 0 (omega (arith, length-set nodes (i * 8 + 2) key)),
       )
 
   pub unmarked : (j : ℕ) → (j ≡ i → ⊥) → operandAt after j ≡ operandAt nodes j
   unfolding operandAt
-  unmarked j d = rw (same-leaf j, other-word (j * 8 + 2) (λ e. d (omega arith)) (λ e. omega arith), other-word (j * 8 + 7) (λ e. omega arith) (λ e. d (omega arith)))
+  unmarked j d = rw (leaf-elsewhere j d, third-word j d, other-word (j * 8 + 7) (λ e. omega arith) (λ e. d (omega arith)))
 
 -- nodes, leaves and places make the tree
 module _ (text before after : List ℕ) (nodes : (i : ℕ) → nodeAt after i ≡ nodeAt before i) (leaves : (i : ℕ) → leafAt after i ≡ leafAt before i)
@@ -122,21 +148,21 @@ module _ (text before after : List ℕ) (nodes : (i : ℕ) → nodeAt after i �
 
 -- a leaf's name stands where its sixth word says
 
-named-of : (a b c d : ℕ) (t n k f x : Bool) → NamedAt c
-    (cond t (L.Truth (eqb a 1)) (cond n (L.Number a b c d) (cond k (L.Key (record { from = a; to = b }))
+named-of : (base : Base) (a b c d : ℕ) (t n k f x : Bool) → NamedAt c
+    (cond t (L.Truth (eqb a 1)) (cond n (L.Number base a b c d) (cond k (L.Key (record { from = a; to = b }))
     (cond f (L.Field (record { from = a; to = b }) (record { from = c; to = d })) (cond x (L.Attribute (record { from = c; to = d })) (L.Truth false))))))
-named-of a b c d true n k f x = tt
-named-of a b c d false true k f x = tt
-named-of a b c d false false true f x = tt
-named-of a b c d false false false true x = refl
-named-of a b c d false false false false true = refl
-named-of a b c d false false false false false = tt
+named-of base a b c d true n k f x = tt
+named-of base a b c d false true k f x = tt
+named-of base a b c d false false true f x = tt
+named-of base a b c d false false false true x = refl
+named-of base a b c d false false false false true = refl
+named-of base a b c d false false false false false = tt
 
 pub named-at : (nodes : List ℕ) (i : ℕ) → NamedAt (nameAt nodes i) (leafAt nodes i)
 unfolding leafAt
 named-at nodes i =
     let kind = getD nodes (i * 8) 0 in
-    named-of (getD nodes (i * 8 + 3) 0) (getD nodes (i * 8 + 4) 0) (nameAt nodes i) (getD nodes (i * 8 + 6) 0) (eqb kind 0) (eqb kind 1) (eqb kind 2) (eqb kind 3) (eqb kind 4)
+    named-of (ofRadix (getD nodes (i * 8 + 2) 0)) (getD nodes (i * 8 + 3) 0) (getD nodes (i * 8 + 4) 0) (nameAt nodes i) (getD nodes (i * 8 + 6) 0) (eqb kind 0) (eqb kind 1) (eqb kind 2) (eqb kind 3) (eqb kind 4)
 
 -- what holds of nodes below one number holds of those below a smaller one
 pub marked-below : (ks : List P.Key) (text nodes : List ℕ) {m n : ℕ} → m ≤ n → Marked ks text nodes n → Marked ks text nodes m
@@ -159,7 +185,7 @@ either false x y h k = k refl
 
 field-of : (leaf : Leaf) (key name : ℕ) → AField (operandOf leaf key name)
 field-of (L.Truth b) key name = tt
-field-of (L.Number a b c d) key name = tt
+field-of (L.Number base a b c d) key name = tt
 field-of (L.Key w) key name = either (eqb key 0) _ _ tt (λ h. tt)
 field-of (L.Field w f) key name =
     either (eqb key 0) _ _ tt

@@ -1,4 +1,4 @@
--- The marks of a node: what the names of a leaf name, in two words that nothing else reads. In the third, that of a left operand,
+-- The marks of a node: what the names of a leaf name, in two words that nothing else reads there. In the third, that of a left operand,
 -- stands the index of the leaf's key and one, in the last the number of its field and one, or for an attribute 1 if it is the
 -- priority; 0 stands for a name of nothing.
 use Prim.Native.Nat.{ℕ, _+_, _*_, _-_, _<_}
@@ -34,7 +34,7 @@ fieldMarked key name =
 
 abbrev pub operandOf : Leaf → ℕ → ℕ → Operand
 operandOf (L.Truth b) key name = Truth b
-operandOf (L.Number a b c d) key name = Number a b c d
+operandOf (L.Number base a b c d) key name = Number a b c d
 operandOf (L.Key w) key name = keyMarked key
 operandOf (L.Field w f) key name = fieldMarked key name
 operandOf (L.Attribute f) key name = Attribute (eqb name 1)
@@ -60,7 +60,7 @@ fieldFound (some k) (some f) = Field k (fieldNo f)
 
 abbrev pub operandOn : List P.Key → List ℕ → Leaf → Operand
 operandOn ks text (L.Truth b) = Truth b
-operandOn ks text (L.Number a b c d) = Number a b c d
+operandOn ks text (L.Number base a b c d) = Number a b c d
 operandOn ks text (L.Key w) = keyFound (find ks (spelling text w))
 operandOn ks text (L.Field w f) = fieldFound (find ks (spelling text w)) (fieldNamed (spelling text f))
 operandOn ks text (L.Attribute f) = Attribute (sameBytes (spelling text f) (bytes "priority"))
@@ -85,7 +85,7 @@ fieldMark (some f) = fieldNo f + 1
 -- a leaf that has a name
 abbrev pub Names : Leaf → Type 0
 Names (L.Truth b) = ⊥
-Names (L.Number a b c d) = ⊥
+Names (L.Number base a b c d) = ⊥
 Names (L.Key w) = Unit {0}
 Names (L.Field w f) = Unit {0}
 Names (L.Attribute f) = Unit {0}
@@ -93,7 +93,7 @@ Names (L.Attribute f) = Unit {0}
 -- the name of a leaf after "::" begins at a place
 abbrev pub NamedAt : ℕ → Leaf → Type 0
 NamedAt to (L.Truth b) = Unit {0}
-NamedAt to (L.Number a b c d) = Unit {0}
+NamedAt to (L.Number base a b c d) = Unit {0}
 NamedAt to (L.Key w) = Unit {0}
 NamedAt to (L.Field w f) = f .from ≡ to
 NamedAt to (L.Attribute f) = f .from ≡ to

@@ -4,7 +4,7 @@ use mathlib.Core.Path.{_≡_}
 use mathlib.Core.List.{List, [], _∷_, _++_}
 use lib.ListN.{length, take, drop}
 use lib.Seq.{slice}
-use Rattle.paper.specs.Tokens.{Prefix, notSign, minusSign, Join, sequel, implies, orElse, andAlso, Comparison, equal, unequal, greater, atLeast, less, atMost}
+use Rattle.paper.specs.Tokens.{radix, Prefix, notSign, minusSign, Join, sequel, implies, orElse, andAlso, Comparison, equal, unequal, greater, atLeast, less, atMost}
 use Rattle.paper.specs.Grammar.{Tree, truth, number, key, field, attribute, prefixed, joined, compared, nodes}
 use Rattle.paper.specs.Code.{bit}
 use Rattle.trees.specs.declared.node.Operator.{Operator}
@@ -40,13 +40,17 @@ limb n k = n / 2 ^ (32 * k) % 2 ^ 32
 abbrev pub leafWords : ℕ → ℕ → ℕ → ℕ → ℕ → ℕ → List ℕ
 leafWords kind at a b c d = kind ∷ at ∷ 0 ∷ a ∷ b ∷ c ∷ d ∷ 0 ∷ []
 
+-- a number's base stands where an operator has its left operand
+abbrev pub numberWords : ℕ → ℕ → ℕ → ℕ → ℕ → ℕ → List ℕ
+numberWords at base a b c d = 1 ∷ at ∷ base ∷ a ∷ b ∷ c ∷ d ∷ 0 ∷ []
+
 abbrev pub operatorWords : ℕ → ℕ → ℕ → List ℕ
 operatorWords kind at left = kind ∷ at ∷ left ∷ 0 ∷ 0 ∷ 0 ∷ 0 ∷ 0 ∷ []
 
 -- the words of a tree whose first node has the number b
 abbrev pub words : ℕ → Tree → List ℕ
 words b (truth at t) = leafWords 0 at (bit t) 0 0 0
-words b (number at n) = leafWords 1 at (limb (n .value) 0) (limb (n .value) 1) (limb (n .value) 2) (limb (n .value) 3)
+words b (number at n) = numberWords at (radix (n .base)) (limb (n .value) 0) (limb (n .value) 1) (limb (n .value) 2) (limb (n .value) 3)
 words b (key at w) = leafWords 2 at at (at + length w) 0 0
 words b (field at w to f) = leafWords 3 at at (at + length w) to (to + length f)
 words b (attribute at to f) = leafWords 4 at 0 0 to (to + length f)

@@ -1,5 +1,5 @@
 // The marks of names. A leaf's names are looked up once, and what they name is marked in two words of its node that nothing else
-// reads: that of a left operand, which no leaf has, and the last. So the walks read no text.
+// reads: that of a left operand or of a number's base, which no leaf with a name has, and the last. So the walks read no text.
 ghost use mathlib.Core.Path.{_≡_};
 ghost use Prim.Native.Nat.{_+_, _*_, _≤_};
 ghost use lib.ListN.{length};
@@ -55,7 +55,7 @@ fn operand_of(leaf: Leaf, key: u32, name: u32) -> Operand
 {
     match leaf {
         Leaf::Truth(b) => Operand::Truth(b),
-        Leaf::Number(a, b, c, d) => Operand::Number(a, b, c, d),
+        Leaf::Number(_, a, b, c, d) => Operand::Number(a, b, c, d),
         Leaf::Key(_) => key_marked(key),
         Leaf::Field(_, _) => field_marked(key, name),
         Leaf::Attribute(_) => Operand::Attribute(name == 1),

@@ -8,6 +8,7 @@ ghost use Rattle.paper.specs.Code as C;
 ghost use Rattle.trees.specs.Standing.{comparisonMeant};
 ghost use Rattle.trees.specs.Nodes.{leafOf, leafAt, nodeOf, nodeAt, placeAt, prefixOf, joinOf, comparisonOf, operatorOf};
 use crate::kinds;
+use number::Base;
 
 pub enum Prefix {
     Not,
@@ -56,7 +57,7 @@ pub struct Span {
 // A node with no operand.
 pub enum Leaf {
     Truth(bool),
-    Number(u32, u32, u32, u32),
+    Number(Base, u32, u32, u32, u32),
     Key(Span),
     Field(Span, Span),
     Attribute(Span),
@@ -143,12 +144,12 @@ fn operator_of(kind: u32, i: usize, left: usize) -> Node
 }
 
 // The leaf of a node; of a node that is none, false.
-fn leaf_of(kind: u32, a: u32, b: u32, c: u32, d: u32) -> Leaf
-    ensures { λ r. ⌜ r ≡ leafOf kind a b c d ⌝ }
+fn leaf_of(kind: u32, base: u32, a: u32, b: u32, c: u32, d: u32) -> Leaf
+    ensures { λ r. ⌜ r ≡ leafOf kind base a b c d ⌝ }
 {
     match kind {
         kinds::TRUTH => Leaf::Truth(a == 1),
-        kinds::NUMBER => Leaf::Number(a, b, c, d),
+        kinds::NUMBER => Leaf::Number(Base::of_radix(base), a, b, c, d),
         kinds::KEY => Leaf::Key(span_of(a, b)),
         kinds::FIELD => Leaf::Field(span_of(a, b), span_of(c, d)),
         kinds::ATTRIBUTE => Leaf::Attribute(span_of(c, d)),
@@ -165,6 +166,7 @@ impl Leaf {
         let at = i * Node::WORDS;
         leaf_of(
             nodes[at],
+            nodes[at + 2],
             nodes[at + 3],
             nodes[at + 4],
             nodes[at + 5],

@@ -5,9 +5,8 @@ ghost use Prim.Native.Nat.{_+_, _*_, _≤_, _<_};
 ghost use lib.ListN.{length};
 ghost use lib.Seq.{sets};
 ghost use Rattle.paper.specs.Code as C;
-ghost use Rattle.paper.specs.Tokens.{plain};
 ghost use Rattle.paper.specs.Grammar as G;
-ghost use Rattle.number.specs.Values.{value};
+ghost use Rattle.number.specs.Bases.{literalMeant};
 ghost use Rattle.trees.specs.Standing.{prefixMeant, joinMeant, comparisonMeant};
 ghost use Rattle.trees.specs.Words.{leafWords, operatorWords, words, prefixNo, joinNo, comparisonNo, operatorNo};
 use crate::kinds;
@@ -16,7 +15,7 @@ use crate::node::Join;
 use crate::node::Node;
 use crate::node::Operator;
 use crate::node::Prefix;
-use number::Magnitude;
+use number::Literal;
 
 // The words of a node but for the last, which is a mark and is not known yet.
 struct Row {
@@ -70,15 +69,17 @@ pub fn put_truth(nodes: &mut [u32], node: usize, place: u32, truth: bool)
     put(nodes, node, row);
 }
 
-// Stores the node of a number, by its limbs.
-pub fn put_number(nodes: &mut [u32], node: usize, place: u32, number: Magnitude)
+// Stores the node of a number: its base stands where an operator has its left operand, then its limbs.
+pub fn put_number(nodes: &mut [u32], node: usize, place: u32, literal: Literal)
     requires { ⌜ node * 8 + 8 ≤ length (now nodes) ⌝ }
-    ensures { λ _. ⌜ now (nodes .exit) ≡ sets (now (nodes .entry)) (node * 8) (words node (G.number place (plain (value number)))) ⌝ }
+    ensures { λ _. ⌜ now (nodes .exit) ≡ sets (now (nodes .entry)) (node * 8) (words node (G.number place (literalMeant literal))) ⌝ }
 {
+    let base = literal.base;
+    let number = literal.number;
     let row = Row {
         kind: kinds::NUMBER,
         place: place,
-        left: 0,
+        left: base.radix(),
         a: number.limbs[0],
         b: number.limbs[1],
         c: number.limbs[2],

@@ -18,8 +18,9 @@ leaf-of-spec =
     (λ c κs. search needs)
     (λ c κs. search needs)
     (λ c κs. search needs)
+    (λ c κs. search needs)
     (λ c. rw (c .match .keys1))
-    (λ c. rw (c .match .keys2))
+    (λ c. rw (c .before .match .keys2, c .of-radix .ensures))
     (λ c. rw (c .before .match .keys3, c .span-of .ensures))
     returns-4
     (λ c. rw (c .before .match .keys5, c .span-of4 .ensures))

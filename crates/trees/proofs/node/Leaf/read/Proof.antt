@@ -1,4 +1,4 @@
--- `trees::Leaf::read` meets its contract: the five words that `leaf_of` takes are those of the definition `leafAt`.
+-- `trees::Leaf::read` meets its contract: the six words that `leaf_of` takes are those of the definition `leafAt`.
 use Rattle.trees.specs.Nodes.{leafAt}
 use borrow.Author.Needs.{needs}
 use Rattle.trees.proofs.node.Leaf.read.Statement.{statement}
@@ -12,6 +12,9 @@ pub read-spec : {M : Type 1} → statement M
 read-spec =
     tie.close
     (tie.spec
+    (λ c. search needs)
+    (λ c. search needs)
+    (λ c. search needs)
     (λ c. search needs)
     (λ c. search needs)
     (λ c. search needs)

@@ -6,10 +6,10 @@ use native.Mathlib.Omega.{arith}
 use lib.ListN.{length, getD, drop}
 use lib.Seq.{sets}
 use Rattle.paper.specs.Answers.{Answer, ok, refused, inText}
-use Rattle.paper.specs.Tokens.{Token, Scan, scan, tokensFrom, tokens, mostTokens}
+use Rattle.paper.specs.Tokens.{Literal, Token, Scan, scan, tokensFrom, tokens, mostTokens}
 use Rattle.paper.specs.Parts.{taken, tokenEnd}
-use Rattle.number.specs.Values.{value}
-use Rattle.number.specs.declared.magnitude.Magnitude.{Magnitude}
+use Rattle.number.specs.Bases.{literalMeant}
+use Rattle.number.specs.declared.base.Literal as N
 use Rattle.tokens.specs.Scanned.{Stands}
 use Rattle.tokens.specs.Tape.{Tape, tapeOf, Room, rowAt, Has, rowOf, tokensOn}
 use Rattle.tokens.specs.Tokenized.{Cut, SpansOn, EndsOn}
@@ -19,8 +19,8 @@ use Rattle.tokens.proofs.Steps.{following, following-one, blank-step, t
 use Rattle.tokens.proofs.Storing.{tokens-stored, spans-stored, ends-stored}
 
 -- what the paper scans at a byte
-abbrev pub Here : List ℕ → ℕ → ℕ → Lexeme → Type 0
-Here text at number found = Stands text at number (scan (getD text at 0) (drop (at + 1) text)) found
+abbrev pub Here : List ℕ → ℕ → Literal → Lexeme → Type 0
+Here text at literal found = Stands text at literal (scan (getD text at 0) (drop (at + 1) text)) found
 
 -- n tokens are stored of the bytes before `at`, each of which took a byte at least
 pub record Going (T : Tape) (n at : ℕ) : Type 0 where
@@ -51,7 +51,7 @@ module _ (text rows : List ℕ) (n at : ℕ) (g : Going (tapeOf text rows) n at)
   from-here : (a : Answer (List Token)) → tokensFrom 0 at (mostTokens - n) (drop at text) ≡ a → following (tokensOn (tapeOf text rows) 0 n) a ≡ tokens text
   from-here a e = ap (following (tokensOn (tapeOf text rows) 0 n)) (sym e) ∙ g .says
 
-  pub going-blank : (v end : ℕ) → Here text at v (F.Blank end) → Going (tapeOf text rows) n end
+  pub going-blank : (v : Literal) (end : ℕ) → Here text at v (F.Blank end) → Going (tapeOf text rows) n end
   going-blank v end w =
       record {
         few = g .few;
@@ -67,17 +67,17 @@ module _ (text rows : List ℕ) (n at : ℕ) (g : Going (tapeOf text rows) n at)
   going-row size room same few = omega (arith, room (n + 1) (omega arith) (omega (arith, g .taken)))
 
   -- a token ends where the paper's scan has taken it
-  scanned-end : (v kind end : ℕ) → Here text at v (F.Token kind end) → end ≡ tokenEnd text at
+  scanned-end : (v : Literal) (kind end : ℕ) → Here text at v (F.Token kind end) → end ≡ tokenEnd text at
   unfolding tokenEnd
   scanned-end v kind end w =
       let all : suc at + (end - (at + 1)) ≡ end = omega (arith, w .ends .taken) in
       let next : at + 1 ≡ suc at = omega arith in
       sym all ∙ ap (λ (s : Scan). suc at + taken s) (w .says) ∙ ap (λ (i : ℕ). suc at + taken (scan (getD text at 0) (drop i text))) next
 
-  pub going-token : (after : List ℕ) (kind end : ℕ) (m : Magnitude) → n < mostTokens → Has rows n
-      → after ≡ sets rows (rowAt n) (rowOf kind at end m) → Here text at (value m) (F.Token kind end)
+  pub going-token : (after : List ℕ) (kind end : ℕ) (l : N.Literal) → n < mostTokens → Has rows n
+      → after ≡ sets rows (rowAt n) (rowOf kind at end l) → Here text at (literalMeant l) (F.Token kind end)
       → Going (tapeOf text after) (n + 1) end
-  going-token after kind end m few room put w =
+  going-token after kind end l few room put w =
       let e : mostTokens - n ≡ suc (mostTokens - (n + 1)) = omega arith in
       let rest = tokensFrom 0 end (mostTokens - (n + 1)) (drop end text) in
       let step = token-step text at (mostTokens - (n + 1)) h _ end (w .ends .taken) (sym (w .says)) in
@@ -86,24 +86,24 @@ module _ (text rows : List ℕ) (n at : ℕ) (g : Going (tapeOf text rows) n at)
         taken = omega (arith, g .taken, w .ends .taken);
         inside = w .ends .inside;
         says =
-            ap (λ (ts : List Token). following ts rest) (tokens-stored text rows after n kind at end m room put)
+            ap (λ (ts : List Token). following ts rest) (tokens-stored text rows after n kind at end l room put)
             ∙ sym (following-one (tokensOn (tapeOf text rows) 0 n) _ rest)
             ∙ from-here _ (ap (λ k. tokensFrom 0 at k (drop at text)) e ∙ step);
-        placed = spans-stored text rows after n kind at end m room put (w .ends) (g .placed);
-        ended = ends-stored text rows after n kind at end m room put (scanned-end (value m) kind end w) (g .ended);
+        placed = spans-stored text rows after n kind at end l room put (w .ends) (g .placed);
+        ended = ends-stored text rows after n kind at end l room put (scanned-end (literalMeant l) kind end w) (g .ended);
       }
 
-  pub going-full : (v kind end : ℕ) → n ≡ mostTokens → Here text at v (F.Token kind end)
+  pub going-full : (v : Literal) (kind end : ℕ) → n ≡ mostTokens → Here text at v (F.Token kind end)
       → refused 7 inText at ≡ tokens text
   going-full v kind end full w =
       let e : mostTokens - n ≡ 0 = omega arith in
       from-here (refused 7 inText at) (rw e (full-step text at 0 h _ _ (sym (w .says))))
 
-  pub going-none : (v : ℕ) → Here text at v F.NoToken
+  pub going-none : (v : Literal) → Here text at v F.NoToken
       → refused 5 inText at ≡ tokens text
   going-none v w = from-here (refused 5 inText at) (no-step text at (mostTokens - n) h (sym (w .says)))
 
-  pub going-large : (v : ℕ) → Here text at v F.TooLarge
+  pub going-large : (v : Literal) → Here text at v F.TooLarge
       → refused 6 inText at ≡ tokens text
   going-large v w = from-here (refused 6 inText at) (large-step text at (mostTokens - n) h (sym (w .says)))
 

@@ -6,9 +6,7 @@ use mathlib.Core.List.{List, [], _∷_}
 use native.Mathlib.Omega.{arith}
 use lib.Dec.{eqb}
 use lib.ListN.{length, getD, take, drop, length-drop}
-use Rattle.paper.specs.Tokens.{is, starts, isBlank, isIdStart, isDigit, isIdByte, wordMore, span, spelling, Scan, scan, scanComment, scanString, scanWord, scanNumeral, scanSign, blank, token, word}
-use Rattle.number.specs.Values.{value}
-use Rattle.number.specs.declared.magnitude.Magnitude.{Magnitude}
+use Rattle.paper.specs.Tokens.{is, starts, isBlank, isIdStart, isDigit, isIdByte, wordMore, span, spelling, Scan, scan, scanComment, scanString, scanWord, scanNumeral, scanSign, blank, token, word, Literal, plain}
 use Rattle.spelling.specs.Numerals.{SpeltAs}
 use Rattle.spelling.specs.Runs.{EndsAt}
 use Rattle.spelling.specs.declared.numerals.Fit.the-variants as S
@@ -47,7 +45,7 @@ module _ (b : ℕ) (s : List ℕ) where
         unfolding scan
         as-sign e f = rw (blank-not, slash-not, quote-not, e, f)
 
-pub stands-as : {s : List ℕ} {at m n : ℕ} {x y : Scan} {f g : Lexeme} → f ≡ g → m ≡ n → x ≡ y → Stands s at n y g → Stands s at m x f
+pub stands-as : {s : List ℕ} {at : ℕ} {m n : Literal} {x y : Scan} {f g : Lexeme} → f ≡ g → m ≡ n → x ≡ y → Stands s at n y g → Stands s at m x f
 stands-as e p q h = rw (e, p, q) h
 
 -- words and numerals
@@ -61,7 +59,7 @@ more-fits (b ∷ s) = go (isIdByte b || is "." b && starts isIdStart s) (more-fi
     go false h = omega arith
 
 module _ (s : List ℕ) (at : ℕ) (h : at < length s) where
-  pub blank-stands : Stands s at 0 (blank 0) (Blank (at + 1))
+  pub blank-stands : Stands s at (plain 0) (blank 0) (Blank (at + 1))
   blank-stands =
       let e : at + 1 - (at + 1) ≡ 0 = omega arith in
       record { says = ap blank e; ends = omega arith }
@@ -69,30 +67,30 @@ module _ (s : List ℕ) (at : ℕ) (h : at < length s) where
   pub word-inside : at + 1 + wordMore (drop (at + 1) s) ≤ length s
   word-inside = omega (arith, more-fits (drop (at + 1) s), length-drop (at + 1) s)
 
-  pub word-stands : Stands s at 0 (scanWord (getD s at 0) (drop (at + 1) s)) (Token 0 (at + 1 + wordMore (drop (at + 1) s)))
+  pub word-stands : Stands s at (plain 0) (scanWord (getD s at 0) (drop (at + 1) s)) (Token 0 (at + 1 + wordMore (drop (at + 1) s)))
   word-stands =
       let n = wordMore (drop (at + 1) s) in
       let m : at + 1 + n - (at + 1) ≡ n = omega arith in
       let p = sym (part-slice at (at + 1 + n) s (omega arith)) ∙ part-first s at n (at + 1 + n) h refl in
       record { says = ap₂ (λ l i. token (word l) i) p m; ends = omega (arith, word-inside) }
 
-module _ (s : List ℕ) (at end : ℕ) (h : at < length s) (f : EndsAt s (at + 1) (span isIdByte (drop (at + 1) s)) end) (m : Magnitude) where
+module _ (s : List ℕ) (at end : ℕ) (h : at < length s) (f : EndsAt s (at + 1) (span isIdByte (drop (at + 1) s)) end) (m : Literal) where
   run : take (end - at) (drop at s) ≡ getD s at 0 ∷ take (span isIdByte (drop (at + 1) s)) (drop (at + 1) s)
   run = part-first s at (span isIdByte (drop (at + 1) s)) end h (f .far)
 
   pub numeral-fits : SpeltAs (spelling (take (end - at) (drop at s))) m S.Fits
-      → Stands s at (value m) (scanNumeral (getD s at 0) (drop (at + 1) s)) (Token 1 end)
+      → Stands s at m (scanNumeral (getD s at 0) (drop (at + 1) s)) (Token 1 end)
   numeral-fits e =
       let g = subst (λ l. SpeltAs (spelling l) m S.Fits) run e in
       let n : end - (at + 1) ≡ span isIdByte (drop (at + 1) s) = omega arith in
       record { says = rw (g .0, g .1, g .2, n); ends = omega arith }
 
   pub numeral-large : SpeltAs (spelling (take (end - at) (drop at s))) m S.TooLarge
-      → Stands s at 0 (scanNumeral (getD s at 0) (drop (at + 1) s)) TooLarge
+      → Stands s at (plain 0) (scanNumeral (getD s at 0) (drop (at + 1) s)) TooLarge
   numeral-large e =
       let g = subst (λ l. SpeltAs (spelling l) m S.TooLarge) run e in
       record { says = rw (g .0, g .1); ends = tt }
 
   pub numeral-none : SpeltAs (spelling (take (end - at) (drop at s))) m S.NoNumeral
-      → Stands s at 0 (scanNumeral (getD s at 0) (drop (at + 1) s)) NoToken
+      → Stands s at (plain 0) (scanNumeral (getD s at 0) (drop (at + 1) s)) NoToken
   numeral-none e = record { says = rw (subst (λ l. SpeltAs (spelling l) m S.NoNumeral) run e .0); ends = tt }

@@ -9,7 +9,7 @@ use native.Mathlib.Omega.{arith}
 use lib.Dec.{eqb}
 use lib.ListN.{length, getD, drop, drop-of-length-le, List·getD-eq-default}
 use borrow.Author.Tests.{eqb-true, eqb-false, eq-eqb, ne-eqb, not-true}
-use Rattle.paper.specs.Tokens.{twoBytes, scanTwo, scanSign, token, sign}
+use Rattle.paper.specs.Tokens.{twoBytes, scanTwo, scanSign, token, sign, Literal, plain}
 use Rattle.spelling.proofs.Spans.{cut}
 use Rattle.spelling.proofs.Tests.{and-both}
 use Rattle.tokens.specs.Tape.{wordNo, numeralNo, stringNo, firstSign, lastSign, signOf, tokOf}
@@ -30,7 +30,7 @@ next s at b = go (decLt at (length s))
         let k : length s ≤ at = omega arith in
         rw (drop-of-length-le s k, List·getD-eq-default s 0 k, alone b)
 
-tok-sign : (s : List ℕ) (k from to n : ℕ) → firstSign ≤ k → tokOf s k from to n ≡ sign (signOf k)
+tok-sign : (s : List ℕ) (k from to : ℕ) (n : Literal) → firstSign ≤ k → tokOf s k from to n ≡ sign (signOf k)
 tok-sign s k from to n h = rw (ne-eqb k wordNo (omega arith), ne-eqb k numeralNo (omega arith), ne-eqb k stringNo (omega arith))
 
 -- what is not 0 stands in the text
@@ -46,16 +46,16 @@ there s i h = go (decLt i (length s))
 module _ (s : List ℕ) (at : ℕ) (r : Signs) (g : Begins (getD s at 0) r) (h : at < length s) where
   stands : (k m : ℕ) → firstSign ≤ k → k ≤ lastSign → at + suc m ≤ length s
       → scanTwo (twoBytes (getD s at 0) (getD s (at + 1) 0)) (getD s at 0) ≡ token (sign (signOf k)) m
-      → Stands s at 0 (scanSign (getD s at 0) (drop (at + 1) s)) (Token k (at + suc m))
+      → Stands s at (plain 0) (scanSign (getD s at 0) (drop (at + 1) s)) (Token k (at + suc m))
   stands k m low high inside e =
       let n : at + suc m - (at + 1) ≡ m = omega arith in
       record {
-        says = ap₂ (λ t i. token t i) (tok-sign s k at (at + suc m) 0 low) n ∙ sym e ∙ sym (next s (at + 1) (getD s at 0));
+        says = ap₂ (λ t i. token t i) (tok-sign s k at (at + suc m) (plain 0) low) n ∙ sym e ∙ sym (next s (at + 1) (getD s at 0));
         ends = omega arith;
       }
 
   pub sign-two : (not (eqb (r .1) 0) && eqb (getD s (at + 1) 0) (r .0)) ≡ true
-      → Stands s at 0 (scanSign (getD s at 0) (drop (at + 1) s)) (Token (r .1) (at + 2))
+      → Stands s at (plain 0) (scanSign (getD s at 0) (drop (at + 1) s)) (Token (r .1) (at + 2))
   sign-two e =
       let both = and-both (not (eqb (r .1) 0)) (eqb (getD s (at + 1) 0) (r .0)) e in
       let range = g .double (eqb-false (r .1) 0 (not-true (eqb (r .1) 0) (both .0))) in
@@ -64,12 +64,12 @@ module _ (s : List ℕ) (at : ℕ) (r : Signs) (g : Begins (getD s at 0) r) (h :
       stands (r .1) 1 (range .0) (range .1) (omega arith) (rw (g .two (getD s (at + 1) 0), e))
 
   pub sign-one : (not (eqb (r .1) 0) && eqb (getD s (at + 1) 0) (r .0)) ≡ false → (r .2 ≡ 0 → ⊥)
-      → Stands s at 0 (scanSign (getD s at 0) (drop (at + 1) s)) (Token (r .2) (at + 1))
+      → Stands s at (plain 0) (scanSign (getD s at 0) (drop (at + 1) s)) (Token (r .2) (at + 1))
   sign-one e ne =
       let range = g .single ne in
       stands (r .2) 0 (range .0) (range .1) (omega arith) (rw (g .two (getD s (at + 1) 0), e, g .one, ne-eqb (r .2) 0 ne))
 
   pub sign-none : (not (eqb (r .1) 0) && eqb (getD s (at + 1) 0) (r .0)) ≡ false → r .2 ≡ 0
-      → Stands s at 0 (scanSign (getD s at 0) (drop (at + 1) s)) NoToken
+      → Stands s at (plain 0) (scanSign (getD s at 0) (drop (at + 1) s)) NoToken
   sign-none e z =
       record { says = rw (next s (at + 1) (getD s at 0), g .two (getD s (at + 1) 0), e, g .one, eq-eqb (r .2) 0 z); ends = tt }

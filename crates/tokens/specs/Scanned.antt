@@ -6,7 +6,7 @@ use mathlib.Core.Option.{Option, none, some}
 use mathlib.Core.List.{List}
 use lib.ListN.{length}
 use lib.Dec.{eqb}
-use Rattle.paper.specs.Tokens.{Scan, blank, token, noToken, tooLarge, Sign, twoBytes, oneByte}
+use Rattle.paper.specs.Tokens.{Literal, Scan, blank, token, noToken, tooLarge, Sign, twoBytes, oneByte}
 use Rattle.tokens.specs.Tape.{stringNo, firstSign, lastSign, signOf, tokOf}
 use Rattle.tokens.specs.declared.found.Lexeme.{Lexeme}
 use Rattle.tokens.specs.declared.found.Lexeme.the-variants as F
@@ -19,11 +19,11 @@ pub record Spans (text : List ℕ) (kind from to : ℕ) : Type 0 where
   pub inside : to ≤ length text
   pub quoted : kind ≡ stringNo → from + 2 ≤ to
 
-abbrev pub foundSays : List ℕ → ℕ → ℕ → Lexeme → Scan
-foundSays text at number (F.Blank end) = blank (end - (at + 1))
-foundSays text at number (F.Token kind end) = token (tokOf text kind at end number) (end - (at + 1))
-foundSays text at number F.NoToken = noToken
-foundSays text at number F.TooLarge = tooLarge
+abbrev pub foundSays : List ℕ → ℕ → Literal → Lexeme → Scan
+foundSays text at literal (F.Blank end) = blank (end - (at + 1))
+foundSays text at literal (F.Token kind end) = token (tokOf text kind at end literal) (end - (at + 1))
+foundSays text at literal F.NoToken = noToken
+foundSays text at literal F.TooLarge = tooLarge
 
 abbrev pub Ends : List ℕ → ℕ → Lexeme → Type 0
 Ends text at (F.Blank end) = (at < end) × (end ≤ length text)
@@ -32,8 +32,8 @@ Ends text at F.NoToken = Unit {0}
 Ends text at F.TooLarge = Unit {0}
 
 -- what stands at a byte is what the paper scans there
-pub record Stands (text : List ℕ) (at number : ℕ) (scanned : Scan) (found : Lexeme) : Type 0 where
-  pub says : foundSays text at number found ≡ scanned
+pub record Stands (text : List ℕ) (at : ℕ) (literal : Literal) (scanned : Scan) (found : Lexeme) : Type 0 where
+  pub says : foundSays text at literal found ≡ scanned
   pub ends : Ends text at found
 
 -- the kind of a sign, 0 for none

@@ -1,14 +1,15 @@
 -- How the tokens of a text stand on a tape, a slice of numbers: a row of eight words for each token, which are its kind, its
--- first byte, the byte past its last, the four limbs of a numeral's number, and a word that is free.
+-- first byte, the byte past its last, the four limbs of a numeral's number, and the radix of its base.
 use Prim.Native.Nat.{ℕ, zero, suc, _+_, _*_, _-_, _≤_}
 use mathlib.Core.Bool.{cond}
 use mathlib.Core.List.{List, [], _∷_}
 use lib.ListN.{length, getD}
 use lib.Seq.{slice}
 use lib.Dec.{eqb}
-use Rattle.paper.specs.Tokens.{Sign, join, comparison, prefix, opening, closing, colons, sequel, implies, orElse, andAlso, equal, unequal, greater, atLeast, less, atMost, notSign, minusSign, Tok, word, numeral, string, sign, Token, plain, mostTokens}
+use Rattle.paper.specs.Tokens.{Sign, join, comparison, prefix, opening, closing, colons, sequel, implies, orElse, andAlso, equal, unequal, greater, atLeast, less, atMost, notSign, minusSign, Tok, word, numeral, string, sign, Token, radix, Literal, literalIn, mostTokens}
 use Rattle.number.specs.Values.{nested, limb}
-use Rattle.number.specs.declared.magnitude.Magnitude.{Magnitude}
+use Rattle.number.specs.Bases.{baseMeant, ofRadix}
+use Rattle.number.specs.declared.base.Literal as N
 
 -- a text and the rows of its tokens
 pub record Tape : Type 0 where
@@ -50,8 +51,13 @@ endAt rows i = wordAt rows i 2
 abbrev pub numberAt : List ℕ → ℕ → ℕ
 numberAt rows i = nested (wordAt rows i 3) (wordAt rows i 4) (wordAt rows i 5) (wordAt rows i 6)
 
-abbrev pub rowOf : ℕ → ℕ → ℕ → Magnitude → List ℕ
-rowOf kind from to m = kind ∷ from ∷ to ∷ limb m 0 ∷ limb m 1 ∷ limb m 2 ∷ limb m 3 ∷ 0 ∷ []
+abbrev pub literalAt : List ℕ → ℕ → Literal
+literalAt rows i = literalIn (baseMeant (ofRadix (wordAt rows i 7))) (numberAt rows i)
+
+abbrev pub rowOf : ℕ → ℕ → ℕ → N.Literal → List ℕ
+rowOf kind from to l =
+    let m = l .number in
+    kind ∷ from ∷ to ∷ limb m 0 ∷ limb m 1 ∷ limb m 2 ∷ limb m 3 ∷ radix (baseMeant (l .base)) ∷ []
 
 -- kinds
 
@@ -128,15 +134,15 @@ signOf n =
 
 -- tokens
 
--- a token by its kind, from a byte up to another, with a numeral's number
-abbrev pub tokOf : List ℕ → ℕ → ℕ → ℕ → ℕ → Tok
-tokOf text kind from to number =
+-- a token by its kind, from a byte up to another, with a numeral's literal
+abbrev pub tokOf : List ℕ → ℕ → ℕ → ℕ → Literal → Tok
+tokOf text kind from to literal =
     cond (eqb kind wordNo) (word (slice from to text))
-    (cond (eqb kind numeralNo) (numeral (plain number))
+    (cond (eqb kind numeralNo) (numeral literal)
     (cond (eqb kind stringNo) (string (slice (from + 1) (to - 1) text)) (sign (signOf kind))))
 
 abbrev pub tokOn : Tape → ℕ → Tok
-tokOn T i = tokOf (T .text) (kindAt (T .rows) i) (startAt (T .rows) i) (endAt (T .rows) i) (numberAt (T .rows) i)
+tokOn T i = tokOf (T .text) (kindAt (T .rows) i) (startAt (T .rows) i) (endAt (T .rows) i) (literalAt (T .rows) i)
 
 abbrev pub tokenOn : Tape → ℕ → Token
 tokenOn T i = record { at = startAt (T .rows) i; tok = tokOn T i }

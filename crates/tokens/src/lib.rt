@@ -42,12 +42,12 @@ pub fn tokenize(text: &[u8], tape: &mut [u32]) -> Counted
                 if n == MOST_TOKENS {
                     return Counted::Refused(refused::TOKENS_MANY, Place::Text(at));
                 }
-                let number = scanned.number;
+                let literal = scanned.literal;
                 let row = Row {
                     kind: kind,
                     start: at,
                     end: end,
-                    number: number,
+                    literal: literal,
                 };
                 rows::put(tape, n, row);
                 n += 1;

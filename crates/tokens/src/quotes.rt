@@ -1,7 +1,7 @@
 // Strings and comments.
 ghost use Prim.Native.Nat.{_+_, _<_};
 ghost use lib.ListN.{length, drop};
-ghost use Rattle.paper.specs.Tokens.{scanString, scanComment};
+ghost use Rattle.paper.specs.Tokens.{scanString, scanComment, plain};
 ghost use Rattle.tokens.specs.Scanned.{Stands};
 use crate::found::Lexeme;
 use crate::kinds;
@@ -11,7 +11,7 @@ use spelling::runs::Run;
 // After a quote: bytes other than quote and LF, and a quote.
 pub(crate) fn string(text: &[u8], at: usize) -> Lexeme
     requires { ⌜ at < length (now text) ⌝ }
-    ensures { λ r. ⌜ Stands (now (text .entry)) at 0 (scanString (drop (at + 1) (now (text .entry)))) r ⌝ }
+    ensures { λ r. ⌜ Stands (now (text .entry)) at (plain 0) (scanString (drop (at + 1) (now (text .entry)))) r ⌝ }
 {
     let end = runs::run_end(text, at + 1, Run::Quoted);
     if text.len() <= end {
@@ -26,7 +26,7 @@ pub(crate) fn string(text: &[u8], at: usize) -> Lexeme
 // After a slash: another one, and what is left of the line.
 pub(crate) fn comment(text: &[u8], at: usize) -> Lexeme
     requires { ⌜ at < length (now text) ⌝ }
-    ensures { λ r. ⌜ Stands (now (text .entry)) at 0 (scanComment (drop (at + 1) (now (text .entry)))) r ⌝ }
+    ensures { λ r. ⌜ Stands (now (text .entry)) at (plain 0) (scanComment (drop (at + 1) (now (text .entry)))) r ⌝ }
 {
     let next = at + 1;
     if text.len() <= next {

@@ -1,20 +1,22 @@
 // The rows of a tape: eight words for each token, in the order of the tokens.
 //
-// A row holds the token's kind, its first byte, the byte past its last, the four limbs of a numeral's number, and a word
-// that is free. specs/Tape.antt has the definition.
+// A row holds the token's kind, its first byte, the byte past its last, the four limbs of a numeral's number, and its base.
+// specs/Tape.antt has the definition.
 ghost use mathlib.Core.Path.{_≡_};
 ghost use Prim.Native.Nat.{_^_, _<_};
 ghost use lib.Seq.{sets};
-ghost use Rattle.number.specs.Values.{value};
-ghost use Rattle.tokens.specs.Tape.{Has, rowAt, kindAt, startAt, endAt, numberAt, rowOf};
+ghost use Rattle.number.specs.Bases.{literalMeant};
+ghost use Rattle.tokens.specs.Tape.{Has, rowAt, kindAt, startAt, endAt, literalAt, rowOf};
+use number::Base;
+use number::Literal;
 use number::Magnitude;
 
-// A token as it is stored. The number is that of a numeral.
+// A token as it is stored. The literal is that of a numeral.
 pub struct Row {
     pub kind: u32,
     pub start: usize,
     pub end: usize,
-    pub number: Magnitude,
+    pub literal: Literal,
 }
 
 impl Row {
@@ -45,14 +47,17 @@ pub fn end_at(tape: &[u32], token: usize) -> u32
     tape[token * Row::WORDS + 2]
 }
 
-// A numeral's number.
-pub fn number_at(tape: &[u32], token: usize) -> Magnitude
+// A numeral's number, and its base.
+pub fn literal_at(tape: &[u32], token: usize) -> Literal
     requires { ⌜ Has (now tape) token ⌝ }
-    ensures { λ r. ⌜ value r ≡ numberAt (now (tape .entry)) token ⌝ }
+    ensures { λ r. ⌜ literalMeant r ≡ literalAt (now (tape .entry)) token ⌝ }
 {
     let at = token * Row::WORDS;
-    Magnitude {
-        limbs: [tape[at + 3], tape[at + 4], tape[at + 5], tape[at + 6]],
+    Literal {
+        base: Base::of_radix(tape[at + 7]),
+        number: Magnitude {
+            limbs: [tape[at + 3], tape[at + 4], tape[at + 5], tape[at + 6]],
+        },
     }
 }
 
@@ -60,9 +65,11 @@ pub fn number_at(tape: &[u32], token: usize) -> Magnitude
 pub(crate) fn put(tape: &mut [u32], token: usize, row: Row)
     requires { ⌜ Has (now tape) token ⌝ }
     requires { ⌜ (row .start < 2 ^ 32) × (row .end < 2 ^ 32) ⌝ }
-    ensures { λ _. ⌜ now (tape .exit) ≡ sets (now (tape .entry)) (rowAt token) (rowOf (row .kind) (row .start) (row .end) (row .number)) ⌝ }
+    ensures { λ _. ⌜ now (tape .exit) ≡ sets (now (tape .entry)) (rowAt token) (rowOf (row .kind) (row .start) (row .end) (row .literal)) ⌝ }
 {
-    let number = row.number;
+    let literal = row.literal;
+    let base = literal.base;
+    let number = literal.number;
     let at = token * Row::WORDS;
     tape[at] = row.kind;
     tape[at + 1] = row.start as u32;
@@ -71,5 +78,5 @@ pub(crate) fn put(tape: &mut [u32], token: usize, row: Row)
     tape[at + 4] = number.limbs[1];
     tape[at + 5] = number.limbs[2];
     tape[at + 6] = number.limbs[3];
-    tape[at + 7] = 0;
+    tape[at + 7] = base.radix();
 }

@@ -3,12 +3,13 @@ ghost use mathlib.Core.Path.{_≡_};
 ghost use Prim.Native.Nat.{_+_, _<_};
 ghost use lib.ListN.{length, getD, drop};
 ghost use Rattle.paper.specs.Tokens as paper;
-ghost use Rattle.number.specs.Values.{value};
+ghost use Rattle.number.specs.Bases.{literalMeant};
 ghost use Rattle.tokens.specs.Scanned.{Stands};
 use crate::found::Lexeme;
 use crate::kinds;
 use crate::quotes;
 use crate::signs;
+use number::Literal;
 use number::Magnitude;
 use spelling::bytes;
 use spelling::numerals;
@@ -16,24 +17,24 @@ use spelling::numerals::Fit;
 use spelling::runs;
 use spelling::runs::Run;
 
-// The number is that of a numeral.
+// The literal is that of a numeral.
 pub struct Scanned {
     pub found: Lexeme,
-    pub number: Magnitude,
+    pub literal: Literal,
 }
 
 fn unnumbered(found: Lexeme) -> Scanned
-    ensures { λ r. ⌜ (r .found ≡ found) × (value (r .number) ≡ 0) ⌝ }
+    ensures { λ r. ⌜ (r .found ≡ found) × (literalMeant (r .literal) ≡ paper.plain 0) ⌝ }
 {
     Scanned {
         found: found,
-        number: Magnitude::zero(),
+        literal: Literal::plain(Magnitude::zero()),
     }
 }
 
 fn word(text: &[u8], at: usize) -> Lexeme
     requires { ⌜ at < length (now text) ⌝ }
-    ensures { λ r. ⌜ Stands (now (text .entry)) at 0 (paper.scanWord (getD (now (text .entry)) at 0) (drop (at + 1) (now (text .entry)))) r ⌝ }
+    ensures { λ r. ⌜ Stands (now (text .entry)) at (paper.plain 0) (paper.scanWord (getD (now (text .entry)) at 0) (drop (at + 1) (now (text .entry)))) r ⌝ }
 {
     let next = at + 1;
     Lexeme::Token(kinds::WORD, next + spelling::word::word_more(text, next))
@@ -41,16 +42,16 @@ fn word(text: &[u8], at: usize) -> Lexeme
 
 fn numeral(text: &[u8], at: usize) -> Scanned
     requires { ⌜ at < length (now text) ⌝ }
-    ensures { λ r. ⌜ Stands (now (text .entry)) at (value (r .number)) (paper.scanNumeral (getD (now (text .entry)) at 0) (drop (at + 1) (now (text .entry)))) (r .found) ⌝ }
+    ensures { λ r. ⌜ Stands (now (text .entry)) at (literalMeant (r .literal)) (paper.scanNumeral (getD (now (text .entry)) at 0) (drop (at + 1) (now (text .entry)))) (r .found) ⌝ }
 {
     let end = runs::run_end(text, at + 1, Run::Name);
     let read = numerals::read_numeral(&text[at..end]);
     let sort = read.sort;
-    let number = read.number;
+    let literal = read.literal;
     match sort {
         Fit::Fits => Scanned {
             found: Lexeme::Token(kinds::NUMERAL, end),
-            number: number,
+            literal: literal,
         },
         Fit::TooLarge => unnumbered(Lexeme::TooLarge),
         Fit::NoNumeral => unnumbered(Lexeme::NoToken),
@@ -60,7 +61,7 @@ fn numeral(text: &[u8], at: usize) -> Scanned
 // What stands at an offset.
 pub(crate) fn scan(text: &[u8], at: usize) -> Scanned
     requires { ⌜ at < length (now text) ⌝ }
-    ensures { λ r. ⌜ Stands (now (text .entry)) at (value (r .number)) (paper.scan (getD (now (text .entry)) at 0) (drop (at + 1) (now (text .entry)))) (r .found) ⌝ }
+    ensures { λ r. ⌜ Stands (now (text .entry)) at (literalMeant (r .literal)) (paper.scan (getD (now (text .entry)) at 0) (drop (at + 1) (now (text .entry)))) (r .found) ⌝ }
 {
     let byte = text[at];
     if bytes::is_blank(byte) {

@@ -4,7 +4,7 @@ ghost use mathlib.Core.Bool.{_&&_, not};
 ghost use Prim.Native.Nat.{_+_, _<_};
 ghost use lib.ListN.{length, getD, drop};
 ghost use lib.Dec.{eqb};
-ghost use Rattle.paper.specs.Tokens.{scanSign};
+ghost use Rattle.paper.specs.Tokens.{scanSign, plain};
 ghost use Rattle.tokens.specs.Scanned.{Stands, Begins};
 use crate::found::Lexeme;
 use crate::kinds;
@@ -51,7 +51,7 @@ fn takes_two(signs: Signs, next: u8) -> bool
 // The longest sign at an offset.
 pub(crate) fn sign(text: &[u8], at: usize) -> Lexeme
     requires { ⌜ at < length (now text) ⌝ }
-    ensures { λ r. ⌜ Stands (now (text .entry)) at 0 (scanSign (getD (now (text .entry)) at 0) (drop (at + 1) (now (text .entry)))) r ⌝ }
+    ensures { λ r. ⌜ Stands (now (text .entry)) at (plain 0) (scanSign (getD (now (text .entry)) at 0) (drop (at + 1) (now (text .entry)))) r ⌝ }
 {
     let signs = signs_from(text[at]);
     if takes_two(signs, byte_or_zero(text, at + 1)) {

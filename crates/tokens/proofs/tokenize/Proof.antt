@@ -7,7 +7,8 @@ use mathlib.Core.Path.{_≡_, refl}
 use mathlib.Core.List.{List}
 use lib.ListN.{length}
 use borrow.Author.Needs.{needs}
-use Rattle.number.specs.Values.{value}
+use Rattle.paper.specs.Tokens.{Literal}
+use Rattle.number.specs.Bases.{literalMeant}
 use Rattle.tokens.specs.Tape.{tapeOf, Has}
 use Rattle.tokens.specs.declared.found.Lexeme.{Lexeme}
 use Rattle.tokens.specs.declared.found.Lexeme.the-variants as F
@@ -43,8 +44,8 @@ n c = at-loop c .loop .n
 abbrev at : Scanned → ℕ
 at c = at-loop c .loop .at
 
-abbrev number : Scanned → ℕ
-number c = value (c .scan .result .number)
+abbrev literal : Scanned → Literal
+literal c = literalMeant (c .scan .result .literal)
 
 going : (c : Scanned) → Going (tapeOf (text c) (rows c)) (n c) (at c)
 going c = at-loop c .loop .inv .1
@@ -52,7 +53,7 @@ going c = at-loop c .loop .inv .1
 more : (c : Scanned) → at c < length (text c)
 more c = c .before .loop-test .taken
 
-here : (c : Scanned) (f : Lexeme) → c .scan .result .found ≡ f → Here (text c) (at c) (number c) f
+here : (c : Scanned) (f : Lexeme) → c .scan .result .found ≡ f → Here (text c) (at c) (literal c) f
 here c f e = rw e at (c .scan .ensures)
 
 -- a blank
@@ -61,7 +62,7 @@ blank : tie.Need-loop-again Inv-loop μ-loop
 blank c =
     let scanned = c .before .before .before in
     let found = c .before .found .given in
-    (at-loop scanned .loop .inv .0, going-blank (text scanned) (rows scanned) (n scanned) (at scanned) (going scanned) (more scanned) (number scanned) (found .0 .0) (here scanned _ (found .1)))
+    (at-loop scanned .loop .inv .0, going-blank (text scanned) (rows scanned) (n scanned) (at scanned) (going scanned) (more scanned) (literal scanned) (found .0 .0) (here scanned _ (found .1)))
 
 blank-taken : tie.Need-loop-less Inv-loop μ-loop
 blank-taken c =
@@ -83,14 +84,14 @@ kind c = c .before .found2 .given .0 .0
 abbrev end : Token → ℕ
 end c = c .before .found2 .given .0 .1 .0
 
-token-here : (c : Token) → Here (text (token-scanned c)) (at (token-scanned c)) (number (token-scanned c)) (F.Token (kind c) (end c))
+token-here : (c : Token) → Here (text (token-scanned c)) (at (token-scanned c)) (literal (token-scanned c)) (F.Token (kind c) (end c))
 token-here c = here (token-scanned c) _ (c .before .found2 .given .1)
 
 too-many : tie.Need-returns Inv-loop μ-loop
 too-many c =
     let t : Token = c .before in
     let s = token-scanned t in
-    (going-full (text s) (rows s) (n s) (at s) (going s) (more s) (number s) (kind t) (end t) (c .if1 .taken) (token-here t), tt)
+    (going-full (text s) (rows s) (n s) (at s) (going s) (more s) (literal s) (kind t) (end t) (c .if1 .taken) (token-here t), tt)
 
 -- there is a row for it
 has-row : (c : tie.Else1 Inv-loop μ-loop) → Has (rows (token-scanned (c .before))) (n (token-scanned (c .before)))
@@ -121,7 +122,7 @@ stored c =
     let t = stored-token put in
     let s = token-scanned t in
     let few = put .before .before .before in
-    (omega (arith, put .put .kept, at-loop s .loop .inv .0), going-token (text s) (rows s) (n s) (at s) (going s) (more s) _ (kind t) (end t) (s .scan .result .number) (omega (arith, going s .few, few .if1 .left)) (has-row few) (put .put .ensures) (token-here t))
+    (omega (arith, put .put .kept, at-loop s .loop .inv .0), going-token (text s) (rows s) (n s) (at s) (going s) (more s) _ (kind t) (end t) (s .scan .result .literal) (omega (arith, going s .few, few .if1 .left)) (has-row few) (put .put .ensures) (token-here t))
 
 token-taken : tie.Need-loop-less-2 Inv-loop μ-loop
 token-taken c = let t = stored-token (c .before .before) in omega (arith, token-here t .ends)
@@ -131,12 +132,12 @@ token-taken c = let t = stored-token (c .before .before) in omega (arith, token-
 no-token : tie.Need-returns-2 Inv-loop μ-loop
 no-token c =
     let s = c .before .before in
-    (going-none (text s) (rows s) (n s) (at s) (going s) (more s) (number s) (here s _ (c .enum-told .given .1)), tt)
+    (going-none (text s) (rows s) (n s) (at s) (going s) (more s) (literal s) (here s _ (c .enum-told .given .1)), tt)
 
 too-large : tie.Need-returns-3 Inv-loop μ-loop
 too-large c =
     let s = c .before .before in
-    (going-large (text s) (rows s) (n s) (at s) (going s) (more s) (number s) (here s _ (c .enum-told2 .given .1)), tt)
+    (going-large (text s) (rows s) (n s) (at s) (going s) (more s) (literal s) (here s _ (c .enum-told2 .given .1)), tt)
 
 -- the end
 

@@ -1,22 +1,26 @@
--- `tokens::number_at` meets its contract: the value of four limbs is that of the four words.
-use mathlib.Core.Path.{refl}
+-- `tokens::literal_at` meets its contract: the value of four limbs is that of the four words, and the base that of the last.
 use borrow.Author.Needs.{needs}
 use Rattle.number.specs.Values.{value}
-use Rattle.tokens.proofs.rows.number_at.Statement.{statement}
-use Rattle.tokens.proofs.rows.number_at.Tie as tie
+use Rattle.tokens.proofs.rows.literal_at.Statement.{statement}
+use Rattle.tokens.proofs.rows.literal_at.Tie as tie
 
-nested : tie.Need-returns
+-- where the base is known
+abbrev base-at : tie.After-shared-slice-known6 → tie.After-of-radix
+base-at c = c .before .before .before .before
+
+returns : tie.Need-returns
 unfolding value
-nested c = refl
+returns c = rw (base-at c .of-radix .ensures)
 
-pub number-at-spec : {M : Type 1} → statement M
-number-at-spec =
+pub literal-at-spec : {M : Type 1} → statement M
+literal-at-spec =
     tie.close
     (tie.spec
     (λ c. search needs)
     (λ c. search needs)
     (λ c. search needs)
     (λ c. search needs)
+    (λ c κs. search needs)
     (λ c. search needs)
     (λ c. search needs)
     (λ c. search needs)
@@ -26,4 +30,7 @@ number-at-spec =
     (λ c. search needs)
     (λ c. search needs)
     (λ c. search needs)
-    nested)
+    (λ c. search needs)
+    (λ c. search needs)
+    (λ c. search needs)
+    returns)

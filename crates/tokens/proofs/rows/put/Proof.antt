@@ -6,6 +6,9 @@ use borrow.Author.Needs.{needs}
 use Rattle.tokens.proofs.rows.put.Statement.{statement}
 use Rattle.tokens.proofs.rows.put.Tie as tie
 
+returns : tie.Need-returns
+returns c = rw (c .radix .ensures .0) (simp towards-suc)
+
 pub put-spec : {M : Type 1} → statement M
 put-spec =
     tie.close
@@ -37,8 +40,9 @@ put-spec =
     (λ c. search needs)
     (λ c. search needs)
     (λ c. simp length-set (omega arith))
+    (λ c κs. search needs)
     (λ c. search needs)
     (λ c. search needs)
     (λ c. simp length-set (omega arith))
     (λ c. simp length-set)
-    (λ c. simp towards-suc))
+    returns)

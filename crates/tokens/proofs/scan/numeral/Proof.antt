@@ -1,6 +1,7 @@
 -- `tokens::numeral` meets its contract: the run of letters and digits is a numeral that fits, one that is too large, or none.
 use mathlib.Core.Path.{refl}
 use borrow.Author.Needs.{needs}
+use Rattle.number.specs.Bases.{literalMeant}
 use Rattle.tokens.proofs.Scans.{stands-as, numeral-fits, numeral-large, numeral-none}
 use Rattle.tokens.proofs.scan.numeral.Statement.{statement}
 use Rattle.tokens.proofs.scan.numeral.Tie as tie
@@ -17,7 +18,7 @@ fits c =
     let read : tie.After-read-numeral = c .before .before .before in
     let end = run read .run-end in
     let numeral = read .read-numeral in
-    numeral-fits (start read .args .text .now) (start read .args .at) (end .result) (search needs) (end .ensures) (numeral .result .number) (rw (c .enum-told .given .1) at (numeral .ensures))
+    numeral-fits (start read .args .text .now) (start read .args .at) (end .result) (search needs) (end .ensures) (literalMeant (numeral .result .literal)) (rw (c .enum-told .given .1) at (numeral .ensures))
 
 too-large : tie.Need-returns-2
 too-large c =
@@ -26,7 +27,7 @@ too-large c =
     let end = run read .run-end in
     let numeral = read .read-numeral in
     stands-as (c .unnumbered .ensures .0) (c .unnumbered .ensures .1) refl
-    (numeral-large (start read .args .text .now) (start read .args .at) (end .result) (search needs) (end .ensures) (numeral .result .number) (rw (told .enum-told2 .given .1) at (numeral .ensures)))
+    (numeral-large (start read .args .text .now) (start read .args .at) (end .result) (search needs) (end .ensures) (literalMeant (numeral .result .literal)) (rw (told .enum-told2 .given .1) at (numeral .ensures)))
 
 none : tie.Need-returns-3
 none c =
@@ -35,7 +36,7 @@ none c =
     let end = run read .run-end in
     let numeral = read .read-numeral in
     stands-as (c .unnumbered2 .ensures .0) (c .unnumbered2 .ensures .1) refl
-    (numeral-none (start read .args .text .now) (start read .args .at) (end .result) (search needs) (end .ensures) (numeral .result .number) (rw (told .enum-told3 .given .1) at (numeral .ensures)))
+    (numeral-none (start read .args .text .now) (start read .args .at) (end .result) (search needs) (end .ensures) (literalMeant (numeral .result .literal)) (rw (told .enum-told3 .given .1) at (numeral .ensures)))
 
 pub numeral-spec : {M : Type 1} → statement M
 numeral-spec =

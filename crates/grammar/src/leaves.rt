@@ -7,7 +7,7 @@ ghost use Rattle.paper.specs.Addresses.{address};
 ghost use Rattle.paper.specs.Grammar as G;
 ghost use Rattle.paper.specs.Tokens as paper;
 ghost use Rattle.addresses.specs.Reads as addressed;
-ghost use Rattle.tokens.specs.Tape.{tapeOf, Has, startAt, endAt, numberAt};
+ghost use Rattle.tokens.specs.Tape.{tapeOf, Has, startAt, endAt, literalAt};
 ghost use Rattle.trees.specs.Words.{leafWords, words};
 ghost use Rattle.grammar.specs.Ladder as L;
 ghost use Rattle.grammar.specs.Places.{Fits, nodeAt, placeOn, wordOn, past, onward};
@@ -24,6 +24,7 @@ use crate::tape::string_at;
 use crate::tape::word_at;
 use addresses::Scheme;
 use addresses::SchemeName;
+use number::Literal;
 use paper::refused::ADDRESS;
 use paper::refused::GRAMMAR;
 use paper::refused::LEVELS_MANY;
@@ -38,7 +39,7 @@ use tokens::kinds::STRING;
 use tokens::kinds::WORD;
 use tokens::rows::end_at;
 use tokens::rows::kind_at;
-use tokens::rows::number_at;
+use tokens::rows::literal_at;
 use tokens::rows::start_at;
 
 // A leaf. What would open a level is refused.
@@ -98,9 +99,9 @@ fn numeral(tape: &[u32], at: usize, free: usize, nodes: &mut [u32]) -> Taken
     requires { ⌜ Fits (now nodes) free × Has (now tape) at × (at < paper.mostTokens) ⌝ }
     ensures { λ r. ⌜ (r ≡ Taken.Tree (free + 1) (at + 1))
         × (now (nodes .exit) ≡ sets (now (nodes .entry)) (nodeAt free)
-        (words free (G.number (startAt (now (tape .entry)) at) (paper.plain (numberAt (now (tape .entry)) at))))) ⌝ }
+        (words free (G.number (startAt (now (tape .entry)) at) (literalAt (now (tape .entry)) at)))) ⌝ }
 {
-    put_number(tape, nodes, free, at, number_at(tape, at));
+    put_number(tape, nodes, free, at, literal_at(tape, at));
     Taken::Tree(free + 1, at + 1)
 }
 
@@ -217,7 +218,8 @@ fn addressed(text: &[u8], tape: &[u32], scheme: Scheme, from: Start, nodes: &mut
     if !read.ok {
         return Taken::Refused(ADDRESS, place_at(text, tape, count, quote));
     }
+    // "address numerals stay decimal"
     let number = read.number;
-    put_number(tape, nodes, free, at, number);
+    put_number(tape, nodes, free, at, Literal::plain(number));
     close(text, tape, count, free + 1, quote + 1)
 }

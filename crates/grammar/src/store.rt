@@ -2,14 +2,14 @@
 ghost use mathlib.Core.Path.{_≡_};
 ghost use Prim.Native.Nat.{_≤_, _<_};
 ghost use lib.Seq.{sets};
-ghost use Rattle.paper.specs.Tokens.{plain, mostTokens};
+ghost use Rattle.paper.specs.Tokens.{mostTokens};
 ghost use Rattle.paper.specs.Grammar as G;
-ghost use Rattle.number.specs.Values.{value};
+ghost use Rattle.number.specs.Bases.{literalMeant};
 ghost use Rattle.tokens.specs.Tape.{Has, startAt, endAt, firstJoin, lastJoin, firstComparison, lastComparison, firstPrefix, lastPrefix};
 ghost use Rattle.trees.specs.Standing.{prefixMeant, joinMeant, comparisonMeant};
 ghost use Rattle.trees.specs.Words.{leafWords, operatorWords, words, prefixNo, joinNo, comparisonNo, operatorNo};
 ghost use Rattle.grammar.specs.Places.{Fits, nodeAt, joinedKind, prefixedKind};
-use number::Magnitude;
+use number::Literal;
 use tokens::kinds::AT_LEAST;
 use tokens::kinds::EQUAL;
 use tokens::kinds::GREATER;
@@ -61,12 +61,12 @@ pub(crate) fn put_number(
     nodes: &mut [u32],
     node: usize,
     token: usize,
-    number: Magnitude,
+    literal: Literal,
 )
     requires { ⌜ Fits (now nodes) node × Has (now tape) token ⌝ }
-    ensures { λ _. ⌜ now (nodes .exit) ≡ sets (now (nodes .entry)) (nodeAt node) (words node (G.number (startAt (now (tape .entry)) token) (plain (value number)))) ⌝ }
+    ensures { λ _. ⌜ now (nodes .exit) ≡ sets (now (nodes .entry)) (nodeAt node) (words node (G.number (startAt (now (tape .entry)) token) (literalMeant literal))) ⌝ }
 {
-    trees::put_number(nodes, node, start_at(tape, token), number);
+    trees::put_number(nodes, node, start_at(tape, token), literal);
 }
 
 // The operators of signs.

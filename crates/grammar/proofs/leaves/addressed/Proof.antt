@@ -1,21 +1,25 @@
 -- `grammar::addressed` meets its contract: a string after the "(", what the address of its scheme is, and a ")" after it.
 use Prim.Native.Nat.{ℕ, _+_, _-_}
 use native.Mathlib.Omega.{arith}
-use mathlib.Core.Path.{_≡_, refl, sym, ap, _∙_}
+use mathlib.Core.Path.{_≡_, refl, sym, ap, ap₂, _∙_}
 use mathlib.Core.Bool.{Bool}
 use mathlib.Core.Option.{none, some}
 use mathlib.Core.List.{List}
 use borrow.Author.Needs.{needs}
 use borrow.Author.Tests.{not-true, not-false}
 use lib.ListN.{length}
-use lib.Seq.{slice}
-use Rattle.paper.specs.Tokens.{plain}
+use lib.Seq.{sets, slice}
+use Rattle.paper.specs.Tokens.{Literal, literalIn, plain}
 use Rattle.paper.specs.Addresses.{Scheme, address, only}
 use Rattle.paper.specs.Grammar as G
 use Rattle.number.specs.Values.{value}
+use Rattle.number.specs.Bases.{baseMeant, literalMeant}
+use Rattle.number.specs.declared.base.Base.{Base}
+use Rattle.number.specs.declared.magnitude.Magnitude.{Magnitude}
 use Rattle.addresses.specs.Reads.{scheme}
 use Rattle.tokens.specs.Tape.{Tape, tapeOf, startAt, endAt, stringNo}
-use Rattle.grammar.specs.Places.{placeOn}
+use Rattle.trees.specs.Words.{words}
+use Rattle.grammar.specs.Places.{placeOn, nodeAt}
 use Rattle.grammar.specs.Reading.{Seen, Ready}
 use Rattle.grammar.proofs.Outcomes.{found, absent, stuck-as, bad-as, same-out, has-row, in-text}
 use Rattle.grammar.proofs.Atoms.{took-leaf, addressed-here, addressed-not}
@@ -103,10 +107,26 @@ abbrev Stored : Type 0
 Stored = tie.After-put-number
 
 abbrev stored-else : Stored → tie.Else1
-stored-else c = c .before .before .before
+stored-else c = c .before .before .before .before
 
 abbrev stored-read : Stored → Read
 stored-read c = stored-else c .before .before
+
+-- as a plain number
+stored-plain : (c : Stored) → literalMeant (c .before .plain .result) ≡ plain (value (stored-read c .read .result .number))
+stored-plain c =
+    let made = c .before .plain .ensures in
+    ap₂ (λ (b : Base) (m : Magnitude). literalIn (baseMeant b) (value m)) (made .0) (made .1)
+
+-- both numbers that `close` is given are small: the text has few tokens, and no more nodes are used
+abbrev stored-looked : tie.After-slice-known2 → tie.After-next-in
+stored-looked c = read-looked (stored-read (c .before .before))
+
+free-fits : tie.Need-add-close
+free-fits c = let r = ready (stored-looked c) in omega (arith, r .used, r .here, r .sound .cut .few)
+
+quote-fits : tie.Need-add-close-2
+quote-fits c = let r = ready (stored-looked c) in omega (arith, r .here, r .sound .cut .few)
 
 good : tie.Need-returns-3
 good c =
@@ -118,7 +138,9 @@ good c =
     let e : address (kind a) (bytes read) ≡ some (value m) = is-read read ∙ sym (read .read .ensures .says) ∙ ap (λ (ok : Bool). only ok (value m)) (not-false (read .read .result .ok) (stored-else put .if1 .left)) in
     same-out (T a) (n a) (at a) (free a) _ _ _ _ (addressed-here (T a) (n a) (quote a) address (kind a) _ f ∙ rw e) (c .close .result)
     (close-on (T a) (n a) (at a) (at a) (free a) _ _ _ (free a + 1) (quote a + 1)
-    (took-leaf (G.number (placeOn (T a) (at a)) (plain (value m))) (quote a + 1) (quote a + 1) refl refl refl (put .put-number .ensures) tt (omega arith) (omega (arith, f .here)))
+    (took-leaf (G.number (placeOn (T a) (at a)) (plain (value m))) (quote a + 1) (quote a + 1) refl refl refl
+    (put .put-number .ensures ∙ ap (λ (l : Literal). sets (start a .args .nodes .now) (nodeAt (free a)) (words (free a) (G.number (placeOn (T a) (at a)) l))) (stored-plain put))
+    tt (omega arith) (omega (arith, f .here)))
     (omega arith) (c .close .result) (c .close .ensures))
 
 pub addressed-spec : {M : Type 1} → statement M
@@ -136,8 +158,9 @@ addressed-spec =
     (λ c κs. search needs)
     bad
     (λ c κs. search needs)
-    (λ c. search needs)
-    (λ c. search needs)
+    (λ c κs. search needs)
+    free-fits
+    quote-fits
     (λ c κs. search needs)
     (λ c. search needs)
     good)

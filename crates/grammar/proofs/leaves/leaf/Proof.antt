@@ -4,9 +4,8 @@ use native.Mathlib.Omega.{arith}
 use mathlib.Core.Path.{_≡_, refl, sym, _∙_}
 use mathlib.Core.Logic.{_⊎_, ⊎-elim, inl, inr}
 use borrow.Author.Needs.{needs}
-use Rattle.paper.specs.Tokens.{plain}
 use Rattle.paper.specs.Grammar as G
-use Rattle.tokens.specs.Tape.{Tape, tapeOf, kindAt, numberAt}
+use Rattle.tokens.specs.Tape.{Tape, tapeOf, kindAt, literalAt}
 use Rattle.grammar.specs.Places.{placeOn}
 use Rattle.grammar.proofs.Outcomes.{stuck-as, deep-as, took-as, same-out, has-row, in-text}
 use Rattle.grammar.proofs.Atoms.{took-leaf, leaf-word, leaf-numeral, leaf-deep, leaf-colons, leaf-none, leaf-end}
@@ -72,7 +71,7 @@ numeral c =
     let read = keys .before in
     let o = numeral-at .numeral .ensures in
     took-as (T read) (n read) (at read) (free read) _ _ _ (numeral-at .numeral .result) (o .0)
-    (took-leaf (G.number (placeOn (T read) (at read)) (plain (numberAt (T read .rows) (at read)))) (at read + 1) (at read + 1) refl
+    (took-leaf (G.number (placeOn (T read) (at read)) (literalAt (T read .rows) (at read))) (at read + 1) (at read + 1) refl
     (leaf-numeral (T read) (n read) (at read) (here read) (is-kind read ∙ keys .match .keys2)) refl (o .1) tt (omega arith) (omega (arith, here read)))
 
 attribute-leads : tie.Need-attribute-requires

@@ -47,7 +47,7 @@ module _ (text nodes : List ℕ) where
       go f (Between (Compares c) left) h = absurd (let z : _≡_ {A = ℕ} 0 1 = cc in omega arith)
       go f (Before o) h = absurd (let z : _≡_ {A = ℕ} 0 1 = cc in omega arith)
       go (Truth b) Without h = absurd (let z : _≡_ {A = ℕ} 0 1 = cc in omega arith)
-      go (Number x y z w) Without h = absurd (let z : _≡_ {A = ℕ} 0 1 = cc in omega arith)
+      go (Number base x y z w) Without h = absurd (let z : _≡_ {A = ℕ} 0 1 = cc in omega arith)
       go (Key w) Without h = absurd (let z : _≡_ {A = ℕ} 0 1 = cc in omega arith)
       go (Field w f) Without h = absurd (let z : _≡_ {A = ℕ} 0 1 = cc in omega arith)
       go (Attribute f) Without h = absurd (let z : _≡_ {A = ℕ} 0 1 = cc in omega arith)

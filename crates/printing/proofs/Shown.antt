@@ -37,7 +37,7 @@ tight-shown k t e = rw (e, le-ltb tightest (rungMeant k) (low k))
 
 leaf-rung : (text : List ℕ) (at : ℕ) (l : Leaf) → rung (leafOn text at l) ≡ tightest
 leaf-rung text at (Truth b) = refl
-leaf-rung text at (Number a b c d) = refl
+leaf-rung text at (Number base a b c d) = refl
 leaf-rung text at (Key w) = refl
 leaf-rung text at (Field w f) = refl
 leaf-rung text at (Attribute f) = refl

@@ -3,18 +3,17 @@ ghost use Prim.Native.Nat.{_+_, _*_, _≤_};
 ghost use mathlib.Core.List.{_++_};
 ghost use lib.ListN.{length, drop};
 ghost use Rattle.paper.specs.Tokens.{bytes};
-ghost use Rattle.paper.specs.Print.{print, numeralIn, truthBytes};
-ghost use Rattle.number.specs.Values.{value};
+ghost use Rattle.paper.specs.Print.{print, basePrefix, literalBytes, truthBytes};
+ghost use Rattle.number.specs.Bases.{baseMeant, literalMeant};
 ghost use Rattle.trees.specs.Nodes.{leafAt, placeAt};
 ghost use Rattle.trees.specs.Standing.{leafOn, spelling};
 ghost use Rattle.printing.specs.Writing.{Wrote};
 use crate::put;
+use number::Base;
+use number::Literal;
 use number::Magnitude;
 use trees::Leaf;
 use trees::Span;
-
-// The base of a numeral in a print.
-const DECIMAL: u32 = 10;
 
 // The bytes from an offset on.
 fn write_rest(s: &[u8], first: usize, from: usize, out: &mut [u8]) -> usize
@@ -24,11 +23,26 @@ fn write_rest(s: &[u8], first: usize, from: usize, out: &mut [u8]) -> usize
     put::write(&s[first..], from, out)
 }
 
-fn write_number(n: Magnitude, from: usize, out: &mut [u8]) -> usize
-    ensures { λ r. ⌜ Wrote (now (out .entry)) from (numeralIn 10 (value n)) (now (out .exit)) r ⌝ }
+// What announces a base: nothing for decimal.
+fn write_base(base: Base, from: usize, out: &mut [u8]) -> usize
+    ensures { λ r. ⌜ Wrote (now (out .entry)) from (basePrefix (baseMeant base)) (now (out .exit)) r ⌝ }
 {
-    let digits = n.digits_in(DECIMAL);
-    write_rest(&digits.bytes, digits.first, from, out)
+    match base {
+        Base::Decimal => from,
+        Base::Binary => put::write(b"0b", from, out),
+        Base::Octal => put::write(b"0o", from, out),
+        Base::Hex => put::write(b"0x", from, out),
+    }
+}
+
+fn write_number(literal: Literal, from: usize, out: &mut [u8]) -> usize
+    ensures { λ r. ⌜ Wrote (now (out .entry)) from (literalBytes (literalMeant literal)) (now (out .exit)) r ⌝ }
+{
+    let base = literal.base;
+    let number = literal.number;
+    let announced = write_base(base, from, out);
+    let digits = number.digits_in(base.radix());
+    write_rest(&digits.bytes, digits.first, announced, out)
 }
 
 fn write_truth(truth: bool, from: usize, out: &mut [u8]) -> usize
@@ -74,9 +88,12 @@ pub(crate) fn write_leaf(
     let leaf = Leaf::read(nodes, node);
     match leaf {
         Leaf::Truth(truth) => write_truth(truth, from, out),
-        Leaf::Number(a, b, c, d) => write_number(
-            Magnitude {
-                limbs: [a, b, c, d],
+        Leaf::Number(base, a, b, c, d) => write_number(
+            Literal {
+                base: base,
+                number: Magnitude {
+                    limbs: [a, b, c, d],
+                },
             },
             from,
             out,

@@ -1,4 +1,4 @@
--- One node more is marked. A mark changes no node, leaf or place, since none is read from its word (crate trees, proofs/Marking).
+-- One node more is marked. A mark changes no node, leaf or place, since none is read from its words at a leaf with a name (crate trees, proofs/Marking).
 use Prim.Native.Nat.{ℕ, _+_, _*_, _≤_, _<_}
 use native.Mathlib.Omega.{arith}
 use native.Mathlib.Decide.{decLt}
@@ -10,6 +10,7 @@ use Rattle.paper.specs.Tokens.{bytes, sameBytes}
 use Rattle.paper.specs.Keys.{Key, find}
 use Rattle.paper.specs.Types.{fieldNamed}
 use Rattle.paper.specs.Code.{bit}
+use Rattle.number.specs.declared.base.Base.{Base}
 use Rattle.trees.specs.declared.node.Span.{Span}
 use Rattle.trees.specs.declared.node.Leaf.the-variants as L
 use Rattle.trees.specs.declared.node.Leaf.the-variants.{Truth, Number}
@@ -33,9 +34,9 @@ module _ (ks : List Key) (text nodes : List ℕ) (i : ℕ) where
   unfolding operandAt
   truth-resolved b l = without-name (rw l)
 
-  pub number-resolved : (x y z w : ℕ) → leafAt nodes i ≡ Number x y z w → ResolvesAt ks text nodes nodes i
+  pub number-resolved : (base : Base) (x y z w : ℕ) → leafAt nodes i ≡ Number base x y z w → ResolvesAt ks text nodes nodes i
   unfolding operandAt
-  number-resolved x y z w l = without-name (rw l)
+  number-resolved base x y z w l = without-name (rw l)
 
   -- one with a name has the marks that are written
 
@@ -47,10 +48,10 @@ module _ (ks : List Key) (text nodes : List ℕ) (i : ℕ) where
             record {
               size = kept nodes i key name;
               nodes = same-node nodes i key name named;
-              leaves = same-leaf nodes i key name;
+              leaves = same-leaf nodes i key name named;
               places = same-place nodes i key name;
             };
-        here = marked nodes i key name room ∙ e ∙ ap (operandOn ks text) (sym (same-leaf nodes i key name i));
+        here = marked nodes i key name named room ∙ e ∙ ap (operandOn ks text) (sym (same-leaf nodes i key name named i));
         elsewhere = unmarked nodes i key name;
       }
 

@@ -56,7 +56,7 @@ fn resolve_node(text: &[u8], list: &[u8], nodes: &mut [u32], i: usize)
     let leaf = Leaf::read(nodes, i);
     match leaf {
         Leaf::Truth(_) => {}
-        Leaf::Number(_, _, _, _) => {}
+        Leaf::Number(_, _, _, _, _) => {}
         Leaf::Key(w) => {
             let key = key_mark(text, list, w);
             trees::mark(nodes, i, key, 0);

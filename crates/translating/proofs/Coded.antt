@@ -44,7 +44,7 @@ module _ (ks : List Key) where
   pub leaf-code : (text : List ℕ) (at : ℕ) (leaf : Leaf) → operandCode (operandOn ks text leaf) ≡ codeOf ks (leafOn text at leaf)
   unfolding codeOf
   leaf-code text at (L.Truth b) = refl
-  leaf-code text at (L.Number a b c d) = refl
+  leaf-code text at (L.Number base a b c d) = refl
   leaf-code text at (L.Key w) = key-code (find ks (spelling text w))
   leaf-code text at (L.Field w f) = field-code (find ks (spelling text w)) (fieldNamed (spelling text f))
   leaf-code text at (L.Attribute f) = refl

@@ -24,7 +24,7 @@ a-truth c =
 a-number : tie.Need-returns-2
 a-number c =
     let at-read = c .before .before in
-    number-resolved (keysIn (start at-read .args .list .now)) (start at-read .args .text .now) _ _ _ _ _ _ (is-leaf at-read (c .enum-told2 .given .1))
+    number-resolved (keysIn (start at-read .args .list .now)) (start at-read .args .text .now) _ _ _ _ _ _ _ (is-leaf at-read (c .enum-told2 .given .1))
 
 -- a key: where its mark is known
 

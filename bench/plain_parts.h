@@ -118,6 +118,7 @@ struct token {
     uint16_t place;
     uint16_t length;
     uint8_t sign;
+    uint8_t base; /* of a numeral's digits */
 };
 
 /* The last one is END, at the text's length. */
@@ -139,6 +140,7 @@ struct node {
     uint16_t word, name;    /* the tokens of a key, and of its field or of an attribute */
     uint8_t what;
     uint8_t comparison;     /* 0 ==, 1 !=, 2 >, 3 >=, 4 <, 5 <= */
+    uint8_t base;           /* in which a numeral or an address is printed */
     uint8_t key, field;     /* found by the type check */
     struct type type;
     struct type converted;  /* what it becomes before its comparison; width 0 if it stays */

@@ -12,7 +12,7 @@ struct printer {
 /* The rungs of the grammar's ladder, loosest first. Prefix operators and atoms share the last: neither ever needs parentheses. */
 enum rung { SEQUENCES, IMPLICATIONS, DISJUNCTIONS, CONJUNCTIONS, COMPARISONS, PREFIXES };
 
-enum { MOST_DIGITS = 39 /* of 2^128 - 1 */ };
+enum { MOST_DIGITS = 128 /* of 2^128 - 1, in binary */ };
 
 static void print_node(struct printer *printer, const struct node *node);
 
@@ -35,19 +35,47 @@ static void print_word(struct printer *printer, size_t index)
     print_bytes(printer, printer->text + word->place, word->length);
 }
 
-/* Most numerals fit 64 bits, where division is cheap. */
-static void print_numeral(struct printer *printer, number value)
+static inline uint8_t digit(unsigned value)
+{
+    return (uint8_t)"0123456789abcdef"[value];
+}
+
+/* Most numerals are decimal and fit 64 bits, where division is cheap. */
+static void print_decimal(struct printer *printer, number value)
 {
     uint8_t digits[MOST_DIGITS];
     size_t first = MOST_DIGITS;
     for (; value >> 64 != 0; value /= 10)
-        digits[--first] = (uint8_t)('0' + (unsigned)(value % 10));
+        digits[--first] = digit((unsigned)(value % 10));
     uint64_t rest = (uint64_t)value;
     do {
-        digits[--first] = (uint8_t)('0' + rest % 10);
+        digits[--first] = digit((unsigned)(rest % 10));
         rest /= 10;
     } while (rest != 0);
     print_bytes(printer, digits + first, MOST_DIGITS - first);
+}
+
+/* In a base that is a power of two. */
+static void print_bits(struct printer *printer, const char *prefix, unsigned bits, number value)
+{
+    uint8_t digits[MOST_DIGITS];
+    size_t first = MOST_DIGITS;
+    do {
+        digits[--first] = digit((unsigned)value & ((1u << bits) - 1));
+        value >>= bits;
+    } while (value != 0);
+    print_spelled(printer, prefix);
+    print_bytes(printer, digits + first, MOST_DIGITS - first);
+}
+
+static void print_numeral(struct printer *printer, unsigned base, number value)
+{
+    switch (base) {
+    case 2: print_bits(printer, "0b", 1, value); break;
+    case 8: print_bits(printer, "0o", 3, value); break;
+    case 16: print_bits(printer, "0x", 4, value); break;
+    default: print_decimal(printer, value);
+    }
 }
 
 static enum rung rung_of(const struct node *node)
@@ -98,7 +126,7 @@ static void print_node(struct printer *printer, const struct node *node)
     static const char *const comparisons[] = { " == ", " != ", " > ", " >= ", " < ", " <= " };
     switch (node->what) {
     case TRUTH: print_spelled(printer, node->value != 0 ? "true" : "false"); break;
-    case WHOLE: print_numeral(printer, node->value); break;
+    case WHOLE: print_numeral(printer, node->base, node->value); break;
     case KEY: print_word(printer, node->word); break;
     case FIELD:
         print_word(printer, node->word);

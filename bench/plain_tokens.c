@@ -29,32 +29,34 @@ static unsigned digit_of(uint8_t byte)
 }
 
 /* Returns 0, or the refusal's number. All digits are looked at: a late one may show that there is no numeral at all. */
-static unsigned read_digits(const uint8_t *digits, size_t length, unsigned base, number largest, number *value)
+static unsigned read_digits(const uint8_t *digits, size_t length, uint8_t base, struct token *token)
 {
+    const number largest = ~(number)0 / base;
+    number value = 0;
     bool too_large = false;
     if (length == 0)
         return POLLUX_NO_TOKEN;
-    *value = 0;
     for (size_t i = 0; i < length; i++) {
         unsigned digit = digit_of(digits[i]);
         if (digit >= base)
             return POLLUX_NO_TOKEN;
-        too_large |= *value > largest;
-        *value = *value * base + digit;
-        too_large |= *value < digit;
+        too_large |= value > largest;
+        value = value * base + digit;
+        too_large |= value < digit;
     }
+    token->value = value;
+    token->base = base;
     return too_large ? POLLUX_NUMERAL_LARGE : 0;
 }
 
-static unsigned read_numeral(const uint8_t *run, size_t length, number *value)
+static unsigned read_numeral(const uint8_t *run, size_t length, struct token *token)
 {
-    const number most = ~(number)0;
     switch (length >= 2 && run[0] == '0' ? run[1] : 0) {
-    case 'b': case 'B': return read_digits(run + 2, length - 2, 2, most / 2, value);
-    case 'o': case 'O': return read_digits(run + 2, length - 2, 8, most / 8, value);
-    case 'd': case 'D': return read_digits(run + 2, length - 2, 10, most / 10, value);
-    case 'x': case 'X': return read_digits(run + 2, length - 2, 16, most / 16, value);
-    default: return read_digits(run, length, 10, most / 10, value);
+    case 'b': case 'B': return read_digits(run + 2, length - 2, 2, token);
+    case 'o': case 'O': return read_digits(run + 2, length - 2, 8, token);
+    case 'd': case 'D': return read_digits(run + 2, length - 2, 10, token);
+    case 'x': case 'X': return read_digits(run + 2, length - 2, 16, token);
+    default: return read_digits(run, length, 10, token);
     }
 }
 
@@ -104,7 +106,7 @@ static unsigned read_token(const uint8_t *at, size_t length, struct token *token
     } else if (at[0] >= '0' && at[0] <= '9') {
         token->sign = NUMERAL;
         end = run_length(at, length);
-        unsigned why = read_numeral(at, end, &token->value);
+        unsigned why = read_numeral(at, end, token);
         if (why != 0)
             return why;
     } else if (at[0] == '\'') {

@@ -69,7 +69,7 @@ static int address(struct parser *parser)
     if (parser->next->sign != CLOSE)
         return no_continuation(parser);
     parser->next++;
-    return add(parser, (struct node){ .what = WHOLE, .place = word->place, .value = value });
+    return add(parser, (struct node){ .what = WHOLE, .place = word->place, .value = value, .base = 10 });
 }
 
 /* The name after "::", which is an undotted word. */
@@ -137,7 +137,7 @@ static int atom(struct parser *parser)
     switch (token->sign) {
     case NUMERAL:
         parser->next++;
-        return add(parser, (struct node){ .what = WHOLE, .place = token->place, .value = token->value });
+        return add(parser, (struct node){ .what = WHOLE, .place = token->place, .value = token->value, .base = token->base });
     case WORD: return word(parser);
     case COLONS: return attribute(parser);
     case OPEN: return parenthesis(parser);

@@ -159,7 +159,8 @@ struct pollux_answer pollux_run(const uint8_t *list, size_t list_length,
                                 const uint8_t *entry, size_t entry_length);
 
 /*
- * Prints a text in house style at the front of the buffer: one blank on each side of a binary operator and none elsewhere, decimal
+ * Prints a text in house style at the front of the buffer: one blank on each side of a binary operator and none elsewhere,
+ * numerals in the base they are written in, with lower-case digits and prefix and without leading zeros, addresses as decimal
  * numerals, only the parentheses that the grammar needs. Reading the print gives the same tree, places aside, and two texts have
  * equal prints exactly when their trees are equal in that sense. Done: value is the number of bytes written. Later bytes of the
  * buffer stay as they were; on a refusal every byte does. A buffer of POLLUX_MAX_PRINT bytes is large enough for any print.

@@ -6,6 +6,7 @@ use std::collections::HashSet;
 
 use common::*;
 use desk::reference::calls::{text_tree, LONGEST_TEXT};
+use desk::reference::numbers::{Base, Literal};
 use desk::reference::printing::print_of;
 use desk::reference::tokens::tokens;
 use desk::reference::tree::{Comparison, Join, Node, What};
@@ -104,32 +105,68 @@ fn no_other_parentheses() {
 }
 
 #[test]
-fn numerals_in_decimal() {
+fn numerals_in_their_base() {
     let cases = [
         ("0", "0"),
         ("000", "0"),
+        ("0b0", "0b0"),
+        ("0o0", "0o0"),
+        ("0x0", "0x0"),
         ("007", "7"),
-        ("0d010", "10"),
+        ("010", "10"),
+        ("0d10", "10"),
         ("0D9", "9"),
-        ("0x1F", "31"),
-        ("0Xa0", "160"),
-        ("0b101", "5"),
-        ("0B00", "0"),
-        ("0o17", "15"),
-        ("0O10", "8"),
+        ("0x1F", "0x1f"),
+        ("0Xa0", "0xa0"),
+        ("0xF0f0f0f0", "0xf0f0f0f0"),
+        ("0X0010", "0x10"),
+        ("0b101", "0b101"),
+        ("0B00", "0b0"),
+        ("0o17", "0o17"),
+        ("0O010", "0o10"),
         ("-0", "-0"),
         (LARGEST, LARGEST),
-        ("0xffffffffffffffffffffffffffffffff", LARGEST),
         (TOO_LARGE, "6@0"),
     ];
     all(printing, cases.to_vec());
 }
 
-/// An address is the numeral of its number, in tree and print.
+/// The largest number in each base, in one case of letters and in the other,
+/// with zeros before it and without.
+#[test]
+fn the_largest_number_in_each_base() {
+    let number = u128::MAX;
+    let hex = format!("0x{number:x}");
+    let octal = format!("0o{number:o}");
+    let binary = format!("0b{number:b}");
+    assert_eq!([hex.len(), octal.len(), binary.len()], [34, 45, 130]);
+    for print in [hex, octal, binary] {
+        let (prefix, digits) = print.split_at(2);
+        assert_eq!(printing(&print), print);
+        assert_eq!(printing(print.to_uppercase()), print);
+        assert_eq!(printing(format!("{prefix}00{digits}")), print);
+    }
+}
+
+#[test]
+fn a_base_tells_trees_apart() {
+    let ones = ["1", "0b1", "0o1", "0x1"];
+    for one in ones {
+        for other in ones {
+            let same = bare_tree(one.as_bytes()) == bare_tree(other.as_bytes());
+            assert_eq!(same, one == other, "{one} {other}");
+            assert_eq!(printing(one) == printing(other), one == other);
+        }
+        assert_eq!(judging(format!("{one} == 1")), "A");
+    }
+}
+
+/// An address is the decimal numeral of its number, in tree and print.
 #[test]
 fn addresses_in_decimal() {
     let cases = [
         ("ipv4('0.0.0.1')", "1"),
+        ("ipv4('0.0.0.16')", "16"),
         ("ipv4 ( '1.2.3.4' )", "16909060"),
         ("mac('00:00:00:00:01:00')", "256"),
         ("ipv6('::')", "0"),
@@ -138,7 +175,8 @@ fn addresses_in_decimal() {
         ("ipv6('ffff:ffff:ffff:ffff:ffff:ffff:ffff:ffff')", LARGEST),
     ];
     all(printing, cases.to_vec());
-    assert_eq!(bare_tree(b"ipv4('0.0.0.1')"), bare_tree(b"0x1"));
+    assert_eq!(bare_tree(b"ipv4('0.0.0.1')"), bare_tree(b"0d01"));
+    assert_ne!(bare_tree(b"ipv4('0.0.0.1')"), bare_tree(b"0x1"));
 }
 
 /// Known or unknown, long or short: no key list is asked.
@@ -379,12 +417,17 @@ fn all_trees_with_up_to_four_operators() {
     }
 }
 
-/// Another text with the same tree: all parentheses that it may have, numbers
-/// in hex, remarks.
+/// Another text with the same tree: all parentheses that it may have, zeros
+/// before numbers, upper case, remarks.
 fn roundabout(node: &Node) -> String {
     let words = |bytes: &[u8]| String::from_utf8(bytes.to_vec()).expect("a word");
     match &node.what {
-        What::Number(number) => format!("(0x0{number:X})"),
+        What::Number(Literal { base, number }) => match base {
+            Base::Decimal => format!("(0D0{number})"),
+            Base::Binary => format!("(0B0{number:b})"),
+            Base::Octal => format!("(0O0{number:o})"),
+            Base::Hex => format!("(0X0{number:X})"),
+        },
         What::Field { key, name, .. } => format!("({}\t::\r{})", words(key), words(name)),
         What::Attribute { name, .. } => format!(":: {}", words(name)),
         What::Not(inner) => format!("! ({})", roundabout(inner)),

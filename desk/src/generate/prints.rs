@@ -89,7 +89,7 @@ fn row(rng: &mut Rng, length: usize) -> Vec<u8> {
     let mut text = String::new();
     let mut missing = length;
     // More than the print of any operand with its operator.
-    while missing > 100 {
+    while missing > 150 {
         let (operand, print) = short_operand(rng);
         let operator = rng.pick(&[";", "||", "&&"]);
         text.push_str(&format!("{operand}{operator}"));
@@ -108,9 +108,20 @@ fn short_operand(rng: &mut Rng) -> (String, String) {
             format!("{}<{}", address.0, address.0),
             format!("{} < {}", address.1, address.1),
         ),
-        1 => (format!("0x{:x}", u128::MAX), u128::MAX.to_string()),
+        1 => long_numeral(rng),
         2 => (format!("!{}", address.0), format!("!{}", address.1)),
         _ => address,
+    }
+}
+
+/// The largest number in any base, whose print is its own text in lower case.
+fn long_numeral(rng: &mut Rng) -> (String, String) {
+    let number = u128::MAX;
+    match rng.below(4) {
+        0 => (format!("0B{number:b}"), format!("0b{number:b}")),
+        1 => (format!("0O{number:o}"), format!("0o{number:o}")),
+        2 => (format!("0X{number:X}"), format!("0x{number:x}")),
+        _ => (format!("{number}"), format!("{number}")),
     }
 }
 

@@ -12,7 +12,7 @@ pub fn number(text: &str) -> Result<u128, String> {
         return Ok(number);
     }
     match numeral(bytes) {
-        Numeral::Number(number) => Ok(number),
+        Numeral::Number(literal) => Ok(literal.number),
         Numeral::TooLarge => Err(format!("{text} is above 2^128 - 1")),
         Numeral::None if text.is_empty() => Err("a number is missing".to_string()),
         Numeral::None => Err(format!("{text} is not a number or an address")),

@@ -10,6 +10,7 @@
 
 use super::addresses::AddressType;
 use super::answers::Refusal;
+use super::numbers::{Base, Literal};
 use super::tokens::{Shape, Symbol, Token};
 use super::tree::{Comparison, Join, Node, What};
 
@@ -117,7 +118,7 @@ impl<'t> Reader<'_, 't> {
 
     fn atom(&mut self) -> Reading<'t> {
         match self.peek() {
-            Some(Shape::Numeral(number)) => Ok(self.leaf(What::Number(number))),
+            Some(Shape::Numeral(literal)) => Ok(self.leaf(What::Number(literal))),
             Some(Shape::Word(word)) => self.word(word),
             Some(Shape::Symbol(Symbol::Colons)) => self.attribute(),
             Some(Shape::Symbol(Symbol::Open)) => self.parenthesis(),
@@ -174,7 +175,10 @@ impl<'t> Reader<'_, 't> {
         self.expect(Symbol::Close)?;
         Ok(Node {
             place,
-            what: What::Number(number),
+            what: What::Number(Literal {
+                base: Base::Decimal,
+                number,
+            }),
         })
     }
 

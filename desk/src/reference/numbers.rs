@@ -60,10 +60,38 @@ pub fn negate_bits(number: u128, width: u8) -> u128 {
     lowest_bits(0u128.wrapping_sub(number), width)
 }
 
+/// Document 02, request e: "A numeral that is read must also report how it was
+/// written: decimal, binary, octal or hex."
+#[derive(Clone, Copy, PartialEq, Eq, Debug)]
+pub enum Base {
+    Decimal,
+    Binary,
+    Octal,
+    Hex,
+}
+
+impl Base {
+    pub fn radix(self) -> u32 {
+        match self {
+            Base::Decimal => 10,
+            Base::Binary => 2,
+            Base::Octal => 8,
+            Base::Hex => 16,
+        }
+    }
+}
+
+/// A number, and how it is written.
+#[derive(Clone, Copy, PartialEq, Eq, Debug)]
+pub struct Literal {
+    pub base: Base,
+    pub number: u128,
+}
+
 /// What a run of letters, digits and underscores that starts with a digit is.
 #[derive(Clone, Copy, PartialEq, Eq, Debug)]
 pub enum Numeral {
-    Number(u128),
+    Number(Literal),
     /// A numeral of 004, but above 2^128 − 1.
     TooLarge,
     /// No numeral of 004.
@@ -73,28 +101,32 @@ pub enum Numeral {
 /// Reads a whole run as one numeral of 004.
 pub fn numeral(run: &[u8]) -> Numeral {
     match run {
-        [b'0', b'd' | b'D', digits @ ..] => digits_in_base(digits, 10),
-        [b'0', b'b' | b'B', digits @ ..] => digits_in_base(digits, 2),
-        [b'0', b'o' | b'O', digits @ ..] => digits_in_base(digits, 8),
-        [b'0', b'x' | b'X', digits @ ..] => digits_in_base(digits, 16),
-        digits => digits_in_base(digits, 10),
+        [b'0', b'd' | b'D', digits @ ..] => digits_in_base(digits, Base::Decimal),
+        [b'0', b'b' | b'B', digits @ ..] => digits_in_base(digits, Base::Binary),
+        [b'0', b'o' | b'O', digits @ ..] => digits_in_base(digits, Base::Octal),
+        [b'0', b'x' | b'X', digits @ ..] => digits_in_base(digits, Base::Hex),
+        digits => digits_in_base(digits, Base::Decimal),
     }
 }
 
-fn digits_in_base(digits: &[u8], base: u32) -> Numeral {
+fn digits_in_base(digits: &[u8], base: Base) -> Numeral {
     if digits.is_empty() {
         return Numeral::None;
     }
     // All digits are looked at even after the number has grown too large: a
     // later byte may show that the run is no numeral at all.
+    let radix = base.radix();
     let mut number = Some(0u128);
     for &byte in digits {
-        let Some(digit) = char::from(byte).to_digit(base) else {
+        let Some(digit) = char::from(byte).to_digit(radix) else {
             return Numeral::None;
         };
         number = number
-            .and_then(|n| n.checked_mul(u128::from(base)))
+            .and_then(|n| n.checked_mul(u128::from(radix)))
             .and_then(|n| n.checked_add(u128::from(digit)));
     }
-    number.map_or(Numeral::TooLarge, Numeral::Number)
+    match number {
+        Some(number) => Numeral::Number(Literal { base, number }),
+        None => Numeral::TooLarge,
+    }
 }

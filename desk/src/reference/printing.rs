@@ -3,15 +3,18 @@
 //! parentheses that the grammar needs, no trailing ";", and ";" kept distinct
 //! from "&&". An address counts, in tree and print, as the decimal numeral of
 //! its number." And document 01: "::" counts as no operator in a print.
+//! Request e, of numerals: "The print then uses that base with lower-case digits
+//! and prefix (none for decimal), without leading zeros."
 
 use super::ladder::Rung;
+use super::numbers::{Base, Literal};
 use super::tree::{Node, What};
 
 /// The print of a tree, of whatever length.
 pub fn print_of(tree: &Node) -> Vec<u8> {
     match &tree.what {
         What::Bool(truth) => truth.to_string().into_bytes(),
-        What::Number(number) => number.to_string().into_bytes(),
+        What::Number(literal) => numeral_of(*literal).into_bytes(),
         What::Key(key) => key.to_vec(),
         What::Field { key, name, .. } => [*key, b"::", *name].concat(),
         What::Attribute { name, .. } => [b"::", *name].concat(),
@@ -29,6 +32,15 @@ pub fn print_of(tree: &Node) -> Vec<u8> {
                 operand(right, of_right),
             )
         }
+    }
+}
+
+fn numeral_of(Literal { base, number }: Literal) -> String {
+    match base {
+        Base::Decimal => format!("{number}"),
+        Base::Binary => format!("0b{number:b}"),
+        Base::Octal => format!("0o{number:o}"),
+        Base::Hex => format!("0x{number:x}"),
     }
 }
 

@@ -5,7 +5,7 @@
 //! bytes other than quote and LF, a quote." Refusals 5, 6 and 7.
 
 use super::answers::Refusal;
-use super::numbers::{numeral, Numeral};
+use super::numbers::{numeral, Literal, Numeral};
 use super::words::{continues_id, starts_id, word_length};
 
 pub const MOST_TOKENS: usize = 1024;
@@ -22,7 +22,7 @@ pub struct Token<'t> {
 #[derive(Clone, Copy, PartialEq, Eq, Debug)]
 pub enum Shape<'t> {
     Word(&'t [u8]),
-    Numeral(u128),
+    Numeral(Literal),
     /// A string; the bytes between its quotes.
     Quoted(&'t [u8]),
     Symbol(Symbol),
@@ -124,7 +124,7 @@ fn token_at_front(bytes: &[u8]) -> Result<(Shape<'_>, usize), u8> {
 fn numeral_at_front(bytes: &[u8]) -> Result<(Shape<'_>, usize), u8> {
     let length = bytes.iter().take_while(|&&b| continues_id(b)).count();
     match numeral(&bytes[..length]) {
-        Numeral::Number(number) => Ok((Shape::Numeral(number), length)),
+        Numeral::Number(literal) => Ok((Shape::Numeral(literal), length)),
         Numeral::TooLarge => Err(6),
         Numeral::None => Err(5),
     }

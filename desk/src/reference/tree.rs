@@ -1,6 +1,9 @@
 //! Document 01, "Types and meaning": "Parentheses make no node; a node's place
 //! is its operator ("::" counts as none here and in a print), else its first
-//! token."
+//! token." Document 02, request e: "Trees that differ only in a base are now
+//! different"; "address numerals stay decimal."
+
+use super::numbers::Literal;
 
 #[derive(Clone, PartialEq, Eq, Debug)]
 pub struct Node<'t> {
@@ -11,8 +14,8 @@ pub struct Node<'t> {
 #[derive(Clone, PartialEq, Eq, Debug)]
 pub enum What<'t> {
     Bool(bool),
-    /// A numeral, or the number of an address.
-    Number(u128),
+    /// A numeral, or the number of an address in decimal.
+    Number(Literal),
     Key(&'t [u8]),
     /// A key, "::" and a name. The node's place is the key's token.
     Field {

@@ -46,7 +46,7 @@ pub fn typed_text(root: &Node, keys: &[Key]) -> Result<Typed, Refusal> {
 fn typed(node: &Node, keys: &[Key]) -> Typing {
     match &node.what {
         What::Bool(truth) => Ok((Typed::Bool(*truth), Type::Bool)),
-        What::Number(number) => Ok((Typed::Number(*number), Type::Int)),
+        What::Number(literal) => Ok((Typed::Number(literal.number), Type::Int)),
         What::Key(name) => {
             let index = known_key(name, node.place, keys)?;
             Ok((Typed::Key(index), keys[index].bare_type()))

@@ -1,6 +1,7 @@
 // What we advertise, as contracts, so that whatever is lost fails the gate. Functions that do nothing state theorems about the definitions
 // in `paper`; those of `calls`, and the last two of `pieces`, state the demands of what the real calls of `valve` answer.
 mod accounts;
+mod bases;
 mod calls;
 mod damage;
 mod demands;

@@ -173,8 +173,9 @@ struct pollux_answer pollux_print(const uint8_t *text, size_t text_length,
  * by its first byte and its length there, no copy.
  *
  *   violated                   part is the number, from 1, of the first part of the text that is false: what stands between two ";"
- *                              signs outside parentheses. place is its root's place in the text: its operator, or else its first
- *                              token; start and length are its stretch of the text, from its first token to its last
+ *                              signs outside parentheses. place is where its root stands in the text: the root's operator, or else its
+ *                              first token, inside any parentheses; start and length are its stretch of the text, from its first
+ *                              token to its last
  *   refused with 20 at a       part is 0, place the record's place in the entry, as value is; start and length are the key's name
  *   key's record               in the list
  *   accepted, and all other    nothing to show: the last four are 0

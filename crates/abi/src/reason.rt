@@ -10,6 +10,7 @@ use paper::Judgement;
 use paper::Place;
 use paper::refused;
 
+// struct pollux_reason of include/pollux.h.
 #[repr(C)]
 pub struct PolluxReason {
     pub says: u64,

@@ -218,8 +218,8 @@ fn addressed(text: &[u8], tape: &[u32], scheme: Scheme, from: Start, nodes: &mut
     if !read.ok {
         return Taken::Refused(ADDRESS, place_at(text, tape, count, quote));
     }
-    // "address numerals stay decimal"
     let number = read.number;
+    // "address numerals stay decimal"
     put_number(tape, nodes, free, at, Literal::plain(number));
     close(text, tape, count, free + 1, quote + 1)
 }

@@ -1,4 +1,5 @@
-// Numbers up to 2^128 - 1, held exactly, whole numbers, which are such a number with a sign, and the bases in which numerals are written.
+// Numbers up to 2^128 - 1, held exactly; whole numbers, which are such a number with a sign; and literals, which are one with the base that
+// it is written in.
 //
 // A Magnitude is four 32-bit limbs by value. Its operations are told by the number that the limbs stand for
 // (`value`), and a Whole's by the whole number (`wholeOf`), so no caller needs to look at a limb. All of them

@@ -1,5 +1,5 @@
 -- Printers that are wrong: one that copies the text, one without parentheses, one with all of them, one that writes "&&" for ";", one that
--- writes every numeral in decimal, and one that writes addresses in hex. Each fails what 02 a and e ask of a print; as programs they stand
+-- writes every numeral in decimal, and one that writes the numbers of a text with an address in hex. Each fails what 02 a and e ask of a print; as programs they stand
 -- in WrongPrograms.
 use Prim.Native.Nat.{ℕ, _≤_}
 use mathlib.Core.Path.{_≡_}
@@ -79,7 +79,7 @@ inDecimal = printWith (λ n. numeralIn 10 (n .value)) joinBytes looser
 abbrev pub inHex : Tree → List ℕ
 inHex = printWith (λ n. literalBytes (literalIn hex (n .value))) joinBytes looser
 
--- a text with a quote has an address in it, or a comment
+-- in a text that is read, a quote stands in an address or in a comment. All numbers of such a text are written in hex
 abbrev pub quotes : List ℕ → Bool
 quotes text = not (eqb (span (λ b. not (is "'" b)) text) (length text))
 

@@ -1,5 +1,6 @@
-// What the public calls answer, and their stages. The crate's specs/ holds document 01 as definitions, and its proofs/ what follows
-// from them; nothing here computes. specs/Answers.antt gives the paper's number, input and offset for each case below.
+// What the public calls answer, and their stages. The crate's specs/ holds documents 01 and 02 as definitions, and its proofs/ what
+// follows from them; nothing here computes. specs/Answers.antt, and for an explanation specs/Explained.antt, gives the paper's numbers and places
+// for each case below.
 pub mod comparisons;
 pub mod fields;
 pub mod kinds;
@@ -60,7 +61,7 @@ pub enum Explanation {
     Nothing(Judgement),
 }
 
-// A stage of a call that counts: keys, tokens, nodes or instructions. Each stage passes the refusal of the one before it up as it is.
+// A stage of a call that counts: keys, tokens, nodes, parts or instructions. Each stage passes the refusal of the one before it up as it is.
 pub enum Counted {
     Count(usize),
     Refused(u8, Place),

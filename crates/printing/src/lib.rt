@@ -9,6 +9,5 @@ mod signs;
 mod walk;
 
 pub use put::copy;
-pub use put::write;
 pub use signs::Rung;
 pub use walk::write_tree;

@@ -19,9 +19,9 @@ pub fn wrong_programs_exist()
 {}
 
 // A judge that refuses or accepts everything, a translator that writes nothing or only the first part, that wants 82 blocks or invents its
-// count, a loader that passes nothing or all that is laid out well, a printer that copies the text, leaves out or puts in all parentheses or
-// writes "&&" for ";", an explainer that names the last false part, follows the tree's left spine or shows a key for a bad priority: each fails
-// a demand, or refusal 18.
+// count, a loader that passes nothing or all that is laid out well, a printer that copies the text, leaves out or puts in all parentheses,
+// writes "&&" for ";", every numeral in decimal or addresses in hex, an explainer that names the last false part, follows the tree's left spine
+// or shows a key for a bad priority: each fails a demand, or refusal 18.
 pub fn wrong_programs_fail()
     ensures { λ _. ⌜ WrongProgramsFail ⌝ }
 {}
@@ -36,8 +36,8 @@ pub fn padding_is_seen()
     ensures { λ _. ⌜ PaddingSeen ⌝ }
 {}
 
-// A printer that copies the text, one without parentheses, one with all of them, one that writes "&&" for ";": each fails what is asked of a
-// print.
+// A printer that copies the text, one without parentheses, one with all of them, one that writes "&&" for ";", one that
+// writes every numeral in decimal, one that writes addresses in hex: each fails what is asked of a print.
 pub fn wrong_printers_fail()
     ensures { λ _. ⌜ WrongPrintsFail ⌝ }
 {}

@@ -182,7 +182,7 @@ pub fn restrict(text: &[u8], list: &[u8], nodes: &mut [u32]) -> Counted
     restricted.of_tree()
 }
 
-// The number of its parts, each of which is stored in a row, or that refusal.
+// The number of parts of a text that is good for the keys of a list, each of which is stored in a row; or the first refusal of the two.
 pub fn restrict_parts(text: &[u8], list: &[u8], nodes: &mut [u32], rows: &mut [u32]) -> Counted
     requires { ⌜ Room (now text) (now nodes) ⌝ }
     requires { ⌜ RowRoom (now rows) ⌝ }

@@ -4,11 +4,7 @@ ghost use Rattle.paper.specs.Tokens as paper;
 ghost use Rattle.paper.specs.Tokens.{sameBytes, isDigit, isBlank, digitOf};
 ghost use Rattle.paper.specs.Keys.{allZero};
 
-// The bases of numerals.
-pub const BINARY: u8 = 2;
-
-pub const OCTAL: u8 = 8;
-
+// The bases of the digits in addresses.
 pub const DECIMAL: u8 = 10;
 
 pub const HEX: u8 = 16;

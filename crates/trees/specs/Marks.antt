@@ -1,4 +1,4 @@
--- The marks of a node: what the names of a leaf name, in two words that nothing else reads there. In the third, that of a left operand,
+-- The marks of a node: what the names of a leaf name, in two words that nothing else reads there. In the third, that of a left operand or of a number's base,
 -- stands the index of the leaf's key and one, in the last the number of its field and one, or for an attribute 1 if it is the
 -- priority; 0 stands for a name of nothing.
 use Prim.Native.Nat.{ℕ, _+_, _*_, _-_, _<_}

@@ -1,5 +1,5 @@
-// The marks of names. A leaf's names are looked up once, and what they name is marked in two words of its node that nothing else
-// reads: that of a left operand or of a number's base, which no leaf with a name has, and the last. So the walks read no text.
+// The marks of names. A leaf's names are looked up once, and what they name is marked in two words that such a leaf has free: the third,
+// where an operator has its left operand and a number its base, and the last. So the walks read no text.
 ghost use mathlib.Core.Path.{_≡_};
 ghost use Prim.Native.Nat.{_+_, _*_, _≤_};
 ghost use lib.ListN.{length};

@@ -1,7 +1,7 @@
-// The public calls. Each is thin: the stages of document 01, in its order, each asked of the crate below that answers for it.
+// The public calls. Each is thin: the stages of the documents, in their order, each asked of the crate below that answers for it.
 //
 // Every call keeps its promise (`paper`, specs/Promised) for all bytes, of any length and content: it answers what the definition of its
-// name in document 01's words (specs/Calls) says, its count or verdict, or the refusal with its number and place. It asks nothing of its caller, keeps
+// name in the documents' words (specs/Calls, and Explained and Pieces for what broke) says, its count or verdict, or the refusal with its number and place. It asks nothing of its caller, keeps
 // nothing from one call to the next, and reads nothing past the bytes it is lent. The scratch of a call lies in its own frame.
 mod account;
 mod loading;

@@ -1,3 +1,4 @@
+-- In each case of the enum the piece is the stretch that `stretch` hands back: that of a part, or an empty one.
 use borrow.Author.Needs.{needs}
 use Rattle.valve.proofs.pieces.text_piece.Statement.{statement}
 use Rattle.valve.proofs.pieces.text_piece.Tie as tie

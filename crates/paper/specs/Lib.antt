@@ -18,6 +18,8 @@ pub mod Sized
 pub mod Calls
 pub mod Parts
 pub mod Explained
+pub mod Named
+pub mod Rechecking
 pub mod LoadedBlocksRun
 pub mod Ranges
 pub mod TypeSoundness

@@ -12,9 +12,13 @@ use Rattle.paper.specs.declared.Translation.{Translation}
 use Rattle.paper.specs.declared.Loading.{Loading}
 use Rattle.paper.specs.declared.Printing.{Printing}
 use Rattle.paper.specs.declared.Explanation.{Explanation}
+use Rattle.paper.specs.declared.Summarizing.{Summarizing}
+use Rattle.paper.specs.declared.Rechecking.{Rechecking}
 use Rattle.paper.specs.Answers.{readingSays, checkingSays, judgementSays, translationSays, loadingSays, printingSays}
 use Rattle.paper.specs.BlocksRoundTrip.{All}
 use Rattle.paper.specs.Explained.{explainAnswer, explanationSays}
+use Rattle.paper.specs.Named.{summaryAnswer, summarizingSays}
+use Rattle.paper.specs.Rechecking.{recheckAnswer, recheckingSays}
 use Rattle.paper.specs.Calls.{readAnswer, checkAnswer, judgeAnswer, translateAnswer, translateBuffer, loadAnswer, runAnswer, printAnswer, printBuffer}
 
 -- what is promised of the result of each call, for the bytes that are lent to it
@@ -55,6 +59,13 @@ pub record PrintPromised (text buffer : List ℕ) (r : PrintResult) : Type 0 whe
 -- the numbers of an explanation; its pieces, which are references, stand in Pieces
 abbrev pub ExplainPromised : List ℕ → List ℕ → List ℕ → Explanation → Type 0
 ExplainPromised text list entry r = explanationSays r ≡ explainAnswer text list entry
+
+abbrev pub SummarizePromised : List ℕ → List ℕ → Summarizing → Type 0
+SummarizePromised text list r = summarizingSays r ≡ summaryAnswer text list
+
+-- of the old entry, its earlier answer and the new entry
+abbrev pub RecheckPromised : List ℕ → List ℕ → List ℕ → Judgement → List ℕ → Rechecking → Type 0
+RecheckPromised text list old earlier new r = recheckingSays r ≡ recheckAnswer text list old (judgementSays earlier) new
 
 abbrev pub verdict : Bool → Judgement
 verdict true = J.Accepted

@@ -61,6 +61,18 @@ pub enum Explanation {
     Nothing(Judgement),
 }
 
+// The keys that a text names, bit k (2^k) for record k of the list, and whether it names ::priority.
+pub enum Summarizing {
+    Summary(u32, bool),
+    Refused(u8, Place),
+}
+
+// A new entry against a restriction, by the judgement of an old one: that judgement, where it still holds, or one worked out afresh.
+pub enum Rechecking {
+    Reused(Judgement),
+    Judged(Judgement),
+}
+
 // A stage of a call that counts: keys, tokens, nodes, parts or instructions. Each stage passes the refusal of the one before it up as it is.
 pub enum Counted {
     Count(usize),

@@ -103,7 +103,7 @@ type-narrow ks h (compared at c l r) =
 
 -- indices of keys
 
-found-below : (ks : List Key) (k n : ℕ) (name : List ℕ) → k + length ks ≤ n → If (λ j. j < n) (findFrom k ks name)
+pub found-below : (ks : List Key) (k n : ℕ) (name : List ℕ) → k + length ks ≤ n → If (λ j. j < n) (findFrom k ks name)
 found-below [] k n name h = tt
 found-below (x ∷ ks) k n name h = go (sameBytes (x .name) name) (found-below ks (suc k) n name (omega arith))
   where

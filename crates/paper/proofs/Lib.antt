@@ -88,6 +88,10 @@ pub mod PartsTyped
 pub mod PartsInText
 pub mod RecordsRefused
 pub mod NamesInList
+pub mod KeySets
+pub mod Named
+pub mod Depends
+pub mod RecheckedRight
 pub mod ExplainedRight
 pub mod DemandOne
 pub mod DemandTwo

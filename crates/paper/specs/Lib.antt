@@ -32,6 +32,7 @@ pub mod PrintReadsBack
 pub mod BasesIgnored
 pub mod PartsDecide
 pub mod ExplainedRight
+pub mod RecheckedRight
 pub mod Readings
 pub mod Limits
 pub mod CaseFour

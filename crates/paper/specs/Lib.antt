@@ -50,6 +50,7 @@ pub mod InstructionExamples
 pub mod TranslationExamples
 pub mod PrintExamples
 pub mod PartExamples
+pub mod SummaryExamples
 pub mod AnswerExamples
 pub mod FaultExamples
 pub mod Promised

@@ -5,11 +5,13 @@ use mathlib.Core.List.{List, []}
 use denote.Ref.{RefT}
 use Rattle.paper.specs.Calls.{readAnswer, checkAnswer, judgeAnswer, translateAnswer, translateBuffer, loadAnswer, runAnswer}
 use Rattle.paper.specs.Explained.{explainAnswer}
+use Rattle.paper.specs.Named.{summaryAnswer}
+use Rattle.paper.specs.Rechecking.{recheckAnswer}
 use Rattle.paper.specs.Pieces.{PartOf}
 use Rattle.paper.specs.AnswerExamples.{Answers, lies, PieceAnswers, InOrder, AnswerExamples}
 
 answers : Answers
-unfolding readAnswer checkAnswer judgeAnswer translateAnswer translateBuffer loadAnswer runAnswer explainAnswer
+unfolding readAnswer checkAnswer judgeAnswer translateAnswer translateBuffer loadAnswer runAnswer explainAnswer summaryAnswer recheckAnswer
 answers =
     record {
       reads = refl;
@@ -41,6 +43,17 @@ answers =
       explain-refuses-list = refl;
       explain-refuses-entry = refl;
       explain-refuses-priority = refl;
+      summarizes = refl;
+      summarizes-mark = refl;
+      summarize-refuses-text = refl;
+      summarize-refuses-list = refl;
+      reuses = refl;
+      reuses-violated = refl;
+      reuses-refused = refl;
+      rechecks = refl;
+      recheck-refuses-text = refl;
+      recheck-refuses-list = refl;
+      recheck-refuses-entry = refl;
     }
 
 -- an empty piece has no offset to tell

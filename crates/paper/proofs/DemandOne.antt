@@ -1,5 +1,6 @@
 -- Demand 1: programs that keep the promises answer every input as the table of 01 says, and a refusal changes nothing lent.
 use Prim.Native.Nat.{ℕ}
+use native.Mathlib.Omega.{arith}
 use mathlib.Core.Path.{_≡_, refl, sym, ap, subst, _∙_}
 use mathlib.Core.Bool.{Bool}
 use mathlib.Core.List.{List, [], _∷_, List·Memᴰ, List·Memᴰ·head, List·Memᴰ·tail}
@@ -8,18 +9,26 @@ use Rattle.paper.specs.declared.Checking.{Checking}
 use Rattle.paper.specs.declared.Judgement.{Judgement}
 use Rattle.paper.specs.declared.Loading.{Loading}
 use Rattle.paper.specs.declared.Explanation.{Explanation}
+use Rattle.paper.specs.declared.Summarizing.{Summarizing}
+use Rattle.paper.specs.declared.Rechecking.{Rechecking}
+use Rattle.paper.specs.declared.Rechecking.the-variants as K
 use Rattle.paper.specs.Answers.{Input, inText, inList, inEntry, inBlocks, inBuffer, Answer, inputOf, offsetOf, readingSays, checkingSays, judgementSays, translationSays, loadingSays, printingSays}
 use Rattle.paper.specs.Calls.{readAnswer, checkAnswer, judgeAnswer, translateAnswer, loadAnswer, runAnswer, printAnswer}
 use Rattle.paper.specs.Explained.{explanationSays}
 use Rattle.paper.specs.ExplainedRight.{judgementOf}
-use Rattle.paper.specs.Table.{ByTable, Stage, sizeStages, listStages, treeStages, entryStages, blockStages, bufferStages, printingStages, checkStages, readStages, judgeStages, translateStages, loadStages, runStages, printStages}
-use Rattle.paper.specs.Promised.{ReadPromised, CheckPromised, JudgePromised, TranslateResult, TranslatePromised, LoadPromised, RunPromised, PrintResult, PrintPromised, ExplainPromised}
-use Rattle.paper.specs.Demands.{Lent, lent, Refusal, Answered, ReadAnswered, CheckAnswered, EntryAnswered, JudgeAnswered, TranslateAnswered, LoadAnswered, RunAnswered, PrintAnswered, ExplainAnswered, DemandOneMet}
+use Rattle.paper.specs.Named.{summaryAnswer, summarizingSays}
+use Rattle.paper.specs.Rechecking.{Rechecked, reused, judged}
+use Rattle.paper.specs.RecheckedRight.{Reusable, Rechecks, is-reused, is-judged}
+use Rattle.paper.specs.Table.{Clear, ByTable, Stage, sizeStages, listStages, treeStages, entryStages, blockStages, bufferStages, printingStages, checkStages, readStages, judgeStages, translateStages, loadStages, runStages, printStages}
+use Rattle.paper.specs.Promised.{ReadPromised, CheckPromised, JudgePromised, TranslateResult, TranslatePromised, LoadPromised, RunPromised, PrintResult, PrintPromised, ExplainPromised, SummarizePromised, RecheckPromised}
+use Rattle.paper.specs.Demands.{Lent, lent, Refusal, Answered, ReadAnswered, CheckAnswered, EntryAnswered, JudgeAnswered, TranslateAnswered, LoadAnswered, RunAnswered, PrintAnswered, ExplainAnswered, SummarizeAnswered, RecheckAnswered, DemandOneMet}
 use Rattle.paper.proofs.TranslationCorrect.{refused-unchanged}
 use Rattle.paper.proofs.RefusalsLocated.{AllLocated, LiesIn, located-then, decided-lies, size-located, list-located, tree-located, check-located, buffer-located, block-located, entry-located, printing-located}
 use Rattle.paper.proofs.Table.{table-holds}
 use Rattle.paper.proofs.PrintDemands.{print-unchanged}
-use Rattle.paper.proofs.ExplainedRight.{explained-as-judged}
+use Rattle.paper.proofs.ExplainedRight.{explained-as-judged, judge-passes}
+use Rattle.paper.proofs.RecheckedRight.{reused-exactly}
+use Rattle.paper.proofs.Promised.{judgement-same}
 
 lies-refusal : (inputs : List Lent) (n : ℕ) (i : Input) (at : ℕ) → LiesIn inputs n i at → Refusal inputs n i at
 lies-refusal inputs n i at l =
@@ -126,6 +135,43 @@ print-answered text buffer r promised =
       unchanged = print-unchanged text buffer r promised;
     }
 
+pub summarize-answered : (text list : List ℕ) (r : Summarizing) → SummarizePromised text list r → SummarizeAnswered text list r
+summarize-answered text list r promised =
+    let inputs = lent inText text ∷ lent inList list ∷ [] in
+    answered-by inputs (summaryAnswer text list) (summarizingSays r) (checkStages text list) (table-holds .summarize text list)
+    (check-located inputs text list here second) promised
+
+-- an answer is reused where the new entry is judged, so that no stage of its judgement has a fault
+module _ (text list old : List ℕ) (earlier : Judgement) (new : List ℕ) where
+  no-fault : Reusable text list old new → Clear (judgeStages text list new)
+  no-fault u =
+      let b = u .both in
+      let judged-there = judge-passes text list new (b .rule) (b .is) (b .passes) (b .new-conforms) in
+      table-holds .judge text list new .passes .0 (_, judged-there)
+
+  reused-as : (j : Judgement) (x : Rechecked) → Rechecks text list old (judgementSays earlier) new x → reused (judgementSays j) ≡ x
+      → (j ≡ earlier) × Clear (judgeStages text list new)
+  reused-as j x (is-reused u) e =
+      let same : judgementSays j ≡ judgementSays earlier = cc e in
+      (judgement-same j earlier same, no-fault u)
+  reused-as j x (is-judged unless) e = absurd (let z : _≡_ {A = ℕ} 0 1 = cc e in omega arith)
+
+  judged-as : (j : Judgement) (x : Rechecked) → Rechecks text list old (judgementSays earlier) new x → judged (judgementSays j) ≡ x
+      → JudgePromised text list new j
+  judged-as j x (is-reused u) e = absurd (let z : _≡_ {A = ℕ} 0 1 = cc e in omega arith)
+  judged-as j x (is-judged unless) e = cc e
+
+  pub recheck-judged : (j : Judgement) → RecheckPromised text list old earlier new (K.Judged j) → JudgePromised text list new j
+  recheck-judged j promised =
+      let right = reused-exactly text list old (judgementSays earlier) new (judged (judgementSays j)) .0 (sym promised) in
+      judged-as j (judged (judgementSays j)) right refl
+
+  pub recheck-answered : (r : Rechecking) → RecheckPromised text list old earlier new r → RecheckAnswered text list earlier new r
+  recheck-answered (K.Reused j) promised =
+      let right = reused-exactly text list old (judgementSays earlier) new (reused (judgementSays j)) .0 (sym promised) in
+      reused-as j (reused (judgementSays j)) right refl
+  recheck-answered (K.Judged j) promised = judge-answered text list new j (recheck-judged j promised)
+
 pub demand-one-met : DemandOneMet
 demand-one-met p kept =
     record {
@@ -138,4 +184,7 @@ demand-one-met p kept =
       run = λ list blocks entry l s e. run-answered list blocks entry (p .run list blocks entry) (kept .run list blocks entry l s e);
       print = λ text buffer t b. print-answered text buffer (p .print text buffer) (kept .print text buffer t b);
       explain = λ text list entry t l e. explain-answered text list entry (p .explain text list entry) (kept .explain text list entry t l e);
+      summarize = λ text list t l. summarize-answered text list (p .summarize text list) (kept .summarize text list t l);
+      recheck = λ text list old earlier new t l o n.
+          recheck-answered text list old earlier new (p .recheck text list old earlier new) (kept .recheck text list old earlier new t l o n);
     }

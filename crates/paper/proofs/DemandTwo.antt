@@ -17,6 +17,10 @@ use Rattle.paper.specs.declared.Judgement.{Judgement}
 use Rattle.paper.specs.declared.Judgement.the-variants as J
 use Rattle.paper.specs.declared.Translation.the-variants as T
 use Rattle.paper.specs.declared.Explanation.{Explanation}
+use Rattle.paper.specs.declared.Summarizing.{Summarizing}
+use Rattle.paper.specs.declared.Summarizing.the-variants as S
+use Rattle.paper.specs.declared.Rechecking.{Rechecking}
+use Rattle.paper.specs.declared.Rechecking.the-variants as K
 use Rattle.paper.specs.Answers.{inText, Answer, ok, refused, _>>=_, readingSays, checkingSays, judgementSays, translationSays}
 use Rattle.paper.specs.Tokens.{mostText}
 use Rattle.paper.specs.Keys.{keys}
@@ -30,16 +34,21 @@ use Rattle.paper.specs.Loading.{program, loaded, valuesAlong, leftTrue}
 use Rattle.paper.specs.Translating.{codeOf, conversions}
 use Rattle.paper.specs.Calls.{sized, tree, Restriction, restriction, checkAnswer, judgeAnswer, runAnswer}
 use Rattle.paper.specs.Explained.{explanationSays}
-use Rattle.paper.specs.Promised.{verdict, ReadPromised, CheckPromised, JudgePromised, TranslateResult, TranslatePromised, RunPromised, ExplainPromised}
-use Rattle.paper.specs.Demands.{Checkable, Judgeable, Runnable, Refuses, ReadRight, CheckedRight, JudgedRight, TranslatedRight, RanRight, ExplainRight, DemandTwoMet}
+use Rattle.paper.specs.Named.{names, marked, setOf, Summary, summaryAnswer, summarizingSays}
+use Rattle.paper.specs.Rechecking.{saidBy, recheckingSays}
+use Rattle.paper.specs.RecheckedRight.{Summarizes}
+use Rattle.paper.specs.Promised.{verdict, ReadPromised, CheckPromised, JudgePromised, TranslateResult, TranslatePromised, RunPromised, ExplainPromised, SummarizePromised, RecheckPromised}
+use Rattle.paper.specs.Demands.{Checkable, Judgeable, Runnable, Refuses, ReadRight, CheckedRight, JudgedRight, TranslatedRight, RanRight, ExplainRight, SummarizeRight, judgementIn, RecheckRight, DemandTwoMet}
 use Rattle.paper.proofs.Stages.{never-ok, ok-same, bind-ok, require-ok}
 use Rattle.paper.proofs.LoadedBlocksRun.{conforming, loaded-runs}
 use Rattle.paper.proofs.TypeSoundness.{judged, bool-root}
 use Rattle.paper.proofs.TranslationCorrect.{passing, counted, translating, translates, translated}
-use Rattle.paper.proofs.Promised.{verdict-says, reading-same, checking-same, judgement-same, translation-same}
+use Rattle.paper.proofs.Promised.{verdict-says, reading-same, checking-same, judgement-same, translation-same, summarizing-same}
 use Rattle.paper.proofs.WellFormed.{formed-tree, tree-formed, formed-answer, answer-formed}
 use Rattle.paper.proofs.PrintDemands.{printed-right}
 use Rattle.paper.proofs.ExplainedRight.{explained-is-right}
+use Rattle.paper.proofs.RecheckedRight.{summary, summary-there, summarizes, reused-exactly, fresh-if-true}
+use Rattle.paper.proofs.DemandOne.{recheck-judged}
 
 -- with a list, it passes a check: this is its restriction
 
@@ -52,7 +61,7 @@ module _ (text list : List ℕ) where
   checkable-restriction c =
       rw (le-leb (length text) mostText (c .formed .short), c .listed, formed-tree text (c .root) (c .formed), c .typed)
 
-  restriction-checkable : (r : Restriction) → restriction text list ≡ ok r → (c : Checkable text list) × (restricts c ≡ r)
+  pub restriction-checkable : (r : Restriction) → restriction text list ≡ ok r → (c : Checkable text list) × (restricts c ≡ r)
   unfolding restriction typed
   restriction-checkable r passed =
       let (u, short, _) =
@@ -234,6 +243,55 @@ translated-right text list buffer r promised n = (
 pub explain-right : (text list entry : List ℕ) (r : Explanation) → ExplainPromised text list entry r → ExplainRight text list entry r
 explain-right text list entry r promised = explained-is-right text list entry (explanationSays r) .0 (sym promised)
 
+-- a summary: that of the restriction of a text that passes
+
+module _ (text list : List ℕ) (r : Summarizing) (promised : SummarizePromised text list r) where
+  summary-checkable : (s : Summary) → summaryAnswer text list ≡ ok s → Checkable text list
+  unfolding summaryAnswer
+  summary-checkable s e =
+      let made : Restriction → Summary = λ q. record { keys = setOf (names (q .keys) (q .root)); priority = marked (q .root) } in
+      let (q, passed, _) = bind-ok (restriction text list) (λ q. ok (made q)) s e in
+      restriction-checkable text list q passed .0
+
+  checkable-summary : (c : Checkable text list) → (s : Summary) × (summaryAnswer text list ≡ ok s) × Summarizes (c .ks) (c .root) s
+  checkable-summary c =
+      let q = restricts text list c in
+      let passed = checkable-restriction text list c in
+      (summary text list q passed, summary-there text list q passed, summarizes text list q passed)
+
+  pub summarize-right : SummarizeRight text list r
+  summarize-right =
+      record {
+        passes = (
+          λ (keys, priority, e). summary-checkable (record { keys = keys; priority = priority }) (sym promised ∙ ap summarizingSays e),
+          λ c.
+              let (s, there, _) = checkable-summary c in
+              (s .keys, s .priority, summarizing-same r (S.Summary (s .keys) (s .priority)) (promised ∙ there)),
+        );
+        summary = λ keys priority e c.
+            let (s, there, right) = checkable-summary c in
+            let given : Summary = record { keys = keys; priority = priority } in
+            subst (Summarizes (c .ks) (c .root)) (ok-same s given (sym there ∙ sym promised ∙ ap summarizingSays e)) right;
+      }
+
+-- a recheck: what it says is what the judgement in it says
+
+said-in : (r : Rechecking) → judgementSays (judgementIn r) ≡ saidBy (recheckingSays r)
+said-in (K.Reused j) = refl
+said-in (K.Judged j) = refl
+
+pub recheck-right : (text list old : List ℕ) (earlier : Judgement) (new : List ℕ) (r : Rechecking)
+    → RecheckPromised text list old earlier new r → RecheckRight text list old earlier new r
+recheck-right text list old earlier new r promised =
+    record {
+      rechecks = reused-exactly text list old (judgementSays earlier) new (recheckingSays r) .0 (sym promised);
+      judges = λ j e.
+          let judged-so = subst (RecheckPromised text list old earlier new) e promised in
+          judged-right text list new j (recheck-judged text list old earlier new j judged-so);
+      fresh = λ true-then.
+          said-in r ∙ ap saidBy promised ∙ fresh-if-true text list old new (judgementSays earlier) true-then;
+    }
+
 pub demand-two-met : DemandTwoMet
 demand-two-met p kept =
     record {
@@ -244,5 +302,8 @@ demand-two-met p kept =
           translated-right text list buffer (p .translate text list buffer) (kept .translate text list buffer t l b);
       prints = λ text buffer t b. printed-right text buffer (p .print text buffer) (kept .print text buffer t b);
       explains = λ text list entry t l e. explain-right text list entry (p .explain text list entry) (kept .explain text list entry t l e);
+      summarizes = λ text list t l. summarize-right text list (p .summarize text list) (kept .summarize text list t l);
+      rechecks = λ text list old earlier new t l o n.
+          recheck-right text list old earlier new (p .recheck text list old earlier new) (kept .recheck text list old earlier new t l o n);
       runs = λ list blocks entry l s e. ran-right list blocks entry (p .run list blocks entry) (kept .run list blocks entry l s e);
     }

@@ -26,9 +26,9 @@ use Rattle.paper.specs.RecheckedRight.{SameNamed}
 use Rattle.paper.proofs.Stages.{Of}
 
 -- two entries whose matches agree where a tree names the key, and whose priorities agree where it names that
-pub record Agree (ks : List Key) (t : Tree) (e f : Entry) : Type 0 where
-  pub there : (k : ℕ) → names ks t k ≡ true → getElem? (e .matches) k ≡ getElem? (f .matches) k
-  pub rank : marked t ≡ true → e .priority ≡ f .priority
+record Agree (ks : List Key) (t : Tree) (e f : Entry) : Type 0 where
+  there : (k : ℕ) → names ks t k ≡ true → getElem? (e .matches) k ≡ getElem? (f .matches) k
+  rank : marked t ≡ true → e .priority ≡ f .priority
 
 module _ (ks : List Key) (e f : Entry) where
   -- the leaves
@@ -98,11 +98,11 @@ matches-at entry (x ∷ ks) j (suc k) =
     let next : suc j + k ≡ j + suc k = omega arith in
     matches-at entry ks (suc j) k ∙ ap (λ (n : ℕ). Option·map (λ (y : Key). matchOf y (matchAt entry n)) (getElem? ks k)) next
 
-pub record Read (ks : List Key) (entry : List ℕ) (e : Entry) : Type 0 where
-  pub matches : e .matches ≡ matchesFrom entry 0 ks
-  pub rank : e .priority ≡ priorityOf entry
+record Read (ks : List Key) (entry : List ℕ) (e : Entry) : Type 0 where
+  matches : e .matches ≡ matchesFrom entry 0 ks
+  rank : e .priority ≡ priorityOf entry
 
-pub entry-read : (ks : List Key) (entry : List ℕ) (e : Entry) → entryOf ks entry ≡ ok e → Read ks entry e
+entry-read : (ks : List Key) (entry : List ℕ) (e : Entry) → entryOf ks entry ≡ ok e → Read ks entry e
 unfolding entryOf
 entry-read ks entry e h =
     subst (Of (Read ks entry)) h
@@ -124,7 +124,7 @@ module _ (ks : List Key) (entry : List ℕ) (e : Entry) (reads : entryOf ks entr
       ∙ ap (λ (n : ℕ). Option·map (λ (x : Key). matchOf x (matchAt entry n)) (getElem? ks k)) (let z : 0 + k ≡ k = omega arith in z)
 
 module _ (ks : List Key) (entry other : List ℕ) (e f : Entry) (reads : entryOf ks entry ≡ ok e) (others : entryOf ks other ≡ ok f) where
-  pub same-there : (k : ℕ) → matchAt entry k ≡ matchAt other k → getElem? (e .matches) k ≡ getElem? (f .matches) k
+  same-there : (k : ℕ) → matchAt entry k ≡ matchAt other k → getElem? (e .matches) k ≡ getElem? (f .matches) k
   same-there k h =
       match-there ks entry e reads k
       ∙ ap (λ (r : List ℕ). Option·map (λ (x : Key). matchOf x r) (getElem? ks k)) h

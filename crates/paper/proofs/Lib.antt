@@ -99,6 +99,8 @@ pub mod DemandTwo
 pub mod DemandThree
 pub mod WrongPrints
 pub mod WrongExplainers
+pub mod WrongRecheckers
+pub mod WrongRecheckersExist
 pub mod WrongExplainersExist
 pub mod PiecesRight
 pub mod WrongPrograms

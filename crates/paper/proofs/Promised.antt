@@ -20,11 +20,17 @@ use Rattle.paper.specs.declared.Printing.{Printing}
 use Rattle.paper.specs.declared.Printing.the-variants as W
 use Rattle.paper.specs.declared.Explanation.{Explanation}
 use Rattle.paper.specs.declared.Explanation.the-variants as X
+use Rattle.paper.specs.declared.Summarizing.{Summarizing}
+use Rattle.paper.specs.declared.Summarizing.the-variants as S
+use Rattle.paper.specs.declared.Rechecking.{Rechecking}
+use Rattle.paper.specs.declared.Rechecking.the-variants as K
 use Rattle.paper.specs.Answers.{Input, inText, inList, inEntry, inBlocks, inBuffer, Answer, ok, refused, inputOf, offsetOf, readingSays, checkingSays, judgementSays, translationSays, loadingSays, printingSays}
 use Rattle.paper.specs.Calls.{readAnswer, checkAnswer, judgeAnswer, translateAnswer, translateBuffer, loadAnswer, runAnswer, printAnswer, printBuffer}
 use Rattle.paper.specs.Parts.{Part}
 use Rattle.paper.specs.Explained.{Reason, inPart, atKey, nothingToShow, falsePart, isRecord, keyIndex, nameStretch, reasonFor, explainAnswer, explanationSays}
-use Rattle.paper.specs.Promised.{ExplainPromised, verdict, Sole, NoSecondResult, CanBeKept}
+use Rattle.paper.specs.Named.{Summary, summaryAnswer, summarizingSays}
+use Rattle.paper.specs.Rechecking.{Rechecked, reused, judged, recheckAnswer, recheckingSays}
+use Rattle.paper.specs.Promised.{ExplainPromised, RecheckPromised, verdict, Sole, NoSecondResult, CanBeKept}
 
 -- places
 
@@ -134,6 +140,20 @@ printings = record { good = W.Printed; refusal = W.Refused; good-says = λ n. re
     go (W.Printed n) = is-good n
     go (W.Refused n p) = is-refusal n p
 
+summaries : Enum summarizingSays
+summaries =
+    record {
+      good = λ (s : Summary). S.Summary (s .keys) (s .priority);
+      refusal = S.Refused;
+      good-says = λ s. refl;
+      refusal-says = λ n p. refl;
+      either = go;
+    }
+  where
+    go : (r : Summarizing) → Either (λ (s : Summary). S.Summary (s .keys) (s .priority)) S.Refused r
+    go (S.Summary keys priority) = is-good (record { keys = keys; priority = priority })
+    go (S.Refused n p) = is-refusal n p
+
 -- an explanation: a part, the key at a record's place, or nothing and a judgement
 
 abbrev pub judgementFor : Answer Bool → Judgement
@@ -175,6 +195,33 @@ one-explanation text list entry =
       no-second = λ r h. sym (says-for r) ∙ ap explanationFor h;
     }
 
+-- a recheck: a judgement, with a case for each way that it was come by
+
+judgement-told : (a : Answer Bool) → judgementSays (judgementFor a) ≡ a
+judgement-told (ok b) = verdict-says b
+judgement-told (refused n i at) = refusal-back n i at
+
+abbrev recheckingFor : Rechecked → Rechecking
+recheckingFor (reused a) = K.Reused (judgementFor a)
+recheckingFor (judged a) = K.Judged (judgementFor a)
+
+recheck-told : (r : Rechecked) → recheckingSays (recheckingFor r) ≡ r
+recheck-told (reused a) = ap reused (judgement-told a)
+recheck-told (judged a) = ap judged (judgement-told a)
+
+recheck-back : (r : Rechecking) → recheckingFor (recheckingSays r) ≡ r
+recheck-back (K.Reused j) = ap K.Reused (judgement-back j)
+recheck-back (K.Judged j) = ap K.Judged (judgement-back j)
+
+one-recheck : (text list old : List ℕ) (earlier : Judgement) (new : List ℕ) → Sole (RecheckPromised text list old earlier new)
+one-recheck text list old earlier new =
+    let answer = recheckAnswer text list old (judgementSays earlier) new in
+    record {
+      result = recheckingFor answer;
+      satisfies = recheck-told answer;
+      no-second = λ r h. sym (recheck-back r) ∙ ap recheckingFor h;
+    }
+
 -- results that say the same are the same
 
 pub reading-same : (r s : Reading) → readingSays r ≡ readingSays s → r ≡ s
@@ -194,6 +241,9 @@ loading-same = same-says loadingSays loadings
 
 pub printing-same : (r s : Printing) → printingSays r ≡ printingSays s → r ≡ s
 printing-same = same-says printingSays printings
+
+pub summarizing-same : (r s : Summarizing) → summarizingSays r ≡ summarizingSays s → r ≡ s
+summarizing-same = same-says summarizingSays summaries
 
 pub explanation-same : (r s : Explanation) → explanationSays r ≡ explanationSays s → r ≡ s
 explanation-same r s h = sym (says-for r) ∙ ap explanationFor h ∙ says-for s
@@ -223,6 +273,8 @@ no-second-result =
             no-second = λ r h i. record { answer = answer .no-second (r .answer) (h .says) i; buffer = h .holds i };
           };
       explain = one-explanation;
+      summarize = λ text list. one-says summarizingSays summaries (summaryAnswer text list);
+      recheck = one-recheck;
     }
 
 pub can-be-kept : CanBeKept
@@ -237,6 +289,8 @@ can-be-kept =
         run = λ list blocks entry. s .run list blocks entry .result;
         print = λ text buffer. s .print text buffer .result;
         explain = λ text list entry. s .explain text list entry .result;
+        summarize = λ text list. s .summarize text list .result;
+        recheck = λ text list old earlier new. s .recheck text list old earlier new .result;
       },
       record {
         read = λ text _. s .read text .satisfies;
@@ -247,5 +301,7 @@ can-be-kept =
         run = λ list blocks entry _ _ _. s .run list blocks entry .satisfies;
         print = λ text buffer _ _. s .print text buffer .satisfies;
         explain = λ text list entry _ _ _. s .explain text list entry .satisfies;
+        summarize = λ text list _ _. s .summarize text list .satisfies;
+        recheck = λ text list old earlier new _ _ _ _. s .recheck text list old earlier new .satisfies;
       },
     )

@@ -78,7 +78,7 @@ test-implies : (a b : Bool) → not a || b ≡ true → a ≡ true → b ≡ tru
 test-implies true b h g = h
 test-implies false b h g = absurd (true≢false (sym g))
 
-implies-test : (a b : Bool) → (a ≡ true → b ≡ true) → not a || b ≡ true
+pub implies-test : (a b : Bool) → (a ≡ true → b ≡ true) → not a || b ≡ true
 implies-test true b h = h refl
 implies-test false b h = refl
 
@@ -100,7 +100,7 @@ module _ (named : ℕ → Bool) (old new : List ℕ) where
           subst (λ (m : ℕ). matchAt old m ≡ matchAt new m) e (same-bytes (matchAt old k) (matchAt new k) same)
       go (inr l) here later = later l
 
-  same-records : (n k : ℕ) → ((j : ℕ) → named j ≡ true → matchAt old j ≡ matchAt new j) → sameFrom named old new k n ≡ true
+  pub same-records : (n k : ℕ) → ((j : ℕ) → named j ≡ true → matchAt old j ≡ matchAt new j) → sameFrom named old new k n ≡ true
   same-records zero k same = refl
   same-records (suc n) k same =
       let equal : named k ≡ true → sameAt k ≡ true = λ g. ap (sameBytes (matchAt old k)) (sym (same k g)) ∙ bytes-same (matchAt old k) in
@@ -176,7 +176,7 @@ module _ (text list old new : List ℕ) where
     by-test true e = is-reused (reusable e)
     by-test false e = is-judged (λ u. true≢false (sym (reused-test u) ∙ e))
 
-    pub recheck-right : Rechecks text list old earlier new (recheckAnswer text list old earlier new)
+    recheck-right : Rechecks text list old earlier new (recheckAnswer text list old earlier new)
     unfolding recheckAnswer
     recheck-right = by-test (reusesBy (restriction text list) old new) refl
 
@@ -189,7 +189,8 @@ module _ (text list old new : List ℕ) where
     only-one r (is-reused u) = ap answer (reused-test u)
     only-one r (is-judged unless) = ap answer (judged-test unless (reusesBy (restriction text list) old new) refl)
 
-    fresh : earlier ≡ judgeAnswer text list old → (r : Rechecked) → Rechecks text list old earlier new r → saidBy r ≡ judgeAnswer text list new
+    fresh : earlier ≡ judgeAnswer text list old → (r : Rechecked) → Rechecks text list old earlier new r
+        → saidBy r ≡ judgeAnswer text list new
     fresh true-then r (is-reused u) =
         let b = u .both in
         true-then ∙ same-judgement text list old new (b .rule) (b .was) (b .is) (b .passes) (b .old-conforms) (b .new-conforms) (u .same)

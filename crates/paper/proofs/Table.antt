@@ -20,6 +20,7 @@ use Rattle.paper.specs.Loading.{program, loaded, valuesAlong, leftTrue}
 use Rattle.paper.specs.Translating.{codeOf}
 use Rattle.paper.specs.Print.{print}
 use Rattle.paper.specs.Calls.{sized, tree, Restriction, restriction, readAnswer, checkAnswer, judgeAnswer, roomFor, translatable, translateAnswer, loadAnswer, runAnswer, lends, printable, printAnswer}
+use Rattle.paper.specs.Named.{names, marked, setOf, Summary, summaryAnswer}
 use Rattle.paper.specs.Faults.{Faults, TextSize, text-over, TextTokens, TextGrammar, BufferSize, buffer-short, LendingSize, over-limit, over-buffer}
 use Rattle.paper.specs.Table.{Free, stage, Given, sizeStages, listStages, treeStages, typeStages, bufferStages, blockStages, entryStages, readStages, checkStages, judgeStages, translateStages, loadStages, runStages, printingStages, printStages, TableHolds}
 use Rattle.paper.proofs.Basics.{either-false}
@@ -182,6 +183,12 @@ print-follows text buffer =
     follows-one inBuffer (Given (tree text) size) (lends (print t) buffer)
     (given-tells (tree text) t read size inBuffer (lends (print t) buffer) (lending-tells (print t) buffer)))))
 
+summarize-follows : (text list : List ℕ) → Follows (checkStages text list) (summaryAnswer text list)
+unfolding summaryAnswer
+summarize-follows text list =
+    let summary : Restriction → Summary = λ r. record { keys = setOf (names (r .keys) (r .root)); priority = marked (r .root) } in
+    follows-as (checkStages text list) (restriction text list) summary (restriction-follows text list)
+
 pub table-holds : TableHolds
 table-holds =
     record {
@@ -193,4 +200,5 @@ table-holds =
       load = λ list blocks. by-table (loadStages list blocks) (loadAnswer list blocks) (load-follows list blocks);
       run = λ list blocks entry. by-table (runStages list blocks entry) (runAnswer list blocks entry) (run-follows list blocks entry);
       print = λ text buffer. by-table (printStages text buffer) (printAnswer text buffer) (print-follows text buffer);
+      summarize = λ text list. by-table (checkStages text list) (summaryAnswer text list) (summarize-follows text list);
     }

@@ -1,8 +1,9 @@
 -- The wrong programs fail, each at an input: the cases 2 and 7 of the marked judgements, `true` with no keys, `true; v == 0`, for printers
--- `a;b`, `!(a==b)`, `0x10` and `ipv4('0.0.0.16')`, and for explainers the texts of WrongExplainers.
+-- `a;b`, `!(a==b)`, `0x10` and `ipv4('0.0.0.16')`, for explainers the texts of WrongExplainers, and for summaries and rechecks those of
+-- WrongRecheckers.
 use Prim.Native.Nat.{ℕ, zero, suc, _+_, _*_, _≤_}
 use native.Mathlib.Omega.{arith}
-use mathlib.Core.Path.{_≡_, refl, sym, ap, _∙_}
+use mathlib.Core.Path.{_≡_, refl, sym, ap, subst, _∙_}
 use mathlib.Core.Bool.{Bool, true, false, true≢false}
 use mathlib.Core.Option.{some}
 use mathlib.Core.List.{List, [], _∷_}
@@ -14,6 +15,7 @@ use Rattle.paper.specs.declared.Judgement.the-variants as J
 use Rattle.paper.specs.declared.Loading.the-variants as L
 use Rattle.paper.specs.declared.Translation.the-variants as T
 use Rattle.paper.specs.Answers.{ok, refused, inBlocks, judgementSays, translationSays, loadingSays, printingSays}
+use Rattle.paper.specs.Named.{Summary, summarizingSays}
 use Rattle.paper.specs.Numbers.{byteAt}
 use Rattle.paper.specs.Tokens.{bytes, is, mostText}
 use Rattle.paper.specs.Keys.{keys}
@@ -28,8 +30,10 @@ use Rattle.paper.specs.MarkedJudgements.{theKeys, theEntry}
 use Rattle.paper.specs.Promised.{verdict, PrintResult, Bytes, Programs, KeepsCheck, KeepsLoad}
 use Rattle.paper.specs.Demands.{DemandOne, DemandTwo, DemandThree}
 use Rattle.paper.specs.WrongPrints.{withoutParentheses, withAllParentheses, withAndForSequel, inDecimal, addressesInHex}
+use Rattle.paper.specs.RecheckedRight.{Summarizes}
 use Rattle.paper.specs.WrongExplainers.{Right}
-use Rattle.paper.specs.WrongPrograms.{RefusesAll, AcceptsAll, WritesNothing, FirstPartOnly, PassesNothing, PassesAll, WantsAllBlocks, CountsRight, Lends, CopiesText, LeavesParentheses, EnclosesAll, WritesAndForSequel, ForgetsBases, WritesAddressesInHex, explainer, NamesLastPart, FollowsLeftSpine, ShowsKeyForPriority, WrongProgramsFail, NoWrongProgram, paddedText, paddedBlocks, PaddingSeen}
+use Rattle.paper.specs.WrongRecheckers.{RechecksRight, SummarizesRight}
+use Rattle.paper.specs.WrongPrograms.{RefusesAll, AcceptsAll, WritesNothing, FirstPartOnly, PassesNothing, PassesAll, WantsAllBlocks, CountsRight, Lends, CopiesText, LeavesParentheses, EnclosesAll, WritesAndForSequel, ForgetsBases, WritesAddressesInHex, explainer, NamesLastPart, FollowsLeftSpine, ShowsKeyForPriority, RechecksNever, RechecksAlways, RechecksEqual, RechecksUnranked, RechecksReadings, NamesPriority, NamesBareOnly, WrongProgramsFail, NoWrongProgram, paddedText, paddedBlocks, PaddingSeen}
 use Rattle.paper.proofs.Stages.{never-ok, ok-same}
 use Rattle.paper.proofs.LayoutPassed.{first-counted}
 use Rattle.paper.proofs.Table.{table-holds}
@@ -37,11 +41,12 @@ use Rattle.paper.proofs.DamageDetected.{called}
 use Rattle.paper.proofs.Promised.{checking-same}
 use Rattle.paper.proofs.ByteLists.{take-bytes, zero-bytes, all-bytes, blocks-bytes}
 use Rattle.paper.proofs.DemandOne.{demand-one-met}
-use Rattle.paper.proofs.DemandTwo.{restricts, checkable-restriction, worth as value, judgeable-answer, answer-judgeable, judgeable-truth, demand-two-met}
+use Rattle.paper.proofs.DemandTwo.{restricts, checkable-restriction, restriction-checkable, worth as value, judgeable-answer, answer-judgeable, judgeable-truth, demand-two-met}
 use Rattle.paper.proofs.DemandThree.{demand-three-met}
 use Rattle.paper.proofs.WellFormed.{tree-formed}
 use Rattle.paper.proofs.WrongPrints.{close, negated, sixteen, sixteen-in-hex, reads-close, reads-negated, reads-hex, reads-address}
 use Rattle.paper.proofs.WrongExplainers.{wrong-explainers-fail}
+use Rattle.paper.proofs.WrongRecheckers.{wrong-recheckers-fail}
 
 -- what demand 2 says of an entry that is judged
 by-demand-two : (p : Programs) → DemandTwo p → (text list entry : List ℕ) → Bytes text → Bytes list → Bytes entry → (b : Bool) → judgeAnswer text list entry ≡ ok b
@@ -325,6 +330,40 @@ following-spine-fails p two follows = wrong-explainers-fail .left-spine (explain
 showing-key-fails : (p : Programs) → DemandTwo p → ¬ ShowsKeyForPriority p
 showing-key-fails p two shows = wrong-explainers-fail .key-for-priority (explainer p) shows (explains-right p two)
 
+-- and of summaries and rechecks
+
+rechecks-right : (p : Programs) → DemandTwo p → RechecksRight (p .recheck)
+rechecks-right p two text list old earlier new (t, l, o, n) = two .rechecks text list old earlier new t l o n .rechecks
+
+summarizes-right : (p : Programs) → DemandTwo p → SummarizesRight (p .summarize)
+summarizes-right p two text list t l r passed =
+    let (c, same) = restriction-checkable text list r passed in
+    let right = two .summarizes text list t l in
+    let (keys, priority, e) = right .passes .1 c in
+    let s : Summary = record { keys = keys; priority = priority } in
+    (s, ap summarizingSays e, subst (λ (q : Restriction). Summarizes (q .keys) (q .root) s) same (right .summary keys priority e c))
+
+never-reusing-fails : (p : Programs) → DemandTwo p → ¬ RechecksNever p
+never-reusing-fails p two never = wrong-recheckers-fail .never (p .recheck) never (rechecks-right p two)
+
+always-reusing-fails : (p : Programs) → DemandTwo p → ¬ RechecksAlways p
+always-reusing-fails p two always = wrong-recheckers-fail .always (p .recheck) always (rechecks-right p two)
+
+wanting-equals-fails : (p : Programs) → DemandTwo p → ¬ RechecksEqual p
+wanting-equals-fails p two wants = wrong-recheckers-fail .equal-entries (p .recheck) wants (rechecks-right p two)
+
+forgetting-priority-fails : (p : Programs) → DemandTwo p → ¬ RechecksUnranked p
+forgetting-priority-fails p two forgets = wrong-recheckers-fail .priority-forgotten (p .recheck) forgets (rechecks-right p two)
+
+comparing-readings-fails : (p : Programs) → DemandTwo p → ¬ RechecksReadings p
+comparing-readings-fails p two compares = wrong-recheckers-fail .readings (p .recheck) compares (rechecks-right p two)
+
+counting-priority-fails : (p : Programs) → DemandTwo p → ¬ NamesPriority p
+counting-priority-fails p two counts = wrong-recheckers-fail .priority-counted (p .summarize) counts (summarizes-right p two)
+
+missing-fields-fails : (p : Programs) → DemandTwo p → ¬ NamesBareOnly p
+missing-fields-fails p two misses = wrong-recheckers-fail .fields-missed (p .summarize) misses (summarizes-right p two)
+
 pub wrong-programs-fail : WrongProgramsFail
 wrong-programs-fail p =
     record {
@@ -345,6 +384,13 @@ wrong-programs-fail p =
       naming-last = naming-last-fails p;
       following-spine = following-spine-fails p;
       showing-key = showing-key-fails p;
+      never-reusing = never-reusing-fails p;
+      always-reusing = always-reusing-fails p;
+      wanting-equals = wanting-equals-fails p;
+      forgetting-priority = forgetting-priority-fails p;
+      comparing-readings = comparing-readings-fails p;
+      counting-priority = counting-priority-fails p;
+      missing-fields = missing-fields-fails p;
     }
 
 pub no-wrong-program : NoWrongProgram
@@ -369,6 +415,13 @@ no-wrong-program p kept =
       naming-last = naming-last-fails p two;
       following-spine = following-spine-fails p two;
       showing-key = showing-key-fails p two;
+      never-reusing = never-reusing-fails p two;
+      always-reusing = always-reusing-fails p two;
+      wanting-equals = wanting-equals-fails p two;
+      forgetting-priority = forgetting-priority-fails p two;
+      comparing-readings = comparing-readings-fails p two;
+      counting-priority = counting-priority-fails p two;
+      missing-fields = missing-fields-fails p two;
     }
 
 padded-loads : loadAnswer theKeys paddedBlocks ≡ ok 3

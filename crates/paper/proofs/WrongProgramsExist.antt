@@ -29,11 +29,13 @@ use Rattle.paper.specs.Promised.{TranslateResult, PrintResult, Bytes, Pr
 use Rattle.paper.specs.Demands.{blocksWritten}
 use Rattle.paper.specs.WrongPrints.{withoutParentheses, withAllParentheses, withAndForSequel, inDecimal, addressesInHex}
 use Rattle.paper.specs.WrongExplainers.{Explainer, Names}
-use Rattle.paper.specs.WrongPrograms.{FirstPartOnly, WantsAllBlocks, CountsRight, Lends, partOf, judging, translating, loading, printing, explaining, OthersKept, ThereIs, WrongProgramsExist}
+use Rattle.paper.specs.WrongRecheckers.{Rechecker, Summarizer}
+use Rattle.paper.specs.WrongPrograms.{FirstPartOnly, WantsAllBlocks, CountsRight, Lends, partOf, judging, translating, loading, printing, explaining, summarizing, rechecking, OthersKept, ThereIs, WrongProgramsExist}
 use Rattle.paper.proofs.Promised.{placeAt, explanationFor, translation-same, can-be-kept}
 use Rattle.paper.proofs.ByteLists.{zero-bytes, all-bytes}
 use Rattle.paper.proofs.DemandThree.{demand-three-met}
 use Rattle.paper.proofs.WrongExplainersExist.{wrong-explainers-exist}
+use Rattle.paper.proofs.WrongRecheckersExist.{never-real, always-real, equal-real, unranked-real, readings-real, priority-counted-real, fields-missed-real}
 use Rattle.paper.proofs.WrongPrograms.{little, plain-written}
 
 -- a program that cuts: it translates what stands before the first ";"
@@ -65,9 +67,10 @@ plain-counts = refl
 -- each wrong program is one that keeps all promises but that of one call
 
 module _ (q : Programs) (kept : Kept q) where
+  -- with other calls of document 01, or another printer
   abbrev with-calls : (List ℕ → List ℕ → List ℕ → Judgement) → (List ℕ → List ℕ → List ℕ → TranslateResult) → (List ℕ → List ℕ → Loading)
-      → (List ℕ → List ℕ → PrintResult) → (List ℕ → List ℕ → List ℕ → Explanation) → Programs
-  with-calls judge translate load print explain =
+      → (List ℕ → List ℕ → PrintResult) → Programs
+  with-calls judge translate load print =
       record {
         read = q .read;
         check = q .check;
@@ -76,48 +79,103 @@ module _ (q : Programs) (kept : Kept q) where
         load = load;
         run = q .run;
         print = print;
+        explain = q .explain;
+        summarize = q .summarize;
+        recheck = q .recheck;
+      }
+
+  -- with other calls that answer for entries
+  abbrev with-answers : (List ℕ → List ℕ → List ℕ → Explanation) → Summarizer → Rechecker → Programs
+  with-answers explain summarize recheck =
+      record {
+        read = q .read;
+        check = q .check;
+        judge = q .judge;
+        translate = q .translate;
+        load = q .load;
+        run = q .run;
+        print = q .print;
         explain = explain;
+        summarize = summarize;
+        recheck = recheck;
       }
 
   -- with another judge
   judges : (List ℕ → List ℕ → List ℕ → Judgement) → Programs
-  judges judge = with-calls judge (q .translate) (q .load) (q .print) (q .explain)
+  judges judge = with-calls judge (q .translate) (q .load) (q .print)
 
   others-than-judge : (judge : List ℕ → List ℕ → List ℕ → Judgement) → OthersKept judging (judges judge)
   unfolding judges
-  others-than-judge judge = (kept .read, kept .check, kept .translate, kept .load, kept .run, kept .print, kept .explain)
+  others-than-judge judge = (
+    (kept .read, kept .check, kept .translate, kept .load, kept .run),
+    (kept .print, kept .explain, kept .summarize, kept .recheck),
+  )
 
   -- with another translator
   translators : (List ℕ → List ℕ → List ℕ → TranslateResult) → Programs
-  translators translate = with-calls (q .judge) translate (q .load) (q .print) (q .explain)
+  translators translate = with-calls (q .judge) translate (q .load) (q .print)
 
   others-than-translate : (translate : List ℕ → List ℕ → List ℕ → TranslateResult) → OthersKept translating (translators translate)
   unfolding translators
-  others-than-translate translate = (kept .read, kept .check, kept .judge, kept .load, kept .run, kept .print, kept .explain)
+  others-than-translate translate = (
+    (kept .read, kept .check, kept .judge, kept .load, kept .run),
+    (kept .print, kept .explain, kept .summarize, kept .recheck),
+  )
 
   -- with another loader
   loaders : (List ℕ → List ℕ → Loading) → Programs
-  loaders load = with-calls (q .judge) (q .translate) load (q .print) (q .explain)
+  loaders load = with-calls (q .judge) (q .translate) load (q .print)
 
   others-than-load : (load : List ℕ → List ℕ → Loading) → OthersKept loading (loaders load)
   unfolding loaders
-  others-than-load load = (kept .read, kept .check, kept .judge, kept .translate, kept .run, kept .print, kept .explain)
+  others-than-load load = (
+    (kept .read, kept .check, kept .judge, kept .translate, kept .run),
+    (kept .print, kept .explain, kept .summarize, kept .recheck),
+  )
 
   -- with another printer
   printers : (List ℕ → List ℕ → PrintResult) → Programs
-  printers print = with-calls (q .judge) (q .translate) (q .load) print (q .explain)
+  printers print = with-calls (q .judge) (q .translate) (q .load) print
 
   others-than-print : (print : List ℕ → List ℕ → PrintResult) → OthersKept printing (printers print)
   unfolding printers
-  others-than-print print = (kept .read, kept .check, kept .judge, kept .translate, kept .load, kept .run, kept .explain)
+  others-than-print print = (
+    (kept .read, kept .check, kept .judge, kept .translate, kept .load, kept .run),
+    (kept .explain, kept .summarize, kept .recheck),
+  )
 
   -- with another explainer
   explainers : (List ℕ → List ℕ → List ℕ → Explanation) → Programs
-  explainers explain = with-calls (q .judge) (q .translate) (q .load) (q .print) explain
+  explainers explain = with-answers explain (q .summarize) (q .recheck)
 
   others-than-explain : (explain : List ℕ → List ℕ → List ℕ → Explanation) → OthersKept explaining (explainers explain)
   unfolding explainers
-  others-than-explain explain = (kept .read, kept .check, kept .judge, kept .translate, kept .load, kept .run, kept .print)
+  others-than-explain explain = (
+    (kept .read, kept .check, kept .judge, kept .translate, kept .load, kept .run),
+    (kept .print, kept .summarize, kept .recheck),
+  )
+
+  -- with another summary
+  summarizers : Summarizer → Programs
+  summarizers summarize = with-answers (q .explain) summarize (q .recheck)
+
+  others-than-summarize : (summarize : Summarizer) → OthersKept summarizing (summarizers summarize)
+  unfolding summarizers
+  others-than-summarize summarize = (
+    (kept .read, kept .check, kept .judge, kept .translate, kept .load, kept .run),
+    (kept .print, kept .explain, kept .recheck),
+  )
+
+  -- with another recheck
+  recheckers : Rechecker → Programs
+  recheckers recheck = with-answers (q .explain) (q .summarize) recheck
+
+  others-than-recheck : (recheck : Rechecker) → OthersKept rechecking (recheckers recheck)
+  unfolding recheckers
+  others-than-recheck recheck = (
+    (kept .read, kept .check, kept .judge, kept .translate, kept .load, kept .run),
+    (kept .print, kept .explain, kept .summarize),
+  )
 
   -- the one that translates what stands before the first ";"
 
@@ -197,7 +255,7 @@ names-worded : (n : ℕ) (r : Reason) → Names n r → Names n (explanationSays
 names-worded n r (place, s, e) = (place, s, ap (λ (x : Reason). explanationSays (explanationFor x)) e)
 
 pub wrong-programs-exist : WrongProgramsExist
-unfolding judges translators loaders explainers
+unfolding judges translators loaders explainers summarizers recheckers
 wrong-programs-exist =
     let (q, kept) = can-be-kept in
     let refuses : List ℕ → List ℕ → List ℕ → Judgement = λ text list entry. J.Refused 20 (P.Entry 0) in
@@ -248,4 +306,11 @@ wrong-programs-exist =
                 (place, keyIndex place, s, ap (λ (r : Reason). explanationSays (explanationFor r)) e),
             others-than-explain q kept (worded x),
           );
+      never-reusing = let (x, never) = never-real in (recheckers q kept x, never, others-than-recheck q kept x);
+      always-reusing = let (x, always) = always-real in (recheckers q kept x, always, others-than-recheck q kept x);
+      wanting-equals = let (x, wants) = equal-real in (recheckers q kept x, wants, others-than-recheck q kept x);
+      forgetting-priority = let (x, forgets) = unranked-real in (recheckers q kept x, forgets, others-than-recheck q kept x);
+      comparing-readings = let (x, compares) = readings-real in (recheckers q kept x, compares, others-than-recheck q kept x);
+      counting-priority = let (x, counts) = priority-counted-real in (summarizers q kept x, counts, others-than-summarize q kept x);
+      missing-fields = let (x, misses) = fields-missed-real in (summarizers q kept x, misses, others-than-summarize q kept x);
     }

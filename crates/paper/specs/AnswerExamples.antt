@@ -1,6 +1,7 @@
 -- 01, "Refusal numbers", by example: each case of each public answer, and of two faults that an input has the one whose stage runs first.
 use Prim.Native.Nat.{ℕ, _^_}
 use mathlib.Core.Path.{_≡_}
+use mathlib.Core.Bool.{true, false}
 use mathlib.Core.List.{List, [], _∷_, _++_}
 use lib.ListN.{take, set, replicate}
 use denote.Ref.{RefT}
@@ -11,11 +12,13 @@ use Rattle.paper.specs.declared.Judgement.the-variants as J
 use Rattle.paper.specs.declared.Translation.the-variants as T
 use Rattle.paper.specs.declared.Loading.the-variants as L
 use Rattle.paper.specs.declared.Explanation.the-variants as X
+use Rattle.paper.specs.declared.Summarizing.the-variants as S
+use Rattle.paper.specs.declared.Rechecking.the-variants as K
 use Rattle.paper.specs.Answers.{refused, inText, inList, inEntry, inBlocks}
 use Rattle.paper.specs.Numbers.{bigEndian}
 use Rattle.paper.specs.Tokens.{bytes}
 use Rattle.paper.specs.Calls.{readAnswer, checkAnswer, judgeAnswer, translateAnswer, loadAnswer, runAnswer}
-use Rattle.paper.specs.Promised.{ReadPromised, CheckPromised, JudgePromised, TranslatePromised, LoadPromised, RunPromised, ExplainPromised}
+use Rattle.paper.specs.Promised.{ReadPromised, CheckPromised, JudgePromised, TranslatePromised, LoadPromised, RunPromised, ExplainPromised, SummarizePromised, RecheckPromised}
 use Rattle.paper.specs.Pieces.{ExplainedPromised}
 use Rattle.paper.specs.MarkedJudgements.{theKeys, theEntry}
 use Rattle.paper.specs.CaseFour.{theBlock}
@@ -94,6 +97,18 @@ pub record Answers : Type 0 where
   pub explain-refuses-list : ExplainPromised (bytes "true") repeatingList theEntry (X.Nothing (J.Refused 4 (P.List 80)))
   pub explain-refuses-entry : ExplainPromised (bytes "true") theKeys shortEntry (X.Nothing (J.Refused 19 (P.Entry 183)))
   pub explain-refuses-priority : ExplainPromised (bytes "true") theKeys brokenEntry (X.Nothing (J.Refused 20 (P.Entry 0)))
+  pub summarizes : SummarizePromised (bytes "v == 1; d::mask != 0") theKeys (S.Summary 3 false)
+  pub summarizes-mark : SummarizePromised (bytes "::priority < 10 || o == 1") theKeys (S.Summary 16 true)
+  pub summarize-refuses-text : SummarizePromised (bytes "d > 3") theKeys (S.Refused 13 (P.Text 2))
+  pub summarize-refuses-list : SummarizePromised (bytes "true") repeatingList (S.Refused 4 (P.List 80))
+  pub reuses : RecheckPromised (bytes "v == 1") theKeys theEntry J.Accepted theEntry (K.Reused J.Accepted)
+  pub reuses-violated : RecheckPromised (bytes "v == 1") theKeys theEntry J.Violated theEntry (K.Reused J.Violated)
+  pub reuses-refused : RecheckPromised (bytes "v == 1") theKeys theEntry (J.Refused 20 (P.Entry 4)) theEntry
+      (K.Reused (J.Refused 20 (P.Entry 4)))
+  pub rechecks : RecheckPromised (bytes "::priority < 11") theKeys theEntry J.Violated (entryWith 11 1 80 15) (K.Judged J.Violated)
+  pub recheck-refuses-text : RecheckPromised (bytes "d > 3") theKeys theEntry J.Accepted theEntry (K.Judged (J.Refused 13 (P.Text 2)))
+  pub recheck-refuses-list : RecheckPromised (bytes "true") repeatingList theEntry J.Accepted theEntry (K.Judged (J.Refused 4 (P.List 80)))
+  pub recheck-refuses-entry : RecheckPromised (bytes "true") theKeys theEntry J.Accepted shortEntry (K.Judged (J.Refused 19 (P.Entry 183)))
 
 -- 02 c: "handed back as the piece itself": the text lies in block 7 from its byte 100 on, and the list in block 9 from its byte 1000 on
 

@@ -27,6 +27,10 @@ use Rattle.paper.specs.declared.Loading.{Loading}
 use Rattle.paper.specs.declared.Loading.the-variants as L
 use Rattle.paper.specs.declared.Printing.the-variants as W
 use Rattle.paper.specs.declared.Explanation.{Explanation}
+use Rattle.paper.specs.declared.Summarizing.{Summarizing}
+use Rattle.paper.specs.declared.Summarizing.the-variants as S
+use Rattle.paper.specs.declared.Rechecking.{Rechecking}
+use Rattle.paper.specs.declared.Rechecking.the-variants as K
 use Rattle.paper.specs.Answers.{Input, inText, inList, inEntry, inBlocks, inBuffer, Answer, ok, refused, readingSays, checkingSays, judgementSays, translationSays, loadingSays, printingSays}
 use Rattle.paper.specs.Tokens.{Token, mostText}
 use Rattle.paper.specs.Keys.{Key, keys}
@@ -43,14 +47,18 @@ use Rattle.paper.specs.Print.{print}
 use Rattle.paper.specs.Calls.{over}
 use Rattle.paper.specs.Explained.{explanationSays}
 use Rattle.paper.specs.ExplainedRight.{Explains, judgementOf}
+use Rattle.paper.specs.Named.{summarizingSays}
+use Rattle.paper.specs.Rechecking.{recheckingSays}
+use Rattle.paper.specs.RecheckedRight.{Summarizes, Rechecks}
 use Rattle.paper.specs.LoadedBlocksRun.{Runs}
 use Rattle.paper.specs.Faults.{Cuts}
-use Rattle.paper.specs.Table.{lastNumber, Stage, ByTable, readStages, checkStages, judgeStages, translateStages, loadStages, runStages, printStages}
-use Rattle.paper.specs.Promised.{verdict, TranslateResult, PrintResult, Bytes, Programs, Kept}
+use Rattle.paper.specs.Table.{lastNumber, Stage, Clear, ByTable, readStages, checkStages, judgeStages, translateStages, loadStages, runStages, printStages}
+use Rattle.paper.specs.Promised.{JudgePromised, verdict, TranslateResult, PrintResult, Bytes, Programs, Kept}
 
 -- Demand 1. An answer is one of the enum's cases. It is a refusal exactly as the table of 01 says, with that number at that place, and
 -- passes exactly when no stage of the call has a fault. The number is one of the table's, and the place lies in an input that was lent, or
--- at its length. An explanation answers by the judgement that it tells.
+-- at its length. An explanation answers by the judgement that it tells; a recheck that judged, by the judgement of the new entry, and one
+-- that reused, by the earlier answer as it was given, where no stage of that judgement has a fault.
 
 pub record Lent : Type 0 where
   pub input : Input
@@ -107,6 +115,13 @@ pub record PrintAnswered (text buffer : List ℕ) (r : PrintResult) : Type 0 whe
   pub says : Answered (lent inText text ∷ lent inBuffer buffer ∷ []) (printStages text buffer) (printingSays (r .answer))
   pub unchanged : (n : ℕ) (at : Place) → r .answer ≡ W.Refused n at → r .buffer ≡ buffer
 
+abbrev pub SummarizeAnswered : List ℕ → List ℕ → Summarizing → Type 0
+SummarizeAnswered text list r = Answered (lent inText text ∷ lent inList list ∷ []) (checkStages text list) (summarizingSays r)
+
+abbrev pub RecheckAnswered : List ℕ → List ℕ → Judgement → List ℕ → Rechecking → Type 0
+RecheckAnswered text list earlier new (K.Reused j) = (j ≡ earlier) × Clear (judgeStages text list new)
+RecheckAnswered text list earlier new (K.Judged j) = JudgeAnswered text list new j
+
 pub record DemandOne (p : Programs) : Type 0 where
   pub read : (text : List ℕ) → Bytes text → ReadAnswered text (p .read text)
   pub check : (text list : List ℕ) → Bytes text → Bytes list → CheckAnswered text list (p .check text list)
@@ -118,10 +133,14 @@ pub record DemandOne (p : Programs) : Type 0 where
   pub print : (text buffer : List ℕ) → Bytes text → Bytes buffer → PrintAnswered text buffer (p .print text buffer)
   pub explain : (text list entry : List ℕ) → Bytes text → Bytes list → Bytes entry
       → ExplainAnswered text list entry (p .explain text list entry)
+  pub summarize : (text list : List ℕ) → Bytes text → Bytes list → SummarizeAnswered text list (p .summarize text list)
+  pub recheck : (text list old : List ℕ) (earlier : Judgement) (new : List ℕ) → Bytes text → Bytes list → Bytes old → Bytes new
+      → RecheckAnswered text list earlier new (p .recheck text list old earlier new)
 
 -- Demand 2, for every call that takes a text or an entry. A text is refused exactly when it is over a limit or ill-formed, the list does
 -- not pass, or the text is ill-typed against it; an entry exactly when it does not conform to the list. Else it is accepted exactly when
--- the restriction holds of it. What is explained of an entry is what 02 asks, in terms of the judgement.
+-- the restriction holds of it. What is explained of an entry, what a summary has and when an answer is reused is what 02 asks, in terms of
+-- the judgement and of what the text names.
 
 -- within the limits, and a sentence
 pub record WellFormed (text : List ℕ) (root : Tree) : Type 0 where
@@ -205,6 +224,24 @@ pub record RanRight (list blocks entry : List ℕ) (r : Judgement) : Type 0 wher
 abbrev pub ExplainRight : List ℕ → List ℕ → List ℕ → Explanation → Type 0
 ExplainRight text list entry r = Explains text list entry (explanationSays r)
 
+-- "one bit for each key the text names, and a mark for ::priority", of every text and list that pass
+pub record SummarizeRight (text list : List ℕ) (r : Summarizing) : Type 0 where
+  pub passes : ((keys : ℕ) × (priority : Bool) × (r ≡ S.Summary keys priority)) ↔ Checkable text list
+  pub summary : (keys : ℕ) (priority : Bool) → r ≡ S.Summary keys priority → (c : Checkable text list)
+      → Summarizes (c .ks) (c .root) (record { keys = keys; priority = priority })
+
+-- the judgement that a recheck comes to
+abbrev pub judgementIn : Rechecking → Judgement
+judgementIn (K.Reused j) = j
+judgementIn (K.Judged j) = j
+
+-- "the recheck reuses that answer exactly when ..; otherwise it judges the new entry, refusals included .. If the earlier answer is the old
+-- entry's true judgement, the result is the judgement worked out afresh for the new one."
+pub record RecheckRight (text list old : List ℕ) (earlier : Judgement) (new : List ℕ) (r : Rechecking) : Type 0 where
+  pub rechecks : Rechecks text list old (judgementSays earlier) new (recheckingSays r)
+  pub judges : (j : Judgement) → r ≡ K.Judged j → JudgedRight text list new j
+  pub fresh : JudgePromised text list old earlier → JudgePromised text list new (judgementIn r)
+
 pub record DemandTwo (p : Programs) : Type 0 where
   pub reads : (text : List ℕ) → Bytes text → ReadRight text (p .read text)
   pub checks : (text list : List ℕ) → Bytes text → Bytes list → CheckedRight text list (p .check text list)
@@ -214,6 +251,9 @@ pub record DemandTwo (p : Programs) : Type 0 where
   pub runs : (list blocks entry : List ℕ) → Bytes list → Bytes blocks → Bytes entry → RanRight list blocks entry (p .run list blocks entry)
   pub prints : (text buffer : List ℕ) → Bytes text → Bytes buffer → PrintedRight text buffer (p .print text buffer)
   pub explains : (text list entry : List ℕ) → Bytes text → Bytes list → Bytes entry → ExplainRight text list entry (p .explain text list entry)
+  pub summarizes : (text list : List ℕ) → Bytes text → Bytes list → SummarizeRight text list (p .summarize text list)
+  pub rechecks : (text list old : List ℕ) (earlier : Judgement) (new : List ℕ) → Bytes text → Bytes list → Bytes old → Bytes new
+      → RecheckRight text list old earlier new (p .recheck text list old earlier new)
 
 -- Demand 3. A text and a list that pass have a number of instructions, and are translated with it into every buffer that has room for
 -- its blocks; every other buffer is refused, 15 at its length. The blocks written load with that list, with the number returned, and

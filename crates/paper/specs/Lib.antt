@@ -60,5 +60,6 @@ pub mod Table
 pub mod Demands
 pub mod WrongPrints
 pub mod WrongExplainers
+pub mod WrongRecheckers
 pub mod PiecesRight
 pub mod WrongPrograms

@@ -12,6 +12,7 @@ use Rattle.paper.specs.Keys.{Key, find, mostKeys}
 use Rattle.paper.specs.Grammar.{Tree, truth, number, key, field, attribute, prefixed, joined, compared}
 use Rattle.paper.specs.Calls.{restriction}
 
+-- what was found is key k
 abbrev pub isIt : ℕ → Option ℕ → Bool
 isIt k none = false
 isIt k (some j) = eqb j k

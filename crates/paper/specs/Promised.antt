@@ -86,6 +86,8 @@ pub record NoSecondResult : Type 0 where
   pub run : (list blocks entry : List ℕ) → Sole (RunPromised list blocks entry)
   pub print : (text buffer : List ℕ) → Sole (PrintPromised text buffer)
   pub explain : (text list entry : List ℕ) → Sole (ExplainPromised text list entry)
+  pub summarize : (text list : List ℕ) → Sole (SummarizePromised text list)
+  pub recheck : (text list old : List ℕ) (earlier : Judgement) (new : List ℕ) → Sole (RecheckPromised text list old earlier new)
 
 -- what can be lent: numbers below 256
 abbrev pub Bytes : List ℕ → Type 0
@@ -102,6 +104,8 @@ pub record Programs : Type 0 where
   pub run : List ℕ → List ℕ → List ℕ → Judgement
   pub print : List ℕ → List ℕ → PrintResult
   pub explain : List ℕ → List ℕ → List ℕ → Explanation
+  pub summarize : List ℕ → List ℕ → Summarizing
+  pub recheck : List ℕ → List ℕ → List ℕ → Judgement → List ℕ → Rechecking
 
 abbrev pub KeepsRead : Programs → Type 0
 KeepsRead p = (text : List ℕ) → Bytes text → ReadPromised text (p .read text)
@@ -132,6 +136,14 @@ abbrev pub KeepsExplain : Programs → Type 0
 KeepsExplain p =
     (text list entry : List ℕ) → Bytes text → Bytes list → Bytes entry → ExplainPromised text list entry (p .explain text list entry)
 
+abbrev pub KeepsSummarize : Programs → Type 0
+KeepsSummarize p = (text list : List ℕ) → Bytes text → Bytes list → SummarizePromised text list (p .summarize text list)
+
+abbrev pub KeepsRecheck : Programs → Type 0
+KeepsRecheck p =
+    (text list old : List ℕ) (earlier : Judgement) (new : List ℕ) → Bytes text → Bytes list → Bytes old → Bytes new
+    → RecheckPromised text list old earlier new (p .recheck text list old earlier new)
+
 pub record Kept (p : Programs) : Type 0 where
   pub read : KeepsRead p
   pub check : KeepsCheck p
@@ -141,6 +153,8 @@ pub record Kept (p : Programs) : Type 0 where
   pub run : KeepsRun p
   pub print : KeepsPrint p
   pub explain : KeepsExplain p
+  pub summarize : KeepsSummarize p
+  pub recheck : KeepsRecheck p
 
 -- there are such programs
 abbrev pub CanBeKept : Type 0

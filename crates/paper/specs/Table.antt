@@ -10,6 +10,7 @@ use Rattle.paper.specs.Tokens.{Token, tokens}
 use Rattle.paper.specs.Keys.{RecordRule, layoutRule, keys}
 use Rattle.paper.specs.Print.{print}
 use Rattle.paper.specs.Calls.{tree, restriction, readAnswer, checkAnswer, judgeAnswer, translateAnswer, loadAnswer, runAnswer, printAnswer}
+use Rattle.paper.specs.Named.{summaryAnswer}
 use Rattle.paper.specs.Faults.{Faults, TextSize, ListSize, ListRecords, Cuts, TextTokens, TextGrammar, TreeTypes, RootType, BufferSize, BlocksSize, BlocksLayout, BlocksCode, EntrySize, EntryRules, LendingSize}
 
 -- the table's numbers run from 1 to this one
@@ -131,6 +132,7 @@ pub record TableHolds : Type 0 where
   pub load : (list blocks : List ℕ) → ByTable (loadAnswer list blocks) (loadStages list blocks)
   pub run : (list blocks entry : List ℕ) → ByTable (runAnswer list blocks entry) (runStages list blocks entry)
   pub print : (text buffer : List ℕ) → ByTable (printAnswer text buffer) (printStages text buffer)
+  pub summarize : (text list : List ℕ) → ByTable (summaryAnswer text list) (checkStages text list)
 
 -- and a text that passes 5 to 7 is cut into its tokens
 abbrev pub TokensAreCut : Type 0

@@ -1,5 +1,5 @@
--- 01, "Try these against it": programs that the promises must leave no room for; and wrong printers (02 a and e) and explainers (02 c). Each is
--- refuted at an input, named in the proof.
+-- 01, "Try these against it": programs that the promises must leave no room for; and wrong printers (02 a and e), explainers (02 c),
+-- summaries and rechecks (02 f). Each is refuted at an input, named in the proof.
 use Prim.Native.Nat.{ℕ, _+_, _*_, _≤_, _<_}
 use mathlib.Core.Path.{_≡_}
 use mathlib.Core.Bool.{true, false, cond}
@@ -23,9 +23,10 @@ use Rattle.paper.specs.Calls.{tree, Restriction, restriction, over, judg
 use Rattle.paper.specs.TranslationCorrect.{Carries}
 use Rattle.paper.specs.MarkedJudgements.{theKeys, theEntry}
 use Rattle.paper.specs.Explained.{explanationSays}
-use Rattle.paper.specs.Promised.{Bytes, Programs, KeepsRead, KeepsCheck, KeepsJudge, KeepsTranslate, KeepsLoad, KeepsRun, KeepsPrint, KeepsExplain, Kept}
+use Rattle.paper.specs.Promised.{Bytes, Programs, KeepsRead, KeepsCheck, KeepsJudge, KeepsTranslate, KeepsLoad, KeepsRun, KeepsPrint, KeepsExplain, KeepsSummarize, KeepsRecheck, Kept}
 use Rattle.paper.specs.WrongPrints.{withoutParentheses, withAllParentheses, withAndForSequel, inDecimal, addressesInHex}
 use Rattle.paper.specs.WrongExplainers.{Explainer, NamesLast, FollowsSpine, KeyForPriority}
+use Rattle.paper.specs.WrongRecheckers.{NeverReuses, AlwaysReuses, WantsEqualEntries, ForgetsPriority, ComparesReadings, CountsPriority, MissesFields}
 use Rattle.paper.specs.Demands.{Refuses, blocksWritten, DemandOne, DemandTwo, DemandThree}
 
 -- the bytes before the first ";"
@@ -122,17 +123,50 @@ FollowsLeftSpine p = FollowsSpine (explainer p)
 abbrev pub ShowsKeyForPriority : Programs → Type 0
 ShowsKeyForPriority p = KeyForPriority (explainer p)
 
+-- those of WrongRecheckers
+
+abbrev pub RechecksNever : Programs → Type 0
+RechecksNever p = NeverReuses (p .recheck)
+
+abbrev pub RechecksAlways : Programs → Type 0
+RechecksAlways p = AlwaysReuses (p .recheck)
+
+abbrev pub RechecksEqual : Programs → Type 0
+RechecksEqual p = WantsEqualEntries (p .recheck)
+
+abbrev pub RechecksUnranked : Programs → Type 0
+RechecksUnranked p = ForgetsPriority (p .recheck)
+
+abbrev pub RechecksReadings : Programs → Type 0
+RechecksReadings p = ComparesReadings (p .recheck)
+
+abbrev pub NamesPriority : Programs → Type 0
+NamesPriority p = CountsPriority (p .summarize)
+
+abbrev pub NamesBareOnly : Programs → Type 0
+NamesBareOnly p = MissesFields (p .summarize)
+
 -- each is real: there is such a program in which every other call keeps its promise
 
 pub data Call : Type 0 where
-  judging translating loading printing explaining : Call
+  judging translating loading printing explaining summarizing rechecking : Call
+
+-- the calls of document 01, and those of 02
+
+abbrev pub FirstKept : Programs → Type 0
+FirstKept p = KeepsRead p × KeepsCheck p × KeepsJudge p × KeepsTranslate p × KeepsLoad p × KeepsRun p
+
+abbrev pub LaterKept : Programs → Type 0
+LaterKept p = KeepsPrint p × KeepsExplain p × KeepsSummarize p × KeepsRecheck p
 
 abbrev pub OthersKept : Call → Programs → Type 0
-OthersKept judging p = KeepsRead p × KeepsCheck p × KeepsTranslate p × KeepsLoad p × KeepsRun p × KeepsPrint p × KeepsExplain p
-OthersKept translating p = KeepsRead p × KeepsCheck p × KeepsJudge p × KeepsLoad p × KeepsRun p × KeepsPrint p × KeepsExplain p
-OthersKept loading p = KeepsRead p × KeepsCheck p × KeepsJudge p × KeepsTranslate p × KeepsRun p × KeepsPrint p × KeepsExplain p
-OthersKept printing p = KeepsRead p × KeepsCheck p × KeepsJudge p × KeepsTranslate p × KeepsLoad p × KeepsRun p × KeepsExplain p
-OthersKept explaining p = KeepsRead p × KeepsCheck p × KeepsJudge p × KeepsTranslate p × KeepsLoad p × KeepsRun p × KeepsPrint p
+OthersKept judging p = (KeepsRead p × KeepsCheck p × KeepsTranslate p × KeepsLoad p × KeepsRun p) × LaterKept p
+OthersKept translating p = (KeepsRead p × KeepsCheck p × KeepsJudge p × KeepsLoad p × KeepsRun p) × LaterKept p
+OthersKept loading p = (KeepsRead p × KeepsCheck p × KeepsJudge p × KeepsTranslate p × KeepsRun p) × LaterKept p
+OthersKept printing p = FirstKept p × (KeepsExplain p × KeepsSummarize p × KeepsRecheck p)
+OthersKept explaining p = FirstKept p × (KeepsPrint p × KeepsSummarize p × KeepsRecheck p)
+OthersKept summarizing p = FirstKept p × (KeepsPrint p × KeepsExplain p × KeepsRecheck p)
+OthersKept rechecking p = FirstKept p × (KeepsPrint p × KeepsExplain p × KeepsSummarize p)
 
 abbrev pub ThereIs : (Programs → Type 0) → Call → Type 0
 ThereIs Wrong c = (p : Programs) × Wrong p × OthersKept c p
@@ -155,6 +189,13 @@ pub record WrongProgramsExist : Type 0 where
   pub naming-last : ThereIs NamesLastPart explaining
   pub following-spine : ThereIs FollowsLeftSpine explaining
   pub showing-key : ThereIs ShowsKeyForPriority explaining
+  pub never-reusing : ThereIs RechecksNever rechecking
+  pub always-reusing : ThereIs RechecksAlways rechecking
+  pub wanting-equals : ThereIs RechecksEqual rechecking
+  pub forgetting-priority : ThereIs RechecksUnranked rechecking
+  pub comparing-readings : ThereIs RechecksReadings rechecking
+  pub counting-priority : ThereIs NamesPriority summarizing
+  pub missing-fields : ThereIs NamesBareOnly summarizing
 
 -- what excludes each: a demand, beside the calls that it is tried with; or the promise of `load`, by 18
 pub record DemandsExclude (p : Programs) : Type 0 where
@@ -175,6 +216,13 @@ pub record DemandsExclude (p : Programs) : Type 0 where
   pub naming-last : DemandTwo p → ¬ NamesLastPart p
   pub following-spine : DemandTwo p → ¬ FollowsLeftSpine p
   pub showing-key : DemandTwo p → ¬ ShowsKeyForPriority p
+  pub never-reusing : DemandTwo p → ¬ RechecksNever p
+  pub always-reusing : DemandTwo p → ¬ RechecksAlways p
+  pub wanting-equals : DemandTwo p → ¬ RechecksEqual p
+  pub forgetting-priority : DemandTwo p → ¬ RechecksUnranked p
+  pub comparing-readings : DemandTwo p → ¬ RechecksReadings p
+  pub counting-priority : DemandTwo p → ¬ NamesPriority p
+  pub missing-fields : DemandTwo p → ¬ NamesBareOnly p
 
 abbrev pub WrongProgramsFail : Type 0
 WrongProgramsFail = (p : Programs) → DemandsExclude p
@@ -198,6 +246,13 @@ pub record Excluded (p : Programs) : Type 0 where
   pub naming-last : ¬ NamesLastPart p
   pub following-spine : ¬ FollowsLeftSpine p
   pub showing-key : ¬ ShowsKeyForPriority p
+  pub never-reusing : ¬ RechecksNever p
+  pub always-reusing : ¬ RechecksAlways p
+  pub wanting-equals : ¬ RechecksEqual p
+  pub forgetting-priority : ¬ RechecksUnranked p
+  pub comparing-readings : ¬ RechecksReadings p
+  pub counting-priority : ¬ NamesPriority p
+  pub missing-fields : ¬ NamesBareOnly p
 
 abbrev pub NoWrongProgram : Type 0
 NoWrongProgram = (p : Programs) → Kept p → Excluded p

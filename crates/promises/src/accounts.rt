@@ -21,7 +21,8 @@ pub fn wrong_programs_exist()
 // A judge that refuses or accepts everything, a translator that writes nothing or only the first part, that wants 82 blocks or invents its
 // count, a loader that passes nothing or all that is laid out well, a printer that copies the text, leaves out or puts in all parentheses,
 // writes "&&" for ";", every numeral in decimal or addresses in hex, an explainer that names the last false part, follows the tree's left spine
-// or shows a key for a bad priority: each fails a demand, or refusal 18.
+// or shows a key for a bad priority, a recheck that never reuses, always does, asks for equal entries, forgets the priority or compares readings,
+// a summary that counts ::priority or misses the key of a field: each fails a demand, or refusal 18.
 pub fn wrong_programs_fail()
     ensures { λ _. ⌜ WrongProgramsFail ⌝ }
 {}

@@ -9,7 +9,8 @@ pub fn every_input_is_answered()
 
 // An entry is refused exactly when the text is over a limit, ill-formed or ill-typed, or the list or the entry does not conform; else it is
 // accepted exactly when the restriction holds of it. A text is printed exactly when it is read and its print may be lent. Of a violated entry
-// the first false part is named, of a bad record its key, and else nothing.
+// the first false part is named, of a bad record its key, and else nothing. A summary has the keys that the text names, and an earlier answer is
+// reused exactly where both entries conform and are the same in all that the text names.
 pub fn judged_as_the_text_means()
     ensures { λ _. ⌜ DemandTwoMet ⌝ }
 {}

@@ -12,4 +12,5 @@ mod printing;
 mod reading;
 mod rules;
 mod running;
+mod summaries;
 mod translating;

@@ -17,6 +17,7 @@ ghost use Rattle.paper.specs.InstructionExamples.{InstructionExamples};
 ghost use Rattle.paper.specs.TranslationExamples.{TranslationExamples};
 ghost use Rattle.paper.specs.PrintExamples.{PrintExamples};
 ghost use Rattle.paper.specs.PartExamples.{PartExamples};
+ghost use Rattle.paper.specs.SummaryExamples.{SummaryExamples};
 ghost use Rattle.paper.specs.AnswerExamples.{AnswerExamples};
 ghost use Rattle.paper.specs.FaultExamples.{FaultExamples};
 
@@ -123,6 +124,11 @@ pub fn examples_of_prints()
 // Texts with their parts, both sides of each limit, and what is shown of an entry: a part, a key, or nothing.
 pub fn examples_of_parts()
     ensures { λ _. ⌜ PartExamples ⌝ }
+{}
+
+// Texts with the keys that they name, both sides of each limit, and changes of an entry with what a recheck says of them.
+pub fn examples_of_summaries()
+    ensures { λ _. ⌜ SummaryExamples ⌝ }
 {}
 
 // Each case of each public answer, and of two faults the one whose stage runs first.

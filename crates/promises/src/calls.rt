@@ -1,6 +1,6 @@
 // The real calls, held to the demands. Each function calls `valve`, and its contract states for its own inputs what is demanded of what was
 // answered, in the words of `paper` (specs/Demands). It holds by the contracts of `valve` alone, so one that is weakened fails here.
-ghost use Rattle.paper.specs.Demands.{ReadAnswered, ReadRight, CheckAnswered, CheckedRight, JudgeAnswered, JudgedRight, TranslateAnswered, TranslatedRight, LoadAnswered, RunAnswered, RanRight, PrintAnswered, PrintedRight, ExplainAnswered, ExplainRight};
+ghost use Rattle.paper.specs.Demands.{ReadAnswered, ReadRight, CheckAnswered, CheckedRight, JudgeAnswered, JudgedRight, TranslateAnswered, TranslatedRight, LoadAnswered, RunAnswered, RanRight, PrintAnswered, PrintedRight, ExplainAnswered, ExplainRight, SummarizeAnswered, SummarizeRight, RecheckAnswered, RecheckRight};
 ghost use Rattle.promises.specs.Held.{gave, lent, Carries};
 use blocks::Block;
 use paper::Checking;
@@ -10,6 +10,8 @@ use paper::Loading;
 use paper::Place;
 use paper::Printing;
 use paper::Reading;
+use paper::Rechecking;
+use paper::Summarizing;
 use paper::Translation;
 
 // Demands 1 and 2 of `read`.
@@ -73,6 +75,22 @@ pub fn explain(text: &[u8], list: &[u8], entry: &[u8]) -> Explanation
     ensures { λ r. ⌜ ExplainRight (now (text .entry)) (now (list .entry)) (now (entry .entry)) r ⌝ }
 {
     valve::reason(text, list, entry)
+}
+
+// Demands 1 and 2 of `summarize`.
+pub fn summarize(text: &[u8], list: &[u8]) -> Summarizing
+    ensures { λ r. ⌜ SummarizeAnswered (now (text .entry)) (now (list .entry)) r ⌝ }
+    ensures { λ r. ⌜ SummarizeRight (now (text .entry)) (now (list .entry)) r ⌝ }
+{
+    valve::summarize(text, list)
+}
+
+// Demands 1 and 2 of `recheck`.
+pub fn recheck(text: &[u8], list: &[u8], old: &[u8], earlier: Judgement, new: &[u8]) -> Rechecking
+    ensures { λ r. ⌜ RecheckAnswered (now (text .entry)) (now (list .entry)) earlier (now (new .entry)) r ⌝ }
+    ensures { λ r. ⌜ RecheckRight (now (text .entry)) (now (list .entry)) (now (old .entry)) earlier (now (new .entry)) r ⌝ }
+{
+    valve::recheck(text, list, old, earlier, new)
 }
 
 // What a text, a list and an entry come to by way of blocks, and by the text alone.

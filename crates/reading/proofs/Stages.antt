@@ -14,14 +14,16 @@ use Rattle.paper.specs.Answers.{Answer, ok, refused, _>>=_, Input, inText, inpu
 use Rattle.paper.specs.Tokens.{mostText}
 use Rattle.paper.specs.Keys.{keys}
 use Rattle.paper.specs.Grammar as G
-use Rattle.paper.specs.Types.{typed}
+use Rattle.paper.specs.Types.{typeOf, rootType, typed}
 use Rattle.paper.specs.Calls.{tree, restriction}
+use Rattle.paper.proofs.Stages.{bind-ok}
 use Rattle.keys.specs.Says.{keysIn, keyCount}
 use Rattle.keys.proofs.Checked as K
 use Rattle.trees.specs.Standing.{treeAt}
 use Rattle.trees.specs.Marks.{Marked}
 use Rattle.trees.proofs.Marking.{same-tree}
 use Rattle.resolving.specs.Resolved.{Resolves}
+use Rattle.typing.specs.Known.{Known}
 use Rattle.reading.specs.Grown.{Planted, Grows}
 use Rattle.reading.specs.Restricted.{Typed, Rooted, Types, Restricts}
 
@@ -104,3 +106,10 @@ module _ (text list nodes : List ℕ) (r : Counted) (told : Restricts text list 
 
   pub rooted : {k : ℕ} → r ≡ Count k → Rooted text list nodes k
   rooted e = subst (Restricts text list nodes) e told
+
+-- the tree of a text that passed has a type, and the marks of its names
+pub root-known : (text list nodes : List ℕ) (k : ℕ) → Rooted text list nodes k → Known list nodes k text
+unfolding typed
+root-known text list nodes k r =
+    let a = bind-ok (typeOf (keysIn list) (treeAt text nodes k)) (rootType (treeAt text nodes k)) tt (r .typed .checked) in
+    record { marked = r .typed .marked; type = a .0; typed = a .1 }

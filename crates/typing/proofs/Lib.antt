@@ -1,3 +1,4 @@
+pub mod Knowing
 pub mod Leaves
 pub mod Minus
 pub mod Rooted

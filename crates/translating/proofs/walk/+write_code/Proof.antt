@@ -19,11 +19,12 @@ use Rattle.trees.specs.declared.node.Operator.{Operator}
 use Rattle.trees.specs.Nodes.{nodeAt}
 use Rattle.trees.specs.Standing.{treeAt}
 use Rattle.trees.proofs.Walks.{below}
-use Rattle.translating.specs.Writing.{changeMeant}
+use Rattle.typing.specs.Known.{Known}
+use Rattle.typing.proofs.Knowing.{operand-known, left-known, right-known}
+use Rattle.translating.specs.Writing.{Writes, changeMeant}
 use Rattle.translating.specs.Own.{ownAt}
-use Rattle.translating.specs.Known.{Known, Writes}
 use Rattle.translating.proofs.Rows.{wrote-as, wrote-on}
-use Rattle.translating.proofs.Parted.{leaf-code, operand-known, prefixed-code, prefixed-length, left-known, right-known, left-change, right-change, operated-code, operated-length}
+use Rattle.translating.proofs.Parted.{leaf-code, prefixed-code, prefixed-length, left-change, right-change, operated-code, operated-length}
 use Rattle.translating.proofs.walk.write_code.Reads as write-code
 use Rattle.translating.proofs.walk.write_code.Kinds as kinds
 use Rattle.translating.proofs.walk.+write_code.Lts-write_code as lts

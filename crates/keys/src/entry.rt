@@ -3,12 +3,14 @@ ghost use mathlib.Core.Path.{_≡_};
 ghost use Prim.Native.Nat.{_+_, _*_, _/_, _≤_, _<_};
 ghost use lib.ListN.{length};
 ghost use Rattle.paper.specs.Numbers.{byteAt};
+ghost use Rattle.paper.specs.Tokens.{sameBytes};
 ghost use Rattle.paper.specs.Keys.{recordSize, recordAt, kindOf, keyOf};
 ghost use Rattle.paper.specs.Entry.{headSize, priorityOf, matchSize, matchAt, spelledOut, absent, matchOf};
 ghost use Rattle.keys.specs.Says.{meant};
 use crate::record::KeyRecord;
 use number::Magnitude;
 use paper::kinds;
+use spelling::bytes;
 
 // What the head holds.
 pub struct Entry {
@@ -96,4 +98,13 @@ pub(crate) fn match_at(entry: &[u8], k: usize) -> &[u8]
     let from = Entry::HEAD + k * Matched::SIZE;
     let to = from + Matched::SIZE;
     &entry[from..to]
+}
+
+// Whether the record of key k has the same bytes in two entries.
+pub fn same_record(a: &[u8], b: &[u8], k: usize) -> bool
+    requires { ⌜ headSize + (k + 1) * matchSize ≤ length (now a) ⌝ }
+    requires { ⌜ headSize + (k + 1) * matchSize ≤ length (now b) ⌝ }
+    ensures { λ r. ⌜ r ≡ sameBytes (matchAt (now (a .entry)) k) (matchAt (now (b .entry)) k) ⌝ }
+{
+    bytes::same_bytes(match_at(a, k), match_at(b, k))
 }

@@ -12,6 +12,7 @@ mod rules;
 pub use conform::check_entry;
 pub use entry::Entry;
 pub use entry::Matched;
+pub use entry::same_record;
 pub use find::Found;
 pub use find::find_key;
 pub use list::check_list;

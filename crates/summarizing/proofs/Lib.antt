@@ -1,0 +1,4 @@
+pub mod Sets
+pub mod Leaves
+pub mod Walked
+pub mod KeyByKey

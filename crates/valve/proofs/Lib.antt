@@ -1,8 +1,10 @@
+mod Compared
 mod Loads
 mod Loans
 mod Prints
 mod Runs
 mod Shown
+mod Summaries
 mod Texts
 mod Translates
 mod Verdicts

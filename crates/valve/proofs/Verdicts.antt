@@ -41,13 +41,12 @@ module _ (text list entry : List ℕ) where
       pub not-entered : {n : ℕ} {p : Place} → x ≡ C.Refused n p → refused n (inputOf p) (offsetOf p) ≡ judgeAnswer text list entry
       not-entered e = sym (by-entry ∙ rw (K.not-entered (keysIn list) entry (sym says ∙ ap checkingSays e)))
 
-      module _ (e : x ≡ C.Passed) where
-        pub conforming : Conforming list entry
-        conforming = record { listed = r .listed; entered = K.entered (keysIn list) entry (sym says ∙ ap checkingSays e) }
+      pub conforming : x ≡ C.Passed → Conforming list entry
+      conforming e = record { listed = r .listed; entered = K.entered (keysIn list) entry (sym says ∙ ap checkingSays e) }
 
-        -- the tree has a value, and that is a truth
-        pub judged-by : (v : Value) (b : Bool) → Is (valueOf (keysIn list) (entryIn list entry) root) v → b ≡ isTrue (some v)
-            → ok b ≡ judgeAnswer text list entry
-        judged-by v b i t =
-            let f : b ≡ isTrue (valueOf (keysIn list) (entryIn list entry) root) = t ∙ truth-told list entry root (r .typed .checked) v i in
-            sym (by-entry ∙ rw (conforming .entered, f))
+    -- the tree has a value on an entry that conforms, and that is a truth
+    pub judged-by : Conforming list entry → (v : Value) (b : Bool) → Is (valueOf (keysIn list) (entryIn list entry) root) v → b ≡ isTrue (some v)
+        → ok b ≡ judgeAnswer text list entry
+    judged-by good v b i t =
+        let f : b ≡ isTrue (valueOf (keysIn list) (entryIn list entry) root) = t ∙ truth-told list entry root (r .typed .checked) v i in
+        sym (by-entry ∙ rw (good .entered, f))

@@ -1,3 +1,4 @@
+pub mod Beside
 pub mod Lent
 pub mod Scratch
 pub mod Shown

@@ -1,14 +1,16 @@
 // The public calls. Each is thin: the stages of the documents, in their order, each asked of the crate below that answers for it.
 //
 // Every call keeps its promise (`paper`, specs/Promised) for all bytes, of any length and content: it answers what the definition of its
-// name in the documents' words (specs/Calls, and Explained and Pieces for what broke) says, its count or verdict, or the refusal with its number and place. It asks nothing of its caller, keeps
+// name in the documents' words (specs/Calls, Explained and Pieces for what broke, Named and Rechecking for what a text names) says, its count or verdict, or the refusal with its number and place. It asks nothing of its caller, keeps
 // nothing from one call to the next, and reads nothing past the bytes it is lent. The scratch of a call lies in its own frame.
 mod account;
 mod loading;
 mod pieces;
 mod reasons;
+mod rechecks;
 mod running;
 mod style;
+mod summary;
 mod text;
 mod verdict;
 mod writing;
@@ -21,8 +23,11 @@ pub use pieces::explained_text;
 pub use pieces::list_piece;
 pub use pieces::text_piece;
 pub use reasons::reason;
+pub use rechecks::recheck;
 pub use running::run;
 pub use style::print;
+pub use summarizing::count_keys;
+pub use summary::summarize;
 pub use text::check;
 pub use text::read;
 pub use verdict::judge;

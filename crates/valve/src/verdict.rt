@@ -5,6 +5,7 @@ ghost use Prim.Native.Nat.{ℕ, _+_, _*_, _≤_};
 ghost use lib.ListN.{length};
 ghost use Rattle.paper.specs.Answers.{ok, judgementSays};
 ghost use Rattle.paper.specs.Promised.{JudgePromised};
+ghost use Rattle.operands.specs.Conforming.{Conforming};
 ghost use Rattle.reading.specs.Grown.{Room, Short};
 ghost use Rattle.reading.specs.Restricted.{Rooted};
 use paper::Checking;
@@ -20,7 +21,17 @@ pub(crate) fn verdict(accepted: bool) -> Judgement
     Judgement::Violated
 }
 
-// By the tree at node `root`, of a text that passed: 19; 20; and what it is worth on the entry.
+// By the tree at node `root`, of a text that passed, what it is worth on an entry that conforms.
+pub(crate) fn judge_entered(list: &[u8], entry: &[u8], nodes: &[u32], root: usize) -> Judgement
+    requires { ⌜ root * 8 + 8 ≤ length (now nodes) ⌝ }
+    requires { ⌜ Conforming (now list) (now entry) ⌝ }
+    ensures { λ r. ⌜ ((text : List ℕ) → Rooted text (now (list .entry)) (now (nodes .entry)) root → JudgePromised text (now (list .entry)) (now (entry .entry)) r) ⌝ }
+{
+    let worth = judging::value_at(list, entry, nodes, root);
+    verdict(worth.is_true())
+}
+
+// The same of any entry: 19; 20; and what the tree is worth on it.
 fn judge_by(list: &[u8], entry: &[u8], nodes: &[u32], root: usize) -> Judgement
     requires { ⌜ root * 8 + 8 ≤ length (now nodes) ⌝ }
     requires { ⌜ ((text : List ℕ) × Rooted text (now list) (now nodes) root) ⌝ }
@@ -29,10 +40,7 @@ fn judge_by(list: &[u8], entry: &[u8], nodes: &[u32], root: usize) -> Judgement
     let entered = keys::check_entry(list, entry);
     match entered {
         Checking::Refused(number, place) => Judgement::Refused(number, place),
-        Checking::Passed => {
-            let worth = judging::value_at(list, entry, nodes, root);
-            verdict(worth.is_true())
-        }
+        Checking::Passed => judge_entered(list, entry, nodes, root),
     }
 }
 

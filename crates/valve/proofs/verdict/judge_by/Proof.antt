@@ -1,7 +1,6 @@
--- `valve::judge_by` meets its contract: the refusal of the entry, or what the tree is worth on it (`judged-by`).
-use mathlib.Core.Path.{_∙_}
+-- `valve::judge_by` meets its contract: the refusal of the entry, or the judgement of one that conforms (`judge_entered`).
 use borrow.Author.Needs.{needs}
-use Rattle.valve.proofs.Verdicts.{conforming, not-entered, judged-by}
+use Rattle.valve.proofs.Verdicts.{conforming, not-entered}
 use Rattle.valve.proofs.verdict.judge_by.Statement.{statement}
 use Rattle.valve.proofs.verdict.judge_by.Tie as tie
 
@@ -9,7 +8,7 @@ use Rattle.valve.proofs.verdict.judge_by.Tie as tie
 abbrev start : tie.After-check-entry → tie.Start
 start c = c .before .before .before .before
 
-entry-conforms : tie.Need-value-at-requires
+entry-conforms : tie.Need-judge-entered-requires
 entry-conforms c κs =
     let at-entry = c .before .before in
     let asked = start at-entry .pre in
@@ -21,12 +20,8 @@ entry-refused c text passed =
     let x = c .before .before .before .check-entry in
     not-entered _ _ _ _ _ passed (x .result) (x .ensures) (c .before .entered .given .1)
 
-by-worth : tie.Need-returns-2
-by-worth c text passed =
-    let told = c .before .before .before in
-    let x = told .before .before .check-entry in
-    c .verdict .ensures
-    ∙ judged-by _ _ _ _ _ passed (x .result) (x .ensures) (told .enum-told .given .1) _ _ (c .before .before .value-at .ensures text (passed .typed .marked)) (c .before .is-true .ensures)
+by-tree : tie.Need-returns-2
+by-tree c text passed = c .judge-entered .ensures text passed
 
 pub judge-by-spec : {M : Type 1} → statement M
 judge-by-spec =
@@ -36,7 +31,5 @@ judge-by-spec =
     (λ c. search needs)
     (λ c. search needs)
     entry-conforms
-    (λ c κs. search needs)
-    (λ c κs. search needs)
     entry-refused
-    by-worth)
+    by-tree)

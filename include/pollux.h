@@ -5,6 +5,7 @@
  *   On the author's desk     pollux_check, pollux_print, pollux_translate, pollux_judge: from the restriction's text
  *   On the switch            pollux_load once for a table, then pollux_run for every entry
  *   On site                  pollux_explain, with text and entry: which part of the restriction, or which key, turned it away
+ *   When entries are edited  pollux_summarize: which keys a text names; pollux_recheck: the earlier answer, where it still holds
  *
  * Inputs
  *   Each input is a pointer and a length in bytes, in that order. It may have any length and any content: whatever does not
@@ -112,7 +113,7 @@ enum pollux_refusal {
 };
 
 /*
- * An answer of any call but pollux_explain, which has more to tell.
+ * An answer of any call but pollux_explain, pollux_summarize and pollux_recheck, which have more to tell.
  *
  *   refused               says POLLUX_REFUSED, number and input as above, value the byte offset in that input
  *   accepted, violated    the other three are 0
@@ -196,6 +197,54 @@ struct pollux_reason {
 struct pollux_reason pollux_explain(const uint8_t *text, size_t text_length,
                                     const uint8_t *list, size_t list_length,
                                     const uint8_t *entry, size_t entry_length);
+
+/*
+ * What a text names. The first four are what pollux_check answers; the others are 0 on a refusal.
+ *
+ * A key is named by itself or by one of its fields, once or often. An entry that is changed in no named key, nor in its priority if that
+ * is named, and conforms before and after, has the same judgement before and after.
+ */
+struct pollux_summary {
+    uint64_t says;     /* enum pollux_says: refused or done */
+    uint64_t number;   /* enum pollux_refusal, or 0 */
+    uint64_t input;    /* enum pollux_input */
+    uint64_t value;    /* the offset of a refusal, or 0 */
+    uint64_t keys;     /* bit k, which is 2^k, is set where the text names the key of record k, from 0 */
+    uint64_t priority; /* 1 where the text names ::priority, else 0 */
+    uint64_t count;    /* how many keys it names */
+};
+
+/* Checks a text against a key list, as pollux_check does, and tells what it names. */
+struct pollux_summary pollux_summarize(const uint8_t *text, size_t text_length,
+                                       const uint8_t *list, size_t list_length);
+
+/*
+ * What a recheck answers.
+ *
+ *   reused is 1    the first four are the earlier answer as it was handed in, true or not: both entries conform, every record of a named
+ *                  key has the same 36 bytes in both and, where the text names ::priority, the priority is the same
+ *   reused is 0    the first four are what pollux_judge answers for the new entry, refusals included. The old entry is never refused:
+ *                  one that does not conform only means that nothing is reused
+ */
+struct pollux_rechecked {
+    uint64_t says;   /* enum pollux_says: refused, accepted or violated */
+    uint64_t number; /* enum pollux_refusal, or 0 */
+    uint64_t input;  /* enum pollux_input */
+    uint64_t value;
+    uint64_t reused; /* 1 or 0 */
+};
+
+/*
+ * Rechecks an entry after an edit, given the entry before it and what pollux_judge answered then. If that was the old entry's
+ * judgement, the result is the new entry's. Four numbers that are no answer of a judgement (says above 2; accepted or violated with
+ * another number than 0 beside it; refused with a number above 255, or in none of the five inputs) count as refused with 20 at byte 0
+ * of the entry.
+ */
+struct pollux_rechecked pollux_recheck(const uint8_t *text, size_t text_length,
+                                       const uint8_t *list, size_t list_length,
+                                       const uint8_t *old_entry, size_t old_length,
+                                       struct pollux_answer earlier,
+                                       const uint8_t *new_entry, size_t new_length);
 
 #ifdef __cplusplus
 }

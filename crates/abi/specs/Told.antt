@@ -3,18 +3,32 @@
 --
 -- A reason as eight: the four of the judgement, and the number of the part that is shown, or 0; the place of its root in the text, or of the
 -- key's record in the entry; and the start and length of its stretch of the text, or of the name in the list. Where nothing is shown these are 0.
-use Prim.Native.Nat.{ℕ, _+_, _-_}
+--
+-- A summary as seven: four as of a check, and the set of the keys, 1 if it has the mark or 0, and the count of the keys; a refused one has none.
+-- A recheck as five: the four of the judgement, and 1 if that was reused or 0.
+use Prim.Native.Nat.{ℕ, _+_, _-_, _≤_}
 use mathlib.Core.Path.{_≡_}
+use mathlib.Core.Logic.{_≢_}
 use mathlib.Core.Bool.{Bool, true, false, cond}
+use lib.Count.{ones}
 use lib.Dec.{eqb}
 use mathlib.Core.List.{List}
 use Rattle.paper.specs.Answers.{Answer, ok, refused, Input, inText, inList, inEntry, inBlocks, inBuffer, readingSays, checkingSays, judgementSays, translationSays, loadingSays, printingSays}
+use Rattle.paper.specs.Code.{bit}
 use Rattle.paper.specs.Explained.{Reason, inPart, atKey, nothingToShow, keyIndex, stretchFrom, explanationSays}
 use Rattle.paper.specs.ExplainedRight.{judgementOf}
-use Rattle.paper.specs.Promised.{ReadPromised, CheckPromised, JudgePromised, TranslateResult, TranslatePromised, LoadPromised, RunPromised, PrintPromised, ExplainPromised, Sole}
+use Rattle.paper.specs.Named.{Summary, summarizingSays}
+use Rattle.paper.specs.Rechecking.{Rechecked, reused, recheckingSays}
+use Rattle.paper.specs.Rechecking as Rechecking
+use Rattle.paper.specs.Promised.{ReadPromised, CheckPromised, JudgePromised, TranslateResult, TranslatePromised, LoadPromised, RunPromised, PrintPromised, ExplainPromised, SummarizePromised, RecheckPromised, Sole}
+use Rattle.paper.specs.declared.Judgement.{Judgement}
+use Rattle.paper.specs.declared.Judgement.the-variants as J
 use Rattle.paper.specs.declared.Explanation.{Explanation}
 use Rattle.abi.specs.declared.answer.PolluxAnswer.{PolluxAnswer}
 use Rattle.abi.specs.declared.reason.PolluxReason.{PolluxReason}
+use Rattle.abi.specs.declared.summary.PolluxSummary.{PolluxSummary}
+use Rattle.abi.specs.declared.recheck.PolluxRechecked.{PolluxRechecked}
+use Rattle.abi.specs.Heard.{noAnswer, heardAs}
 
 abbrev pub inputNo : Input → ℕ
 inputNo inText = 1
@@ -66,6 +80,33 @@ reasoned (inPart n at s) = showing (judged (judgementOf (inPart n at s))) n at (
 reasoned (atKey at k s) = showing (judged (judgementOf (atKey at k s))) 0 at (s .from) (s .to - s .from)
 reasoned (nothingToShow a) = showing (judged a) 0 0 0 0
 
+-- what is named, beside the answer of a check
+
+abbrev pub naming : PolluxAnswer → ℕ → ℕ → ℕ → PolluxSummary
+naming a keys priority count =
+    record {
+      says = a .says;
+      number = a .number;
+      input = a .input;
+      value = a .value;
+      keys = keys;
+      priority = priority;
+      count = count;
+    }
+
+abbrev pub summarized : Answer Summary → PolluxSummary
+summarized (ok s) = naming (done 0) (s .keys) (bit (s .priority)) (ones (s .keys))
+summarized (refused n i at) = naming (turnedAway n i at) 0 0 0
+
+-- whether it was reused, beside the judgement
+
+abbrev pub saying : PolluxAnswer → ℕ → PolluxRechecked
+saying a again = record { says = a .says; number = a .number; input = a .input; value = a .value; reused = again }
+
+abbrev pub rechecked : Rechecked → PolluxRechecked
+rechecked (reused a) = saying (judged a) 1
+rechecked (Rechecking.judged a) = saying (judged a) 0
+
 -- What C is told by a call: numbers that stand for a result that keeps the call's promise.
 pub record Tells {R N : Type 0} (Promised : R → Type 0) (numbers : R → N) (a : N) : Type 0 where
   pub result : R
@@ -99,6 +140,13 @@ PrintTold text buffer exit = Tells (λ r. PrintPromised text buffer (record { an
 abbrev pub ExplainTold : List ℕ → List ℕ → List ℕ → PolluxReason → Type 0
 ExplainTold text list entry = Tells (ExplainPromised text list entry) (λ r. reasoned (explanationSays r))
 
+abbrev pub SummarizeTold : List ℕ → List ℕ → PolluxSummary → Type 0
+SummarizeTold text list = Tells (SummarizePromised text list) (λ r. summarized (summarizingSays r))
+
+-- with the judgement that C means by four numbers
+abbrev pub RecheckTold : List ℕ → List ℕ → List ℕ → PolluxAnswer → List ℕ → PolluxRechecked → Type 0
+RecheckTold text list old earlier new = Tells (RecheckPromised text list old (heardAs earlier) new) (λ r. rechecked (recheckingSays r))
+
 -- so for all inputs C is told one thing, and no second; of `translate` and `print`, one answer with one buffer at exit
 pub record OneAnswerForC : Type 0 where
   pub read : (text : List ℕ) → Sole (ReadTold text)
@@ -111,6 +159,8 @@ pub record OneAnswerForC : Type 0 where
   pub print : (text buffer exit other : List ℕ) (a b : PolluxAnswer) → PrintTold text buffer exit a → PrintTold text buffer other b
       → (a ≡ b) × (exit ≡ other)
   pub explain : (text list entry : List ℕ) → Sole (ExplainTold text list entry)
+  pub summarize : (text list : List ℕ) → Sole (SummarizeTold text list)
+  pub recheck : (text list old : List ℕ) (earlier : PolluxAnswer) (new : List ℕ) → Sole (RecheckTold text list old earlier new)
 
 -- the way back, by which a caller reads an answer
 
@@ -133,12 +183,35 @@ heardReason p =
     cond (eqb (p .length) 0) (nothingToShow (heardJudged (answerIn p)))
     (cond (eqb (p .part) 0) (atKey (p .place) (keyIndex (p .place)) stretch) (inPart (p .part) (p .place) stretch))
 
+abbrev pub heardSummary : PolluxSummary → Answer Summary
+heardSummary p =
+    heard (λ _. record { keys = p .keys; priority = eqb (p .priority) 1 })
+    (record { says = p .says; number = p .number; input = p .input; value = p .value })
+
+abbrev pub heardRecheck : PolluxRechecked → Rechecked
+heardRecheck p =
+    let judgement = heardJudged (record { says = p .says; number = p .number; input = p .input; value = p .value }) in
+    cond (eqb (p .reused) 1) (reused judgement) (Rechecking.judged judgement)
+
+-- a refusal's number is a byte, in the code and so in what it tells
+abbrev pub Numbered : Judgement → Type 0
+Numbered J.Accepted = Unit {0}
+Numbered J.Violated = Unit {0}
+Numbered (J.Refused n p) = n ≤ 255
+
 pub record TellsAll : Type 0 where
   pub counts : (x : Answer ℕ) → heard (λ p. p .value) (counted x) ≡ x
   pub passes : (x : Answer (Unit {0})) → heard (λ _. tt) (passed x) ≡ x
   pub verdicts : (x : Answer Bool) → heardJudged (judged x) ≡ x
   pub reasons : (text list entry : List ℕ) (r : Explanation) → ExplainPromised text list entry r
       → heardReason (reasoned (explanationSays r)) ≡ explanationSays r
+  pub summaries : (x : Answer Summary) → heardSummary (summarized x) ≡ x
+  pub rechecks : (x : Rechecked) → heardRecheck (rechecked x) ≡ x
+
+-- an earlier judgement, handed in by its four numbers, is heard as it was told; and any other numbers as refused with 20 at entry 0
+pub record EarlierHeard : Type 0 where
+  pub as-told : (j : Judgement) → Numbered j → heardAs (judged (judgementSays j)) ≡ j
+  pub or-none : (p : PolluxAnswer) → ((j : Judgement) → Numbered j → p ≢ judged (judgementSays j)) → heardAs p ≡ noAnswer
 
 -- a reason's first four numbers are those of the judgement
 abbrev pub ReasonsAsJudged : Type 0

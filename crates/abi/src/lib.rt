@@ -1,14 +1,19 @@
 // The calls for C: include/pollux.h says the same in its words.
 //
-// Each takes every input as a pointer and a length, and answers four numbers by value, `explain` eight, which stand for a result that keeps the
+// Each takes every input as a pointer and a length, and answers four numbers by value, `explain` eight, `summarize` seven and `recheck` five, which stand for a result that keeps the
 // promise of the call of `valve` below it (specs/Told); `translate` and `print` also promise what each byte of the buffer holds afterwards.
 mod answer;
+mod heard;
 mod reason;
+mod recheck;
+mod summary;
 mod told;
 
-ghost use Rattle.abi.specs.Told.{ReadTold, CheckTold, JudgeTold, TranslateTold, LoadTold, RunTold, PrintTold, ExplainTold};
+ghost use Rattle.abi.specs.Told.{ReadTold, CheckTold, JudgeTold, TranslateTold, LoadTold, RunTold, PrintTold, ExplainTold, SummarizeTold, RecheckTold};
 use crate::answer::PolluxAnswer;
 use crate::reason::PolluxReason;
+use crate::recheck::PolluxRechecked;
+use crate::summary::PolluxSummary;
 
 // How many nodes the text's tree has.
 #[no_mangle]
@@ -73,4 +78,26 @@ pub extern "C" fn pollux_explain(text: &[u8], list: &[u8], entry: &[u8]) -> Poll
     ensures { λ r. ⌜ ExplainTold (now (text .entry)) (now (list .entry)) (now (entry .entry)) r ⌝ }
 {
     reason::of_explanation(valve::reason(text, list, entry))
+}
+
+// Which keys the text names, how many they are, and whether it names ::priority.
+#[no_mangle]
+pub extern "C" fn pollux_summarize(text: &[u8], list: &[u8]) -> PolluxSummary
+    ensures { λ r. ⌜ SummarizeTold (now (text .entry)) (now (list .entry)) r ⌝ }
+{
+    summary::of_summarizing(valve::summarize(text, list))
+}
+
+// The earlier answer, if it still holds for the new entry; else what the text says of that.
+#[no_mangle]
+pub extern "C" fn pollux_recheck(
+    text: &[u8],
+    list: &[u8],
+    old: &[u8],
+    earlier: PolluxAnswer,
+    new: &[u8],
+) -> PolluxRechecked
+    ensures { λ r. ⌜ RecheckTold (now (text .entry)) (now (list .entry)) (now (old .entry)) earlier (now (new .entry)) r ⌝ }
+{
+    recheck::of_rechecking(valve::recheck(text, list, old, heard::judgement(earlier), new))
 }

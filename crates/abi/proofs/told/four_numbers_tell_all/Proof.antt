@@ -1,5 +1,5 @@
 -- Two answers that are told by the same four numbers are read back as one; and so are two reasons: a piece that is shown has a byte, and a
--- part's number is not 0.
+-- part's number is not 0. A summary's mark is a bit, and so is whether a judgement was reused.
 use Prim.Native.Nat.{ℕ, _+_, _-_, _≤_}
 use native.Mathlib.Omega.{arith}
 use mathlib.Core.Path.{_≡_, refl, sym, ap}
@@ -13,10 +13,14 @@ use Rattle.paper.specs.declared.Explanation.the-variants as X
 use Rattle.paper.specs.Parts.{Stretch}
 use Rattle.paper.specs.Explained.{inPart, nothingToShow, keyIndex, stretchFrom, explanationSays}
 use Rattle.paper.specs.ExplainedRight.{Explains, names-part}
+use Rattle.paper.specs.Code.{bit}
+use Rattle.paper.specs.Named.{Summary}
+use Rattle.paper.specs.Rechecking as R
+use Rattle.paper.specs.Rechecking.{Rechecked, reused}
 use Rattle.paper.specs.Promised.{ExplainPromised}
 use Rattle.paper.proofs.ExplainedRight.{explained-is-right, pieces-in-inputs}
 use Rattle.abi.specs.declared.answer.PolluxAnswer.{PolluxAnswer}
-use Rattle.abi.specs.Told.{turnedAway, told, judged, reasoned, verdict, done, heard, heardJudged, heardReason, TellsAll}
+use Rattle.abi.specs.Told.{turnedAway, told, judged, reasoned, summarized, rechecked, verdict, done, heard, heardJudged, heardReason, heardSummary, heardRecheck, TellsAll}
 use Rattle.abi.proofs.told.four_numbers_tell_all.Statement.{statement}
 use Rattle.abi.proofs.told.four_numbers_tell_all.Tie as tie
 
@@ -62,6 +66,20 @@ module _ (text list entry : List ℕ) where
       rw (some, end)
   reason-heard (X.Nothing j) p = ap nothingToShow (judged-heard (judgementSays j))
 
+-- a summary, and a recheck
+
+bit-heard : (b : Bool) → eqb (bit b) 1 ≡ b
+bit-heard true = refl
+bit-heard false = refl
+
+summary-heard : (x : Answer Summary) → heardSummary (summarized x) ≡ x
+summary-heard (ok s) = rw (bit-heard (s .priority))
+summary-heard (refused n i at) = refusal-heard (λ _. record { keys = 0; priority = false }) n i at
+
+recheck-heard : (x : Rechecked) → heardRecheck (rechecked x) ≡ x
+recheck-heard (reused a) = ap reused (judged-heard a)
+recheck-heard (R.judged a) = ap R.judged (judged-heard a)
+
 tells-all : TellsAll
 tells-all =
     record {
@@ -69,6 +87,8 @@ tells-all =
       passes = all-heard (λ _. tt) (λ _. done 0) (λ _. refl);
       verdicts = judged-heard;
       reasons = reason-heard;
+      summaries = summary-heard;
+      rechecks = recheck-heard;
     }
 
 pub four-numbers-tell-all-spec : {M : Type 1} → statement M

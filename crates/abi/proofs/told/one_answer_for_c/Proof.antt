@@ -4,10 +4,13 @@ use mathlib.Core.List.{List}
 use Prim.Native.Nat.{ℕ}
 use Rattle.paper.specs.Answers.{readingSays, checkingSays, judgementSays, translationSays, loadingSays, printingSays}
 use Rattle.paper.specs.Explained.{explanationSays}
+use Rattle.paper.specs.Named.{summarizingSays}
+use Rattle.paper.specs.Rechecking.{recheckingSays}
 use Rattle.paper.specs.Promised.{TranslateResult, TranslatePromised, PrintResult, PrintPromised, Sole}
 use Rattle.paper.proofs.Promised.{no-second-result}
 use Rattle.abi.specs.declared.answer.PolluxAnswer.{PolluxAnswer}
-use Rattle.abi.specs.Told.{counted, passed, judged, reasoned, Tells, OneAnswerForC}
+use Rattle.abi.specs.Heard.{heardAs}
+use Rattle.abi.specs.Told.{counted, passed, judged, reasoned, summarized, rechecked, Tells, OneAnswerForC}
 use Rattle.abi.proofs.told.one_answer_for_c.Statement.{statement}
 use Rattle.abi.proofs.told.one_answer_for_c.Tie as tie
 
@@ -48,6 +51,8 @@ one-answer =
           told-with-buffer (λ r s. record { answer = r; buffer = s }) (λ (r : PrintResult). r .answer) (λ (r : PrintResult). r .buffer) (λ r s. refl) (λ r s. refl)
           (PrintPromised text buffer) (λ r. counted (printingSays r)) (one .print text buffer);
       explain = λ text list entry. told-once _ (λ r. reasoned (explanationSays r)) (one .explain text list entry);
+      summarize = λ text list. told-once _ (λ r. summarized (summarizingSays r)) (one .summarize text list);
+      recheck = λ text list old earlier new. told-once _ (λ r. rechecked (recheckingSays r)) (one .recheck text list old (heardAs earlier) new);
     }
 
 pub one-answer-for-c-spec : {M : Type 1} → statement M

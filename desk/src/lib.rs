@@ -2,6 +2,7 @@
 //! tools that compare the product with it and that turn readable key lists
 //! and entries into bytes.
 
+pub mod changes;
 pub mod commands;
 pub mod compare;
 pub mod generate;

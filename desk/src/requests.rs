@@ -1,14 +1,17 @@
 //! Requests and answer lines of the program `answers`.
 //!
 //! A request is one byte for the call (1 read, 2 check, 3 judge, 4 translate,
-//! 5 load, 6 run, 7 print, 8 explain) and three inputs, each a 4-byte big-endian
-//! length and its bytes. Each request gets one line. For a call that is lent a
-//! buffer, the third input is what the buffer holds before, and the line ends in
-//! the sum of what it holds after. The line of an explanation ends in the sum of
-//! the piece that it shows.
+//! 5 load, 6 run, 7 print, 8 explain, 9 summarize, 10 recheck) and three inputs,
+//! each a 4-byte big-endian length and its bytes. Each request gets one line. For
+//! a call that is lent a buffer, the third input is what the buffer holds before,
+//! and the line ends in the sum of what it holds after. The line of an explanation
+//! ends in the sum of the piece that it shows. The third input of a recheck is a
+//! change, the earlier answer with both entries; one that is too short for that is
+//! `malformed`.
 
 use std::io::{self, Read, Write};
 
+use crate::changes::Change;
 use crate::reference::{self, Explanation, Input};
 
 pub const LONGEST_INPUT: usize = 65_536;
@@ -24,10 +27,20 @@ pub enum Call {
     Run,
     Print,
     Explain,
+    Summarize,
+    Recheck,
+}
+
+/// What an input is to a call.
+#[derive(Clone, Copy, PartialEq, Eq, Debug)]
+pub enum Lent {
+    One(Input),
+    /// The earlier answer, the old entry and the new one in one.
+    Change,
 }
 
 impl Call {
-    pub const ALL: [Call; 8] = [
+    pub const ALL: [Call; 10] = [
         Call::Read,
         Call::Check,
         Call::Judge,
@@ -36,6 +49,8 @@ impl Call {
         Call::Run,
         Call::Print,
         Call::Explain,
+        Call::Summarize,
+        Call::Recheck,
     ];
 
     pub fn from_byte(byte: u8) -> Option<Call> {
@@ -56,20 +71,24 @@ impl Call {
             Call::Run => "run",
             Call::Print => "print",
             Call::Explain => "explain",
+            Call::Summarize => "summarize",
+            Call::Recheck => "recheck",
         }
     }
 
     /// What its three inputs are; one that is nothing is passed over.
-    pub fn inputs(self) -> [Option<Input>; 3] {
+    pub fn inputs(self) -> [Option<Lent>; 3] {
         use Input::*;
+        let one = |input| Some(Lent::One(input));
         match self {
-            Call::Read => [Some(Text), None, None],
-            Call::Check => [Some(Text), Some(List), None],
-            Call::Judge | Call::Explain => [Some(Text), Some(List), Some(Entry)],
-            Call::Translate => [Some(Text), Some(List), Some(Buffer)],
-            Call::Load => [Some(List), Some(Blocks), None],
-            Call::Run => [Some(List), Some(Blocks), Some(Entry)],
-            Call::Print => [Some(Text), None, Some(Buffer)],
+            Call::Read => [one(Text), None, None],
+            Call::Check | Call::Summarize => [one(Text), one(List), None],
+            Call::Judge | Call::Explain => [one(Text), one(List), one(Entry)],
+            Call::Translate => [one(Text), one(List), one(Buffer)],
+            Call::Load => [one(List), one(Blocks), None],
+            Call::Run => [one(List), one(Blocks), one(Entry)],
+            Call::Print => [one(Text), None, one(Buffer)],
+            Call::Recheck => [one(Text), one(List), Some(Lent::Change)],
         }
     }
 }
@@ -127,8 +146,10 @@ impl Request {
             Call::Run => reference::run(first, second, third),
             Call::Print => reference::print(first, &mut buffer),
             Call::Explain => return explanation_line(reference::explain(first, second, third)),
+            Call::Summarize => reference::summarize(first, second),
+            Call::Recheck => return recheck_line(first, second, third),
         };
-        if call.inputs().contains(&Some(Input::Buffer)) {
+        if self.input(Input::Buffer).is_some() {
             format!("{answer} {}", adler32(&buffer))
         } else {
             answer.to_string()
@@ -137,8 +158,18 @@ impl Request {
 
     /// The index of the input that is this to the call.
     pub fn input(&self, wanted: Input) -> Option<usize> {
+        self.lent(Lent::One(wanted))
+    }
+
+    fn lent(&self, wanted: Lent) -> Option<usize> {
         let inputs = Call::from_byte(self.call)?.inputs();
         inputs.iter().position(|&input| input == Some(wanted))
+    }
+
+    /// The index of the input that is a change, and the change, if it is whole.
+    pub fn change(&self) -> Option<(usize, Change)> {
+        let index = self.lent(Lent::Change)?;
+        Some((index, Change::from_bytes(&self.inputs[index])?))
     }
 }
 
@@ -147,6 +178,14 @@ fn explanation_line(explanation: Explanation) -> String {
         Some(piece) => format!("{explanation} {}", adler32(piece.bytes)),
         None => explanation.to_string(),
     }
+}
+
+fn recheck_line(text: &[u8], list: &[u8], third: &[u8]) -> String {
+    let Some(change) = Change::from_bytes(third) else {
+        return "malformed".to_string();
+    };
+    let earlier = change.earlier_answer();
+    reference::recheck(text, list, &change.old, earlier, &change.new).to_string()
 }
 
 /// Reads the next request.

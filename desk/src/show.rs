@@ -1,12 +1,13 @@
 //! Requests in readable form.
 
+use crate::changes::Change;
 use crate::pack;
 use crate::reference::blocks::{check_bytes, BLOCK, INSTRUCTIONS_IN_BLOCK};
 use crate::reference::code::{Instruction, Parts};
 use crate::reference::entries::{Entry, Record};
 use crate::reference::keys::{key_list, Key};
 use crate::reference::Input;
-use crate::requests::{Call, Request};
+use crate::requests::{Call, Lent, Request};
 
 /// The request in lines.
 pub fn request(request: &Request) -> String {
@@ -16,15 +17,33 @@ pub fn request(request: &Request) -> String {
     let mut lines = format!("{}\n", call.name());
     for (input, bytes) in call.inputs().into_iter().zip(&request.inputs) {
         lines.push_str(&match input {
-            Some(Input::Text) => text(bytes),
-            Some(Input::List) => list(bytes),
-            Some(Input::Entry) => entry(bytes, list_of(request)),
-            Some(Input::Blocks) => blocks(bytes),
-            Some(Input::Buffer) => start_of("buffer", bytes),
+            Some(Lent::One(input)) => one(input, bytes, list_of(request)),
+            Some(Lent::Change) => change(bytes, list_of(request)),
             None => passed_over(bytes),
         });
     }
     lines
+}
+
+fn one(input: Input, bytes: &[u8], keys: &[u8]) -> String {
+    match input {
+        Input::Text => text(bytes),
+        Input::List => list(bytes),
+        Input::Entry => entry("entry", bytes, keys),
+        Input::Blocks => blocks(bytes),
+        Input::Buffer => start_of("buffer", bytes),
+    }
+}
+
+/// The earlier answer, the old entry and the new one.
+fn change(bytes: &[u8], list: &[u8]) -> String {
+    let Some(change) = Change::from_bytes(bytes) else {
+        return start_of("no change", bytes);
+    };
+    let earlier = format!("  earlier answer: {}\n", change.earlier_answer());
+    let old = entry("old entry", &change.old, list);
+    let new = entry("new entry", &change.new, list);
+    [earlier, old, new].concat()
 }
 
 /// The key list of a request; empty if it has none.
@@ -55,8 +74,8 @@ fn list(list: &[u8]) -> String {
     lines
 }
 
-fn entry(entry: &[u8], list: &[u8]) -> String {
-    let head = format!("  entry, {} bytes: ", entry.len());
+fn entry(name: &str, entry: &[u8], list: &[u8]) -> String {
+    let head = format!("  {name}, {} bytes: ", entry.len());
     let readable = key_list(list).and_then(|keys| {
         let entry = Entry::from_bytes(entry, &keys)?;
         Ok(pack::entry_to_text(&entry, &keys))

@@ -8,6 +8,7 @@ use std::path::PathBuf;
 use std::process::{Command, Output, Stdio};
 
 use common::*;
+use desk::changes::Change;
 use desk::requests::{adler32, Call, Request};
 
 const DESK: &str = env!("CARGO_BIN_EXE_desk");
@@ -54,6 +55,11 @@ fn answer_lines() {
     let text = |text: &str| text.as_bytes().to_vec();
     let none = Vec::new;
     let block = translated("v == 1", &list());
+    let change = |earlier| {
+        let (old, new) = (entry(), entry());
+        Change { earlier, old, new }.to_bytes()
+    };
+    let recheck = |third| Request::new(Call::Recheck, text("v == 1"), list(), third);
     let requests = [
         Request::new(Call::Read, text("true && true"), none(), none()),
         Request::new(Call::Check, text("v == 1"), list(), none()),
@@ -74,6 +80,14 @@ fn answer_lines() {
         Request::new(Call::Explain, text("true"), list(), vec![0; 184]),
         Request::new(Call::Explain, text("true"), list(), entry()),
         Request::new(Call::Explain, text("@"), list(), entry()),
+        Request::new(Call::Summarize, text("o==1;::priority<1"), list(), none()),
+        Request::new(Call::Summarize, text("d > 3"), list(), vec![0; 3]),
+        recheck(change(1)),
+        recheck(change(2)),
+        recheck(change(7)),
+        recheck(change(1)[..189].to_vec()),
+        recheck(change(1)[..188].to_vec()),
+        Request::new(Call::Recheck, text("@"), none(), vec![0; 4]),
     ];
     let output = desk(&["answer"], &bytes(&requests));
     let sum = adler32(&block);
@@ -85,7 +99,9 @@ fn answer_lines() {
          loaded 4\naccepted\nrefused 5 text 0\nrefused 2 list 3\nrefused 19 entry 0\n\
          refused 16 blocks 0\nprinted 5 {print_sum}\nrefused 21 buffer 3 589828\n\
          refused 5 text 0 589828\npart 2 at 6 5 7 {part_sum}\nkey at 4 16 1 {key_sum}\n\
-         nothing accepted\nnothing refused 5 text 0\n"
+         nothing accepted\nnothing refused 5 text 0\nsummary 16 1 1\nrefused 13 text 2\n\
+         reused accepted\nreused violated\nreused refused 20 entry 0\n\
+         judged refused 19 entry 0\nmalformed\nmalformed\n"
     );
     assert_eq!(text_of(&output.stdout), wanted);
 }
@@ -106,7 +122,7 @@ fn odd_requests() {
         Request::new(Call::Read, long, Vec::new(), Vec::new()),
         Request::new(Call::Read, limit, Vec::new(), Vec::new()),
         Request {
-            call: 9,
+            call: 11,
             inputs: Default::default(),
         },
         Request {
@@ -184,6 +200,24 @@ fn show_an_explanation() {
     assert_eq!(shown, wanted);
 }
 
+#[test]
+fn show_a_recheck() {
+    let keys = "v exact 1";
+    let change = Change {
+        earlier: 2,
+        old: entry_of(keys, "v 1"),
+        new: vec![0; 3],
+    };
+    let request = |third| Request::new(Call::Recheck, b"true".to_vec(), list_of(keys), third);
+    let requests = bytes(&[request(change.to_bytes()), request(vec![9; 4])]);
+    let shown = text_of(&desk(&["show"], &requests).stdout);
+    let head = "recheck\n  text, 4 bytes: \"true\"\n  key list, 80 bytes:\n    v exact 1\n";
+    let change = "  earlier answer: violated\n  old entry, 40 bytes: priority 0; v 1\n  \
+                  new entry, 3 bytes: \n    000000\n  answer: judged refused 19 entry 3\n\n";
+    let none = "  no change, 4 bytes: 09090909...\n  answer: malformed\n\n";
+    assert_eq!(shown, format!("{head}{change}{head}{none}"));
+}
+
 /// What an explanation shows is a row of its own; what shows nothing counts as
 /// its answer.
 #[test]
@@ -208,6 +242,26 @@ fn histogram_of_explanations() {
         counted,
         [("accepted", "1"), ("part", "2"), ("refused", "1")]
     );
+}
+
+/// A reused answer is a row of its own; a recheck that judges counts as its answer.
+#[test]
+fn histogram_of_rechecks() {
+    let recheck = |old: [u8; 4]| {
+        let (earlier, old, new) = (1, old.to_vec(), vec![0; 4]);
+        let third = Change { earlier, old, new }.to_bytes();
+        Request::new(Call::Recheck, b"false".to_vec(), Vec::new(), third)
+    };
+    let requests = bytes(&[[0; 4], [1; 4], [255; 4]].map(recheck));
+    let table = text_of(&desk(&["histogram"], &requests).stdout);
+    let rows: Vec<Vec<&str>> = table
+        .lines()
+        .map(|line| line.split_whitespace().collect())
+        .collect();
+    let column = 1 + usize::from(Call::Recheck.byte());
+    assert_eq!(rows[0][column], "recheck");
+    assert_eq!((rows[1][0], rows[1][column]), ("reused", "2"));
+    assert_eq!((rows[2][0], rows[2][column]), ("violated", "1"));
 }
 
 #[test]

@@ -30,9 +30,11 @@ pub fn print(rest: &[String]) -> Result<(), Trouble> {
 }
 
 /// The line without what is different for each request; refusals in the order
-/// of their numbers. An explanation that shows nothing counts as its answer.
+/// of their numbers. An explanation that shows nothing counts as its answer, and
+/// so does a recheck that judges.
 fn kind_of(line: &str) -> (u32, String) {
     let line = line.strip_prefix("nothing ").unwrap_or(line);
+    let line = line.strip_prefix("judged ").unwrap_or(line);
     let words: Vec<&str> = line.split(' ').collect();
     match words[..] {
         ["refused", number, ..] => {

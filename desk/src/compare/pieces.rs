@@ -191,17 +191,27 @@ fn drop_keys(request: &mut Request, keys: Range<usize>) {
     };
     let blocks = code(request);
     request.inputs[list].drain(keys.start * Key::SIZE..keys.end * Key::SIZE);
-    let records = Entry::size(keys.start)..Entry::size(keys.end);
     if let Some(entry) = request.input(Input::Entry) {
-        if request.inputs[entry].len() >= records.end {
-            request.inputs[entry].drain(records);
-        }
+        drop_records(&mut request.inputs[entry], &keys);
+    }
+    if let Some((input, mut change)) = request.change() {
+        drop_records(&mut change.old, &keys);
+        drop_records(&mut change.new, &keys);
+        request.inputs[input] = change.to_bytes();
     }
     if let Some((input, mut code, count)) = blocks {
         for parts in &mut code {
             renumber(parts, &keys);
         }
         request.inputs[input] = blocks_of(&code, count - keys.len());
+    }
+}
+
+/// Drops the records of these keys from an entry that is long enough.
+fn drop_records(entry: &mut Vec<u8>, keys: &Range<usize>) {
+    let records = Entry::size(keys.start)..Entry::size(keys.end);
+    if entry.len() >= records.end {
+        entry.drain(records);
     }
 }
 

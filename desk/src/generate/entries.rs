@@ -34,7 +34,8 @@ pub fn value(rng: &mut Rng, width: u8) -> u128 {
     lowest_bits(number, width)
 }
 
-fn good_record(rng: &mut Rng, key: &NamedKey) -> Record {
+/// A record that conforms to this key.
+pub fn good_record(rng: &mut Rng, key: &NamedKey) -> Record {
     if key.kind != Kind::Exact && rng.one_in(5) {
         return Record::ABSENT;
     }

@@ -10,6 +10,7 @@ pub mod limits;
 pub mod lists;
 pub mod prints;
 pub mod programs;
+pub mod rechecks;
 pub mod rng;
 pub mod scenes;
 pub mod snippets;

@@ -2,8 +2,8 @@
 
 use super::rng::Rng;
 use super::{
-    blocks, buffers, damage, entries, explanations, limits, lists, prints, programs, snippets,
-    spelling, texts,
+    blocks, buffers, damage, entries, explanations, limits, lists, prints, programs, rechecks,
+    snippets, spelling, texts,
 };
 use crate::lists::{list_bytes, NamedKey};
 use crate::reference;
@@ -63,6 +63,8 @@ impl Scene {
             Call::Run => self.run(rng),
             Call::Print => self.print(rng),
             Call::Explain => self.explain(rng),
+            Call::Summarize => self.summarize(rng),
+            Call::Recheck => self.recheck(rng),
         }
     }
 
@@ -130,6 +132,51 @@ impl Scene {
         let (text, list) = (self.good_text(rng), list_bytes(&self.keys));
         let entry = explanations::broken_entry(rng, &self.keys, &self.entry);
         Request::new(Call::Explain, text, list, entry)
+    }
+
+    fn summarize(&self, rng: &mut Rng) -> Request {
+        if rng.one_in(4) {
+            return Scene::full(rng).summarize_here(rng);
+        }
+        self.summarize_here(rng)
+    }
+
+    fn summarize_here(&self, rng: &mut Rng) -> Request {
+        let (text, list) = (self.naming_text(rng), self.list(rng));
+        // A summary takes no entry, and passes over whatever stands in its place.
+        let passed_over = if rng.one_in(10) {
+            self.entry(rng)
+        } else {
+            Vec::new()
+        };
+        Request::new(Call::Summarize, text, list, passed_over)
+    }
+
+    fn recheck(&self, rng: &mut Rng) -> Request {
+        if rng.one_in(4) {
+            return Scene::full(rng).recheck_here(rng);
+        }
+        self.recheck_here(rng)
+    }
+
+    fn recheck_here(&self, rng: &mut Rng) -> Request {
+        let text = self.naming_text(rng);
+        let change = rechecks::change(rng, &text, &self.keys, &self.entry);
+        let third = if rng.one_in(16) {
+            rechecks::malformed(rng, &change)
+        } else {
+            change.to_bytes()
+        };
+        Request::new(Call::Recheck, text, self.list(rng), third)
+    }
+
+    /// Most often a text in which it is the keys it names that count.
+    fn naming_text(&self, rng: &mut Rng) -> Vec<u8> {
+        if rng.one_in(4) {
+            self.text(rng)
+        } else {
+            rechecks::text(rng, &self.keys, &self.entry)
+        }
     }
 
     pub fn list(&self, rng: &mut Rng) -> Vec<u8> {

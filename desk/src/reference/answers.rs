@@ -3,6 +3,8 @@
 
 use std::fmt;
 
+use super::summaries::Summary;
+
 /// The input that a refusal's place lies in.
 #[derive(Clone, Copy, PartialEq, Eq, Debug)]
 pub enum Input {
@@ -36,6 +38,8 @@ pub enum Answer {
     Loaded(usize),
     /// The text was printed in this many bytes.
     Printed(usize),
+    /// What the text names.
+    Summary(Summary),
     Refused {
         number: u8,
         input: Input,
@@ -97,6 +101,7 @@ impl fmt::Display for Answer {
             Answer::Translated(count) => write!(out, "translated {count}"),
             Answer::Loaded(count) => write!(out, "loaded {count}"),
             Answer::Printed(length) => write!(out, "printed {length}"),
+            Answer::Summary(summary) => write!(out, "summary {summary}"),
             Answer::Refused {
                 number,
                 input,

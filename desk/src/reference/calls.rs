@@ -14,7 +14,9 @@ use super::keys::{key_list, Key};
 use super::loading::checked_code;
 use super::meaning::holds;
 use super::printing::print_of;
+use super::rechecking::{reuses, Rechecked};
 use super::running::accepts;
+use super::summaries::Summary;
 use super::tokens::tokens;
 use super::translating::instructions;
 use super::tree::Node;
@@ -107,6 +109,25 @@ pub fn explain<'t, 'l>(text: &'t [u8], list: &'l [u8], entry: &[u8]) -> Explanat
         _ => None,
     };
     shown.unwrap_or(Explanation::Nothing(answer))
+}
+
+/// What a text names, with the stages of `check`: "We make summaries from text
+/// and list; none is taken from a caller."
+pub fn summarize(text: &[u8], list: &[u8]) -> Answer {
+    checked_text(text, list)
+        .map(|(tree, _)| Answer::Summary(Summary::of(&tree)))
+        .into()
+}
+
+/// Judges a new entry, unless the earlier answer for an old one can be reused. It
+/// has the stages of `judge` for the new entry; the old one is never refused.
+pub fn recheck(text: &[u8], list: &[u8], old: &[u8], earlier: Answer, new: &[u8]) -> Rechecked {
+    match checked_text(text, list) {
+        Ok((tree, keys)) if reuses(Summary::of(&tree), &keys, old, new) => {
+            Rechecked::Reused(earlier)
+        }
+        _ => Rechecked::Judged(judge(text, list, new)),
+    }
 }
 
 /// Stage 1.

@@ -4,7 +4,8 @@
 //! "Wanted: reading a restriction, checking its types against a key list,
 //! judging one entry directly from the text, translating a text into blocks,
 //! loading blocks, running loaded blocks on an entry." And document 02's "Print
-//! a restriction in house style" and "Tell me on site what broke".
+//! a restriction in house style", "Tell me on site what broke" and "A summary
+//! beside each rule".
 //!
 //! The files follow the documents' sections. Plainness comes before speed:
 //! what stands here is meant to be held against the paper, line by line.
@@ -25,7 +26,9 @@ pub mod meaning;
 pub mod numbers;
 pub mod parts;
 pub mod printing;
+pub mod rechecking;
 pub mod running;
+pub mod summaries;
 pub mod tokens;
 pub mod translating;
 pub mod tree;
@@ -34,5 +37,7 @@ pub mod values;
 pub mod words;
 
 pub use answers::{Answer, Input};
-pub use calls::{check, explain, judge, load, print, read, run, translate};
+pub use calls::{check, explain, judge, load, print, read, recheck, run, summarize, translate};
 pub use explaining::Explanation;
+pub use rechecking::Rechecked;
+pub use summaries::Summary;

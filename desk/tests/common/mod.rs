@@ -7,8 +7,10 @@ use desk::lists::list_bytes;
 use desk::pack::entries::Rules;
 use desk::pack::{entries_from_text, keys_from_text};
 use desk::reference::calls::LONGEST_TEXT;
-use desk::reference::{check, explain, judge, load, print, read, run, translate};
-use desk::reference::{Answer, Explanation, Input};
+use desk::reference::{
+    check, explain, judge, load, print, read, recheck, run, summarize, translate,
+};
+use desk::reference::{Answer, Explanation, Input, Rechecked};
 use desk::requests::{Call, Request};
 
 pub const KEYS: &str = "v exact 1\nd ternary 8\np lpm 8\nr range 16\no optional 4\n";
@@ -119,6 +121,26 @@ pub fn short_explanation(explanation: Explanation) -> String {
 
 pub fn explaining(text: impl AsRef<[u8]>) -> String {
     short_explanation(explain(text.as_ref(), &list(), &entry()))
+}
+
+/// "summary 3 0 2" for the set, the mark and the count, or a refusal.
+pub fn summarizing(text: impl AsRef<[u8]>) -> String {
+    short(summarize(text.as_ref(), &list()))
+}
+
+/// "reused A", "judged 19 entry 5".
+pub fn short_recheck(rechecked: Rechecked) -> String {
+    let word = match rechecked {
+        Rechecked::Reused(_) => "reused",
+        Rechecked::Judged(_) => "judged",
+    };
+    format!("{word} {}", short(rechecked.answer()))
+}
+
+/// The recheck of two readable entries by document 01's keys.
+pub fn rechecking(text: &str, old: &str, earlier: Answer, new: &str) -> String {
+    let (old, new) = (entry_of(KEYS, old), entry_of(KEYS, new));
+    short_recheck(recheck(text.as_bytes(), &list(), &old, earlier, &new))
 }
 
 /// Generated request `index` for this call, of the run with this seed.

@@ -6,7 +6,7 @@ use std::fs;
 use std::path::{Path, PathBuf};
 
 use common::*;
-use desk::reference::{check, judge, run, Answer};
+use desk::reference::{check, judge, recheck, run, Answer, Rechecked};
 
 struct Example {
     text: String,
@@ -20,20 +20,25 @@ fn folder(name: &str) -> PathBuf {
     Path::new(examples).join(name)
 }
 
+fn contents(name: &str, file: &str) -> String {
+    let path = folder(name).join(file);
+    fs::read_to_string(&path).unwrap_or_else(|error| panic!("{}: {error}", path.display()))
+}
+
+/// The entries in a file of an example, whether they conform or not.
+fn entries_in(name: &str, file: &str) -> Vec<Vec<u8>> {
+    let keys = contents(name, "keys.txt");
+    let size = 4 + 36 * (list_of(&keys).len() / 80);
+    let packed = entry_of(&keys, &contents(name, file));
+    packed.chunks(size).map(<[u8]>::to_vec).collect()
+}
+
 fn example(name: &str) -> Example {
-    let contents = |file: &str| {
-        let path = folder(name).join(file);
-        fs::read_to_string(&path).unwrap_or_else(|error| panic!("{}: {error}", path.display()))
-    };
-    let keys = contents("keys.txt");
-    let list = list_of(&keys);
-    let packed = entry_of(&keys, &contents("entries.txt"));
-    let size = 4 + 36 * (list.len() / 80);
     Example {
-        text: contents("restriction.p4c"),
-        list,
-        entries: packed.chunks(size).map(<[u8]>::to_vec).collect(),
-        expected: contents("expected.txt")
+        text: contents(name, "restriction.p4c"),
+        list: list_of(&contents(name, "keys.txt")),
+        entries: entries_in(name, "entries.txt"),
+        expected: contents(name, "expected.txt")
             .lines()
             .map(str::to_string)
             .collect(),
@@ -83,4 +88,39 @@ fn acl() {
 #[test]
 fn uplink() {
     answers_as_expected("uplink");
+}
+
+/// After a day's edit each entry gets the answer in `rechecked.txt`, the same as by
+/// a fresh judgement, and is reused where that says so.
+#[test]
+fn a_days_edit() {
+    let name = "ipv6-routing";
+    let Example {
+        text,
+        list,
+        entries,
+        ..
+    } = example(name);
+    let edited = entries_in(name, "edited.txt");
+    assert_eq!(edited.len(), entries.len());
+    let (mut said, mut reused) = (Vec::new(), 0);
+    for (number, (old, new)) in (1..).zip(entries.iter().zip(&edited)) {
+        let earlier = judge(text.as_bytes(), &list, old);
+        let rechecked = recheck(text.as_bytes(), &list, old, earlier, new);
+        let answer = rechecked.answer();
+        assert_eq!(answer, judge(text.as_bytes(), &list, new));
+        let again = matches!(rechecked, Rechecked::Reused(_));
+        reused += usize::from(again);
+        let word = answer.to_string();
+        let word = word.split(' ').next().expect("a word");
+        let how = if again { "reused" } else { "judged" };
+        said.push(format!("{word} entry {number}, {how}"));
+    }
+    let expected = contents(name, "rechecked.txt");
+    let lines: Vec<&str> = expected.lines().collect();
+    for (said, wanted) in said.iter().zip(&lines) {
+        assert_eq!(said, wanted.split(':').next().expect("a line"));
+    }
+    let counts = format!("{reused} reused, {} judged", edited.len() - reused);
+    assert_eq!(lines[edited.len() + 1..], [counts]);
 }

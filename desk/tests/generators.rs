@@ -10,10 +10,11 @@ use desk::lists::{list_bytes, NamedKey};
 use desk::reference::blocks::{blocks_of, bytes_needed};
 use desk::reference::calls::{text_tree, LONGEST_TEXT};
 use desk::reference::entries::Entry;
-use desk::reference::keys::{Key, Kind};
+use desk::reference::keys::{key_list, Key, Kind};
 use desk::reference::parts::{parts, Piece};
 use desk::reference::printing::print_of;
-use desk::reference::{explain, judge, load, run, translate, Answer, Explanation};
+use desk::reference::{explain, judge, load, run, summarize, translate};
+use desk::reference::{Answer, Explanation, Summary};
 use desk::requests::{Call, Request, LONGEST_INPUT};
 
 /// "refused 13", "accepted" and so on, with how often it occurs.
@@ -57,7 +58,7 @@ fn every_compared_call_occurs_and_no_other() {
 
 #[test]
 fn every_refusal_occurs_often() {
-    let counts = counts((0..25_000).map(|index| request(1, index)));
+    let counts = counts((0..30_000).map(|index| request(1, index)));
     for number in 1..=21 {
         let count = counts[&format!("refused {number}")];
         assert!(count >= 60, "refusal {number} occurs {count} times");
@@ -70,13 +71,17 @@ fn every_refusal_occurs_often() {
         "translated",
         "loaded",
         "printed",
+        "summary",
+        "judged",
     ] {
         assert!(counts[answer] >= 1_000, "{answer}: {}", counts[answer]);
     }
-    for answer in ["part", "key", "nothing"] {
+    for answer in ["part", "key", "nothing", "reused"] {
         assert!(counts[answer] >= 500, "{answer}: {}", counts[answer]);
     }
-    assert!(counts.contains_key("unknown") && counts.contains_key("too"));
+    for answer in ["unknown", "too", "malformed"] {
+        assert!(counts.contains_key(answer), "{answer}");
+    }
 }
 
 #[test]
@@ -282,6 +287,66 @@ fn explanations_reach_their_limits() {
         }
     }
     assert_eq!(counts.len(), 17, "{counts:?}");
+    for (reached, count) in counts {
+        assert!(count >= 15, "{reached}: {count}");
+    }
+}
+
+/// In what two entries that conform differ, for a text that names these keys.
+fn difference(summary: Summary, old: &Entry, new: &Entry, keys: &[Key]) -> &'static str {
+    let differ: Vec<usize> = (0..keys.len())
+        .filter(|&index| old.records[index] != new.records[index])
+        .collect();
+    let spelled = |index: usize| {
+        old.records[index].reading(&keys[index]) == new.records[index].reading(&keys[index])
+    };
+    match (differ[..].split_first(), old.priority != new.priority) {
+        (None, false) => "nothing",
+        (None, true) if summary.priority => "a priority that is named",
+        (None, true) => "a priority that is not",
+        (Some((&one, [])), false) if spelled(one) && summary.names(one) => {
+            "a spelling that is named"
+        }
+        (Some((&one, [])), false) if spelled(one) => "a spelling that is not",
+        (Some((&one, [])), false) if summary.names(one) && one == Key::MOST - 1 => "key 31, named",
+        (Some((&one, [])), false) if summary.names(one) => "a key that is named",
+        (Some((&one, [])), false) if one == Key::MOST - 1 => "key 31, not named",
+        (Some((_, [])), false) => "a key that is not",
+        _ => "several things",
+    }
+}
+
+/// Which entries of a change conform.
+fn conforming(old: &[u8], new: &[u8], keys: &[Key]) -> Result<(Entry, Entry), &'static str> {
+    match (Entry::from_bytes(old, keys), Entry::from_bytes(new, keys)) {
+        (Ok(old), Ok(new)) => Ok((old, new)),
+        (Err(_), Ok(_)) => Err("an old entry that does not conform"),
+        (Ok(_), Err(_)) => Err("a new entry that does not conform"),
+        (Err(_), Err(_)) => Err("neither conforms"),
+    }
+}
+
+/// Every way in which entries may differ, for texts that are good.
+#[test]
+fn rechecks_reach_their_limits() {
+    let mut counts = BTreeMap::new();
+    for index in 0..8_000 {
+        let request = common::generated(Call::Recheck, 15, index);
+        let [text, list, _] = &request.inputs;
+        let Answer::Summary(summary) = summarize(text, list) else {
+            continue;
+        };
+        let keys = key_list(list).expect("a good list");
+        let reached = match request.change() {
+            None => "malformed",
+            Some((_, change)) => match conforming(&change.old, &change.new, &keys) {
+                Ok((old, new)) => difference(summary, &old, &new, &keys),
+                Err(what) => what,
+            },
+        };
+        *counts.entry(reached).or_insert(0) += 1;
+    }
+    assert_eq!(counts.len(), 14, "{counts:?}");
     for (reached, count) in counts {
         assert!(count >= 15, "{reached}: {count}");
     }

@@ -320,6 +320,19 @@ fn a_wrong_print_is_made_small() {
     assert_eq!(smallest, wanted);
 }
 
+/// Key list, both entries and the earlier answer become small together.
+#[test]
+fn a_wrong_recheck_is_made_small() {
+    let found = compare_with_sed("s/^reused/Reused/");
+    let (_, smallest) = found.split_once("the smallest found:\n").expect("one");
+    let wanted = "recheck\n  text, 4 bytes: \"true\"\n  key list, 0 bytes:\n  \
+                  earlier answer: refused 20 entry 0\n  old entry, 4 bytes: priority 0\n  \
+                  new entry, 4 bytes: priority 0\n  \
+                  reference: reused refused 20 entry 0\n  \
+                  program:   Reused refused 20 entry 0\n";
+    assert!(smallest.starts_with(wanted), "{smallest}");
+}
+
 #[test]
 fn a_program_that_stops_is_found() {
     let found = compare_with_sed("/refused 9/,$d");

@@ -32,6 +32,8 @@ pub const SHARES: &[(Call, usize)] = &[
     (Call::Run, 4),
     (Call::Print, 3),
     (Call::Explain, 4),
+    (Call::Summarize, 2),
+    (Call::Recheck, 4),
 ];
 
 /// Request `index` of the run with this seed.

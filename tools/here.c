@@ -1,7 +1,8 @@
 /*
  * The calls of pollux.h over the archive's code when that is compiled for Arm. The code takes the place of its answer as a first
- * argument, as x86-64's convention has it; C on Arm passes it in a register of its own, x8. `tools/here` gives the code's functions the
- * names raw_..., so that these can have theirs.
+ * argument, as x86-64's convention has it; C on Arm passes it in a register of its own, x8. And it takes the earlier answer of a recheck
+ * on the stack, before what has no register there, where C on Arm passes its address: so its four numbers are arguments after the eight that
+ * have one. `tools/here` gives the code's functions the names raw_..., so that these can have theirs.
  */
 #include "pollux.h"
 
@@ -16,6 +17,9 @@ void raw_pollux_load(answer *, bytes, size_t, bytes, size_t);
 void raw_pollux_run(answer *, bytes, size_t, bytes, size_t, bytes, size_t);
 void raw_pollux_print(answer *, bytes, size_t, uint8_t *, size_t);
 void raw_pollux_explain(struct pollux_reason *, bytes, size_t, bytes, size_t, bytes, size_t);
+void raw_pollux_summarize(struct pollux_summary *, bytes, size_t, bytes, size_t);
+void raw_pollux_recheck(struct pollux_rechecked *, bytes, size_t, bytes, size_t, bytes, size_t, bytes, uint64_t, uint64_t, uint64_t,
+                        uint64_t, size_t);
 
 answer pollux_read(bytes text, size_t text_length)
 {
@@ -70,5 +74,21 @@ struct pollux_reason pollux_explain(bytes text, size_t text_length, bytes list, 
 {
     struct pollux_reason given;
     raw_pollux_explain(&given, text, text_length, list, list_length, entry, entry_length);
+    return given;
+}
+
+struct pollux_summary pollux_summarize(bytes text, size_t text_length, bytes list, size_t list_length)
+{
+    struct pollux_summary given;
+    raw_pollux_summarize(&given, text, text_length, list, list_length);
+    return given;
+}
+
+struct pollux_rechecked pollux_recheck(bytes text, size_t text_length, bytes list, size_t list_length, bytes old_entry, size_t old_length,
+                                       answer earlier, bytes new_entry, size_t new_length)
+{
+    struct pollux_rechecked given;
+    raw_pollux_recheck(&given, text, text_length, list, list_length, old_entry, old_length, new_entry, earlier.says, earlier.number,
+                       earlier.input, earlier.value, new_length);
     return given;
 }

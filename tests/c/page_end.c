@@ -75,13 +75,19 @@ static void write_incident(void)
     static uint8_t buffer[POLLUX_BLOCK_SIZE];
     uint8_t *name = list + POLLUX_KEY_SIZE - POLLUX_MAX_NAME;
     memset(name, 'k', POLLUX_MAX_NAME);
-    struct request request = { .inputs = { { name, POLLUX_MAX_NAME }, { list, sizeof list }, { buffer, 0 } } };
+    struct request request = { .inputs = { { name, POLLUX_MAX_NAME }, { list, sizeof list }, { buffer, 0 }, { entry, 0 } } };
     request.call = CHECK;
+    write_all_varied(&request);
+    request.call = SUMMARIZE;
     write_all_varied(&request);
     request.inputs[2] = (struct input){ entry, sizeof entry };
     request.call = JUDGE;
     write_all_varied(&request);
     request.call = EXPLAIN;
+    write_all_varied(&request);
+    request.call = RECHECK;
+    request.earlier = POLLUX_ACCEPTED;
+    request.inputs[OLD_ENTRY] = (struct input){ entry, sizeof entry };
     write_all_varied(&request);
     request.call = TRANSLATE;
     request.inputs[2] = (struct input){ buffer, sizeof buffer };
@@ -232,7 +238,7 @@ static bool failed(const char *what)
 }
 
 /* Only the blocks or the print that an answer tells of may have changed, and after a refusal nothing. */
-static bool kept_rest(const struct request *request, const struct request *lent, struct pollux_reason answer)
+static bool kept_rest(const struct request *request, const struct request *lent, struct told answer)
 {
     if (!writes(request->call))
         return true;
@@ -243,7 +249,7 @@ static bool kept_rest(const struct request *request, const struct request *lent,
     return written <= after->length && memcmp(before->at + written, after->at + written, after->length - written) == 0;
 }
 
-static bool same_answer(const struct request *lent, struct pollux_reason answer, const char *line)
+static bool same_answer(const struct request *lent, struct told answer, const char *line)
 {
     char got[LINE_SIZE];
     answer_line(got, lent, answer);
@@ -263,7 +269,7 @@ static bool try_placing(const struct request *request, const char *line, unsigne
         if (!writes(request->call) || i != 2)
             protect(&arenas[i], PROT_READ);
     }
-    struct pollux_reason answer = make_call(&pollux_calls, &lent);
+    struct told answer = make_call(&pollux_calls, &lent);
     for (unsigned i = 0; i < INPUTS; i++) {
         protect(&arenas[i], PROT_READ | PROT_WRITE);
         if (!untouched_around(&arenas[i], lent.inputs[i], placing))

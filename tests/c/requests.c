@@ -6,21 +6,24 @@
 
 const char *call_name(unsigned call)
 {
-    static const char *const names[] = { "no call", "read", "check", "judge", "translate", "load", "run", "print", "explain" };
+    static const char *const names[] = { "no call", "read",  "check",   "judge",     "translate", "load",
+                                         "run",     "print", "explain", "summarize", "recheck" };
     return names[call <= LAST_CALL ? call : 0];
 }
 
 const char *input_name(unsigned call, unsigned input)
 {
     static const char *const names[][INPUTS] = {
-        [READ] = { "text", "", "" },
-        [CHECK] = { "text", "list", "" },
-        [JUDGE] = { "text", "list", "entry" },
-        [TRANSLATE] = { "text", "list", "buffer" },
-        [LOAD] = { "list", "blocks", "" },
-        [RUN] = { "list", "blocks", "entry" },
-        [PRINT] = { "text", "", "buffer" },
-        [EXPLAIN] = { "text", "list", "entry" },
+        [READ] = { "text", "", "", "" },
+        [CHECK] = { "text", "list", "", "" },
+        [JUDGE] = { "text", "list", "entry", "" },
+        [TRANSLATE] = { "text", "list", "buffer", "" },
+        [LOAD] = { "list", "blocks", "", "" },
+        [RUN] = { "list", "blocks", "entry", "" },
+        [PRINT] = { "text", "", "buffer", "" },
+        [EXPLAIN] = { "text", "list", "entry", "" },
+        [SUMMARIZE] = { "text", "list", "", "" },
+        [RECHECK] = { "text", "list", "entry", [OLD_ENTRY] = "old entry" },
     };
     return names[call][input];
 }
@@ -38,12 +41,26 @@ static void read_exactly(FILE *file, uint8_t *into, size_t length)
     exit(3);
 }
 
+/* How many inputs a request has, and what stands before the old entry in the third one of a recheck. */
+enum { FRAMED = 3, CHANGE_HEAD = 5 };
+
+static size_t size_at(const uint8_t head[4])
+{
+    return (size_t)head[0] << 24 | (size_t)head[1] << 16 | (size_t)head[2] << 8 | head[3];
+}
+
+static void set_size(uint8_t head[4], size_t size)
+{
+    for (int i = 0; i < 4; i++)
+        head[i] = (uint8_t)(size >> 8 * (3 - i));
+}
+
 /* Reads one input; false if it is longer than any may be, and then it is passed over. */
 static bool read_input(FILE *file, uint8_t memory[LONGEST_INPUT], struct input *input)
 {
     uint8_t head[4];
     read_exactly(file, head, sizeof head);
-    size_t length = (size_t)head[0] << 24 | (size_t)head[1] << 16 | (size_t)head[2] << 8 | head[3];
+    size_t length = size_at(head);
     *input = (struct input){ memory, length };
     bool fits = length <= LONGEST_INPUT;
     while (length > 0) {
@@ -54,35 +71,69 @@ static bool read_input(FILE *file, uint8_t memory[LONGEST_INPUT], struct input *
     return fits;
 }
 
+/* Takes the third input of a recheck apart; false if it is too short. */
+static bool take_apart(struct request *request)
+{
+    struct input change = request->inputs[2];
+    if (change.length < CHANGE_HEAD)
+        return false;
+    size_t old = size_at(change.at + 1), room = change.length - CHANGE_HEAD;
+    if (old > room)
+        return false;
+    request->earlier = change.at[0];
+    request->inputs[OLD_ENTRY] = (struct input){ change.at + CHANGE_HEAD, old };
+    request->inputs[2] = (struct input){ change.at + CHANGE_HEAD + old, room - old };
+    return true;
+}
+
 bool read_request(FILE *file, struct request *request)
 {
-    static uint8_t memory[INPUTS][LONGEST_INPUT];
+    static uint8_t memory[FRAMED][LONGEST_INPUT];
     int call;
     while ((call = getc(file)) != EOF) {
         bool good = call >= READ && call <= LAST_CALL;
-        request->call = (unsigned)call;
-        for (int i = 0; i < INPUTS; i++)
+        *request = (struct request){ .call = (unsigned)call, .inputs[OLD_ENTRY] = { memory[2], 0 } };
+        for (int i = 0; i < FRAMED; i++)
             good &= read_input(file, memory[i], &request->inputs[i]);
-        if (good)
+        if (good && (call != RECHECK || take_apart(request)))
             return true;
     }
     return false;
+}
+
+static void write_size(FILE *file, size_t size)
+{
+    uint8_t head[4];
+    set_size(head, size);
+    fwrite(head, 1, sizeof head, file);
+}
+
+/* The earlier answer and the old entry, which stand before the new one in the third input of a recheck. */
+static void write_old(FILE *file, const struct request *request)
+{
+    const struct input *old = &request->inputs[OLD_ENTRY];
+    fwrite(&request->earlier, 1, 1, file);
+    write_size(file, old->length);
+    fwrite(old->at, 1, old->length, file);
 }
 
 void write_request(FILE *file, const struct request *request)
 {
     uint8_t call = (uint8_t)request->call;
     fwrite(&call, 1, 1, file);
-    for (int i = 0; i < INPUTS; i++) {
-        size_t length = request->inputs[i].length;
-        uint8_t head[4] = { (uint8_t)(length >> 24), (uint8_t)(length >> 16), (uint8_t)(length >> 8), (uint8_t)length };
-        fwrite(head, 1, sizeof head, file);
-        fwrite(request->inputs[i].at, 1, length, file);
+    for (int i = 0; i < FRAMED; i++) {
+        const struct input *input = &request->inputs[i];
+        bool change = call == RECHECK && i == 2;
+        write_size(file, input->length + (change ? CHANGE_HEAD + request->inputs[OLD_ENTRY].length : 0));
+        if (change)
+            write_old(file, request);
+        fwrite(input->at, 1, input->length, file);
     }
 }
 
 const struct calls pollux_calls = {
-    pollux_read, pollux_check, pollux_judge, pollux_translate, pollux_load, pollux_run, pollux_print, pollux_explain,
+    pollux_read, pollux_check, pollux_judge,   pollux_translate, pollux_load,
+    pollux_run,  pollux_print, pollux_explain, pollux_summarize, pollux_recheck,
 };
 
 static struct pollux_answer make_plain_call(const struct calls *calls, const struct request *request)
@@ -99,13 +150,53 @@ static struct pollux_answer make_plain_call(const struct calls *calls, const str
     }
 }
 
-struct pollux_reason make_call(const struct calls *calls, const struct request *request)
+/*
+ * The earlier answer that a byte stands for. Some of the bytes that stand for a refusal are told by numbers that are no answer of a
+ * judgement, which count as that refusal.
+ */
+static struct pollux_answer earlier_answer(uint8_t byte)
 {
-    const struct input *a = &request->inputs[0], *b = &request->inputs[1], *c = &request->inputs[2];
-    if (request->call == EXPLAIN)
-        return calls->explain(a->at, a->length, b->at, b->length, c->at, c->length);
-    struct pollux_answer answer = make_plain_call(calls, request);
-    return (struct pollux_reason){ answer.says, answer.number, answer.input, answer.value, 0, 0, 0, 0 };
+    switch (byte) {
+    case POLLUX_ACCEPTED: return (struct pollux_answer){ .says = POLLUX_ACCEPTED };
+    case POLLUX_VIOLATED: return (struct pollux_answer){ .says = POLLUX_VIOLATED };
+    case 3: return (struct pollux_answer){ .says = POLLUX_DONE };
+    case 20: return (struct pollux_answer){ .says = POLLUX_ACCEPTED, .value = 1 };
+    case 255: return (struct pollux_answer){ POLLUX_REFUSED, 256 + POLLUX_ENTRY_RULE, POLLUX_ENTRY, 7 };
+    default: return (struct pollux_answer){ POLLUX_REFUSED, POLLUX_ENTRY_RULE, POLLUX_ENTRY, 0 };
+    }
+}
+
+static struct told tell_reason(struct pollux_reason it)
+{
+    return (struct told){ .says = it.says, .number = it.number, .input = it.input, .value = it.value,
+                          .part = it.part, .place = it.place, .start = it.start, .length = it.length };
+}
+
+static struct told tell_summary(struct pollux_summary it)
+{
+    return (struct told){ .says = it.says, .number = it.number, .input = it.input, .value = it.value,
+                          .keys = it.keys, .priority = it.priority, .count = it.count };
+}
+
+static struct told tell_recheck(struct pollux_rechecked it)
+{
+    return (struct told){ .says = it.says, .number = it.number, .input = it.input, .value = it.value, .reused = it.reused };
+}
+
+struct told make_call(const struct calls *calls, const struct request *request)
+{
+    const struct input *a = &request->inputs[0], *b = &request->inputs[1], *c = &request->inputs[2], *old = &request->inputs[OLD_ENTRY];
+    switch (request->call) {
+    case EXPLAIN: return tell_reason(calls->explain(a->at, a->length, b->at, b->length, c->at, c->length));
+    case SUMMARIZE: return tell_summary(calls->summarize(a->at, a->length, b->at, b->length));
+    case RECHECK:
+        return tell_recheck(calls->recheck(a->at, a->length, b->at, b->length, old->at, old->length, earlier_answer(request->earlier),
+                                           c->at, c->length));
+    default: {
+        struct pollux_answer answer = make_plain_call(calls, request);
+        return (struct told){ .says = answer.says, .number = answer.number, .input = answer.input, .value = answer.value };
+    }
+    }
 }
 
 static uint32_t adler32(struct input input)
@@ -120,14 +211,15 @@ static uint32_t adler32(struct input input)
 
 /* ---- Does an answer say what its call may say, with zeros where it says nothing? */
 
-static bool fits_call(unsigned call, struct pollux_reason answer)
+static bool fits_call(unsigned call, struct told answer)
 {
-    bool judges = call == JUDGE || call == RUN || call == EXPLAIN;
+    bool judges = call == JUDGE || call == RUN || call == EXPLAIN || call == RECHECK;
     switch (answer.says) {
     case POLLUX_REFUSED: return answer.number >= 1 && answer.input >= POLLUX_TEXT && answer.input <= POLLUX_BUFFER;
     case POLLUX_ACCEPTED:
     case POLLUX_VIOLATED: return judges && answer.number == 0 && answer.input == 0 && answer.value == 0;
-    case POLLUX_DONE: return !judges && answer.number == 0 && answer.input == 0 && (call != CHECK || answer.value == 0);
+    case POLLUX_DONE:
+        return !judges && answer.number == 0 && answer.input == 0 && ((call != CHECK && call != SUMMARIZE) || answer.value == 0);
     default: return false;
     }
 }
@@ -135,7 +227,7 @@ static bool fits_call(unsigned call, struct pollux_reason answer)
 /* What an explanation must show: a part of the text for a violated entry, a key for one refused with 20 at a record, else nothing. */
 enum shown { NOTHING, PART, KEY };
 
-static enum shown what_is_shown(unsigned call, struct pollux_reason answer)
+static enum shown what_is_shown(unsigned call, struct told answer)
 {
     if (call != EXPLAIN)
         return NOTHING;
@@ -144,12 +236,12 @@ static enum shown what_is_shown(unsigned call, struct pollux_reason answer)
     return answer.says == POLLUX_REFUSED && answer.number == POLLUX_ENTRY_RULE && answer.value >= POLLUX_PRIORITY_SIZE ? KEY : NOTHING;
 }
 
-static bool lies_in(struct pollux_reason answer, size_t length)
+static bool lies_in(struct told answer, size_t length)
 {
     return answer.length >= 1 && answer.start <= length && answer.length <= length - answer.start;
 }
 
-static bool fits_shown(const struct request *request, struct pollux_reason answer)
+static bool fits_shown(const struct request *request, struct told answer)
 {
     switch (what_is_shown(request->call, answer)) {
     case PART:
@@ -162,30 +254,40 @@ static bool fits_shown(const struct request *request, struct pollux_reason answe
     }
 }
 
+/* Only a summary names keys, and only a recheck reuses. */
+static bool fits_named(const struct request *request, struct told answer)
+{
+    bool named = request->call == SUMMARIZE && answer.says == POLLUX_DONE;
+    uint64_t keys = named ? request->inputs[1].length / POLLUX_KEY_SIZE : 0;
+    return answer.keys >> keys == 0 && answer.count <= keys && answer.priority <= named && answer.reused <= (request->call == RECHECK);
+}
+
 /* ---- Lines. */
 
 /* Writes at the end of a line. */
 #define ADD(line, ...) snprintf((line) + strlen(line), LINE_SIZE - strlen(line), __VA_ARGS__)
 
-static void add_answer(char line[LINE_SIZE], unsigned call, struct pollux_reason answer)
+static void add_answer(char line[LINE_SIZE], unsigned call, struct told answer)
 {
     static const char *const inputs[] = { "", "text", "list", "entry", "blocks", "buffer" };
     static const char *const counted[] = { [READ] = "read", [TRANSLATE] = "translated", [LOAD] = "loaded", [PRINT] = "printed" };
     if (answer.says == POLLUX_REFUSED)
         ADD(line, "refused %" PRIu64 " %s %" PRIu64, answer.number, inputs[answer.input], answer.value);
+    else if (call == SUMMARIZE)
+        ADD(line, "summary %" PRIu64 " %" PRIu64 " %" PRIu64, answer.keys, answer.priority, answer.count);
     else if (answer.says == POLLUX_DONE && call != CHECK)
         ADD(line, "%s %" PRIu64, counted[call], answer.value);
     else
         ADD(line, "%s", answer.says == POLLUX_DONE ? "passed" : answer.says == POLLUX_ACCEPTED ? "accepted" : "violated");
 }
 
-static void add_piece(char line[LINE_SIZE], struct pollux_reason answer, struct input input)
+static void add_piece(char line[LINE_SIZE], struct told answer, struct input input)
 {
     struct input piece = { input.at + answer.start, (size_t)answer.length };
     ADD(line, " at %" PRIu64 " %" PRIu64 " %" PRIu64 " %u", answer.place, answer.start, answer.length, adler32(piece));
 }
 
-static void add_explanation(char line[LINE_SIZE], const struct request *request, struct pollux_reason answer)
+static void add_explanation(char line[LINE_SIZE], const struct request *request, struct told answer)
 {
     switch (what_is_shown(EXPLAIN, answer)) {
     case PART:
@@ -202,16 +304,27 @@ static void add_explanation(char line[LINE_SIZE], const struct request *request,
     }
 }
 
-void answer_line(char line[LINE_SIZE], const struct request *request, struct pollux_reason answer)
+static void add_odd(char line[LINE_SIZE], struct told answer)
+{
+    uint64_t numbers[sizeof answer / sizeof(uint64_t)];
+    memcpy(numbers, &answer, sizeof answer);
+    ADD(line, "odd");
+    for (size_t i = 0; i < sizeof numbers / sizeof numbers[0]; i++)
+        ADD(line, " %" PRIu64, numbers[i]);
+}
+
+void answer_line(char line[LINE_SIZE], const struct request *request, struct told answer)
 {
     line[0] = '\0';
-    if (!fits_call(request->call, answer) || !fits_shown(request, answer))
-        ADD(line, "odd %" PRIu64 " %" PRIu64 " %" PRIu64 " %" PRIu64 " %" PRIu64 " %" PRIu64 " %" PRIu64 " %" PRIu64, answer.says,
-            answer.number, answer.input, answer.value, answer.part, answer.place, answer.start, answer.length);
+    if (!fits_call(request->call, answer) || !fits_shown(request, answer) || !fits_named(request, answer))
+        add_odd(line, answer);
     else if (request->call == EXPLAIN)
         add_explanation(line, request, answer);
-    else
+    else {
+        if (request->call == RECHECK)
+            ADD(line, "%s ", answer.reused ? "reused" : "judged");
         add_answer(line, request->call, answer);
+    }
     if (writes(request->call))
         ADD(line, " %u", adler32(request->inputs[2]));
 }

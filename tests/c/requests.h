@@ -2,8 +2,9 @@
  * Requests to the calls, and the lines that tell their answers: the framing of the programs `answers` and `desk answer`.
  *
  * A request is a byte for the call and three inputs, each a length of 4 bytes, big-endian, and its bytes; a call that has fewer
- * inputs finds the rest empty. The line of a translation or a print ends in the Adler-32 sum of the buffer as it stands after
- * the call, and that of an explanation in the sum of the piece that is shown.
+ * inputs finds the rest empty. The third input of a recheck is made of a byte for the earlier answer, the old entry's length in 4
+ * bytes, the old entry and the new one, which are two inputs here. The line of a translation or a print ends in the Adler-32 sum of
+ * the buffer as it stands after the call, and that of an explanation in the sum of the piece that is shown.
  */
 #ifndef REQUESTS_H
 #define REQUESTS_H
@@ -13,8 +14,8 @@
 
 #include "pollux.h"
 
-enum { READ = 1, CHECK, JUDGE, TRANSLATE, LOAD, RUN, PRINT, EXPLAIN, LAST_CALL = EXPLAIN };
-enum { INPUTS = 3, LONGEST_INPUT = 65536, LINE_SIZE = 200 };
+enum { READ = 1, CHECK, JUDGE, TRANSLATE, LOAD, RUN, PRINT, EXPLAIN, SUMMARIZE, RECHECK, LAST_CALL = RECHECK };
+enum { INPUTS = 4, OLD_ENTRY = 3, LONGEST_INPUT = 65536, LINE_SIZE = 300 };
 
 struct input {
     uint8_t *at; /* never NULL */
@@ -24,9 +25,10 @@ struct input {
 struct request {
     unsigned call;
     struct input inputs[INPUTS];
+    uint8_t earlier; /* of a recheck: 1 accepted, 2 violated, any other refused with 20 at entry 0 */
 };
 
-/* The call's name, and which input of a request it is: "text", "list", "entry", "blocks", "buffer", or "" if it has none. */
+/* The call's name, and which input of a request it is: "text", "list", "entry", "old entry", "blocks", "buffer", or "" if it has none. */
 const char *call_name(unsigned call);
 const char *input_name(unsigned call, unsigned input);
 
@@ -34,8 +36,8 @@ const char *input_name(unsigned call, unsigned input);
 bool writes(unsigned call);
 
 /*
- * Reads the next request into memory that the next one uses again; false at the end. Requests that name no call or have an input
- * over 65,536 bytes are passed over. A cut one ends the program with status 3.
+ * Reads the next request into memory that the next one uses again; false at the end. Requests that name no call, have an input
+ * over 65,536 bytes, or are too short for a recheck are passed over. A cut one ends the program with status 3.
  */
 bool read_request(FILE *file, struct request *request);
 void write_request(FILE *file, const struct request *request);
@@ -50,14 +52,24 @@ struct calls {
     struct pollux_answer (*run)(const uint8_t *, size_t, const uint8_t *, size_t, const uint8_t *, size_t);
     struct pollux_answer (*print)(const uint8_t *, size_t, uint8_t *, size_t);
     struct pollux_reason (*explain)(const uint8_t *, size_t, const uint8_t *, size_t, const uint8_t *, size_t);
+    struct pollux_summary (*summarize)(const uint8_t *, size_t, const uint8_t *, size_t);
+    struct pollux_rechecked (*recheck)(const uint8_t *, size_t, const uint8_t *, size_t, const uint8_t *, size_t, struct pollux_answer,
+                                       const uint8_t *, size_t);
 };
 
 extern const struct calls pollux_calls;
 
-/* Makes a call. Of an answer that shows no piece the last four numbers are 0. */
-struct pollux_reason make_call(const struct calls *calls, const struct request *request);
+/* What a call tells: the four numbers of every answer, and those of the calls that have more to tell, which are 0 for the others. */
+struct told {
+    uint64_t says, number, input, value;
+    uint64_t part, place, start, length; /* explain */
+    uint64_t keys, priority, count;      /* summarize */
+    uint64_t reused;                     /* recheck */
+};
 
-/* The answer as a line, without its end. An answer that no call may give is told as "odd" with its eight numbers. */
-void answer_line(char line[LINE_SIZE], const struct request *request, struct pollux_reason answer);
+struct told make_call(const struct calls *calls, const struct request *request);
+
+/* The answer as a line, without its end. An answer that no call may give is told as "odd" with its numbers. */
+void answer_line(char line[LINE_SIZE], const struct request *request, struct told answer);
 
 #endif

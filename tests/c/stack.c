@@ -78,10 +78,17 @@ static size_t repeat(uint8_t *text, const char *piece, size_t times)
 static void measure_text(uint8_t *text, size_t length)
 {
     static uint8_t entry[POLLUX_PRIORITY_SIZE], buffer[POLLUX_MAX_BLOCKS_SIZE];
-    struct request request = { .inputs = { { text, length }, { entry, 0 }, { entry, sizeof entry } } };
+    struct request request = { .inputs = { { text, length }, { entry, 0 }, { entry, sizeof entry }, { entry, 0 } } };
     for (request.call = READ; request.call <= JUDGE; request.call++)
         measure(&request);
     request.call = EXPLAIN;
+    measure(&request);
+    request.call = SUMMARIZE;
+    measure(&request);
+    /* Without an old entry the new one is judged, with one it is not. */
+    request.call = RECHECK;
+    measure(&request);
+    request.inputs[OLD_ENTRY].length = sizeof entry;
     measure(&request);
     request.inputs[2] = (struct input){ buffer, sizeof buffer };
     request.call = TRANSLATE;

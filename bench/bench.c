@@ -11,11 +11,13 @@
 #include <string.h>
 #include <time.h>
 
+#include "edits.h"
 #include "plain.h"
 #include "tables.h"
 
 static const struct calls plain_calls = {
-    plain_read, plain_check, plain_judge, plain_translate, plain_load, plain_run, plain_print, plain_explain,
+    plain_read, plain_check, plain_judge,   plain_translate, plain_load,
+    plain_run,  plain_print, plain_explain, plain_summarize, plain_recheck,
 };
 
 /* ---- The requests that show what every version answers, in one order. */
@@ -26,15 +28,44 @@ static void each_request(const struct table *table, with_request *use)
 {
     static uint8_t buffer[POLLUX_MAX_BLOCKS_SIZE];
     const struct input nothing = { buffer, 0 }, whole = { buffer, sizeof buffer };
-    use(&(struct request){ READ, { table->text, nothing, nothing } }, table);
-    use(&(struct request){ PRINT, { table->text, nothing, whole } }, table);
-    use(&(struct request){ CHECK, { table->text, table->list, nothing } }, table);
-    use(&(struct request){ TRANSLATE, { table->text, table->list, whole } }, table);
-    use(&(struct request){ LOAD, { table->list, table->blocks, nothing } }, table);
+    use(&(struct request){ .call = READ, .inputs = { table->text, nothing, nothing } }, table);
+    use(&(struct request){ .call = PRINT, .inputs = { table->text, nothing, whole } }, table);
+    use(&(struct request){ .call = CHECK, .inputs = { table->text, table->list, nothing } }, table);
+    use(&(struct request){ .call = TRANSLATE, .inputs = { table->text, table->list, whole } }, table);
+    use(&(struct request){ .call = LOAD, .inputs = { table->list, table->blocks, nothing } }, table);
     for (size_t i = 0; i < entry_count(table); i++) {
-        use(&(struct request){ JUDGE, { table->text, table->list, entry_of(table, i) } }, table);
-        use(&(struct request){ EXPLAIN, { table->text, table->list, entry_of(table, i) } }, table);
-        use(&(struct request){ RUN, { table->list, table->blocks, entry_of(table, i) } }, table);
+        use(&(struct request){ .call = JUDGE, .inputs = { table->text, table->list, entry_of(table, i) } }, table);
+        use(&(struct request){ .call = EXPLAIN, .inputs = { table->text, table->list, entry_of(table, i) } }, table);
+        use(&(struct request){ .call = RUN, .inputs = { table->list, table->blocks, entry_of(table, i) } }, table);
+    }
+}
+
+/* Both edits of each table that has them. */
+enum { MOST_EDITS = 2 * TABLES };
+
+static struct edit edits[MOST_EDITS];
+static size_t edit_count;
+
+static void make_edits(const struct table tables[TABLES])
+{
+    for (int i = 0; i < TABLES; i++)
+        for (int named = 0; named < 2; named++)
+            edit_count += make_edit(&edits[edit_count], &tables[i], named);
+}
+
+static struct input entry_at(struct input entries, const struct table *table, size_t index)
+{
+    return (struct input){ entries.at + index * table->entry_size, table->entry_size };
+}
+
+static void each_recheck(const struct edit *edit, with_request *use)
+{
+    const struct table *table = edit->table;
+    use(&(struct request){ .call = SUMMARIZE, .inputs = { table->text, table->list, { table->text.at, 0 } } }, table);
+    for (size_t i = 0; i < different(edit); i++) {
+        struct input old = entry_at(edit->old, table, i), new = entry_at(edit->new, table, i);
+        use(&(struct request){ RECHECK, { table->text, table->list, new, old }, edit->earlier[i] }, table);
+        use(&(struct request){ .call = JUDGE, .inputs = { table->text, table->list, new } }, table);
     }
 }
 
@@ -244,6 +275,57 @@ static void measure_beside(const struct table tables[TABLES], const struct besid
     }
 }
 
+/* ---- Edits: each new entry rechecked, and judged. */
+
+static uint64_t recheck_entry(const struct edit *edit, size_t index)
+{
+    const struct table *table = edit->table;
+    struct input old = entry_at(edit->old, table, index), new = entry_at(edit->new, table, index);
+    struct pollux_answer earlier = { .says = edit->earlier[index] };
+    return pollux_recheck(TEXT, LIST, old.at, old.length, earlier, new.at, new.length).says;
+}
+
+static uint64_t judge_entry(const struct edit *edit, size_t index)
+{
+    const struct table *table = edit->table;
+    struct input new = entry_at(edit->new, table, index);
+    return pollux_judge(TEXT, LIST, new.at, new.length).says;
+}
+
+/* How often a second it is done, over all entries. */
+static double edit_rate(const struct edit *edit, uint64_t (*work)(const struct edit *, size_t))
+{
+    uint64_t sum = 0;
+    double start = seconds();
+    for (size_t i = 0; i < EDITED; i++)
+        sum += work(edit, i);
+    sink += sum;
+    return EDITED / (seconds() - start);
+}
+
+static void measure_edit(const struct edit *edit)
+{
+    enum { TIMES = 5 };
+    double rechecked = 0, judged = 0;
+    for (int i = 0; i < TIMES; i++) {
+        double recheck = edit_rate(edit, recheck_entry), judge = edit_rate(edit, judge_entry);
+        rechecked = recheck > rechecked ? recheck : rechecked;
+        judged = judge > judged ? judge : judged;
+    }
+    printf("%-13s %-10s %12.0f %12.0f %6.2f\n", edit->table->name, edit->named ? "named" : "not named", rechecked, judged,
+           judged / rechecked);
+    fflush(stdout);
+}
+
+static void measure_edits(void)
+{
+    printf("\nOne key of %d entries changes. Times a second, Polluxvalve alone. Each ratio is how many times longer it takes to recheck the\n"
+           "new entries than to judge them.\n\n", EDITED);
+    printf("%-13s %-10s %12s %12s %6s\n", "restriction", "the key is", "recheck", "judge", "ratio");
+    for (size_t i = 0; i < edit_count; i++)
+        measure_edit(&edits[i]);
+}
+
 /* ---- One call, again and again. */
 
 static work *find_work(const char *call)
@@ -294,6 +376,8 @@ static int write_requests(const struct table tables[TABLES])
 {
     for (int i = 0; i < TABLES; i++)
         each_request(&tables[i], write_one);
+    for (size_t i = 0; i < edit_count; i++)
+        each_recheck(&edits[i], write_one);
     return 0;
 }
 
@@ -306,9 +390,12 @@ static int hold_and_measure(const struct table tables[TABLES], const char *path)
     }
     for (int i = 0; i < TABLES; i++)
         each_request(&tables[i], hold_all);
+    for (size_t i = 0; i < edit_count; i++)
+        each_recheck(&edits[i], hold_all);
     measure_all(tables);
     for (size_t i = 0; i < sizeof all_beside / sizeof all_beside[0]; i++)
         measure_beside(tables, &all_beside[i]);
+    measure_edits();
     return 0;
 }
 
@@ -322,5 +409,6 @@ int main(int count, char **words)
     make_tables(tables, words[requests || repeats ? 2 : 1]);
     if (repeats)
         return repeat(tables, words[3], words[4], strtoul(words[5], NULL, 10));
+    make_edits(tables);
     return requests ? write_requests(tables) : hold_and_measure(tables, words[2]);
 }

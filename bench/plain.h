@@ -36,6 +36,15 @@ struct pollux_reason plain_explain(const uint8_t *text, size_t text_length,
                                    const uint8_t *list, size_t list_length,
                                    const uint8_t *entry, size_t entry_length);
 
+struct pollux_summary plain_summarize(const uint8_t *text, size_t text_length,
+                                      const uint8_t *list, size_t list_length);
+
+struct pollux_rechecked plain_recheck(const uint8_t *text, size_t text_length,
+                                      const uint8_t *list, size_t list_length,
+                                      const uint8_t *old_entry, size_t old_length,
+                                      struct pollux_answer earlier,
+                                      const uint8_t *new_entry, size_t new_length);
+
 /* Runs blocks that load on an entry that conforms, and checks nothing. */
 bool plain_accepts(const uint8_t *list, const uint8_t *blocks, size_t instructions, const uint8_t *entry);
 

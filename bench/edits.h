@@ -1,0 +1,26 @@
+/* Edits: 10,000 entries of a table before and after one key of each is changed, a key that the text names, or one that it does not. */
+#ifndef EDITS_H
+#define EDITS_H
+
+#include "tables.h"
+
+enum { EDITED = 10000 };
+
+struct edit {
+    const struct table *table;
+    bool named;            /* the key that is changed */
+    size_t key;
+    struct input old, new; /* the entries, end to end, and those of the table again and again */
+    uint8_t *earlier;      /* what is said of each old entry: POLLUX_ACCEPTED or POLLUX_VIOLATED */
+};
+
+/* False where the text names no key, or every key. */
+bool make_edit(struct edit *edit, const struct table *table, bool named);
+
+/* How many entries differ among them. */
+static inline size_t different(const struct edit *edit)
+{
+    return edit->table->conforming.length / edit->table->entry_size;
+}
+
+#endif

@@ -3,8 +3,10 @@ ghost use mathlib.Core.Path.{_≡_};
 ghost use Rattle.paper.specs.Calls.{translateBuffer, printBuffer};
 ghost use Rattle.answers.specs.Calls.{afterCall, written};
 use crate::adler;
+use crate::changes;
 use crate::framing;
 use paper::Explanation;
+use paper::Summarizing;
 
 // The calls, by the first byte of a request.
 const READ: u8 = 1;
@@ -23,6 +25,10 @@ const PRINT: u8 = 7;
 
 const EXPLAIN: u8 = 8;
 
+const SUMMARIZE: u8 = 9;
+
+const RECHECK: u8 = 10;
+
 // The sum of some bytes, after what a call answered.
 fn say_sum(bytes: &[u8]) {
     lines::say(b" ");
@@ -40,6 +46,16 @@ fn explain(text: &[u8], list: &[u8], entry: &[u8]) {
     }
 }
 
+// What a text names, with how many keys these are.
+fn summarize(text: &[u8], list: &[u8]) {
+    let named = valve::summarize(text, list);
+    lines::say_summarizing(named);
+    if let Summarizing::Summary(keys, _) = named {
+        lines::say(b" ");
+        lines::say_number(valve::count_keys(keys) as u64)
+    }
+}
+
 // A call that only reads.
 fn reading_call(call: u8, first: &[u8], second: &[u8], third: &[u8]) {
     match call {
@@ -49,6 +65,8 @@ fn reading_call(call: u8, first: &[u8], second: &[u8], third: &[u8]) {
         LOAD => lines::say_loading(valve::load(first, second)),
         RUN => lines::say_judgement(valve::run(first, second, third)),
         EXPLAIN => explain(first, second, third),
+        SUMMARIZE => summarize(first, second),
+        RECHECK => changes::recheck(first, second, third),
         _ => lines::say(b"unknown"),
     }
 }

@@ -1,6 +1,7 @@
 // What the calls answer, in the words of a line on standard output: `read N`, `passed`, `accepted`, `violated`, `translated N`,
 // `loaded N`, `printed N`, or `refused NUMBER INPUT OFFSET` with INPUT one of text, list, entry, blocks, buffer. What broke for an entry is
-// `part NUMBER at OFFSET START LENGTH`, `key at OFFSET START LENGTH`, or `nothing ` and what was judged. The programs share these words.
+// `part NUMBER at OFFSET START LENGTH`, `key at OFFSET START LENGTH`, or `nothing ` and what was judged. What a text names is
+// `summary BITS MARK`, and a recheck `reused ` or `judged ` and what was judged. The programs share these words.
 //
 // These only write, and a line's end is written by the caller. `start` is for programs that fill a room and use as much of it as they
 // filled.
@@ -15,6 +16,8 @@ use paper::Loading;
 use paper::Place;
 use paper::Printing;
 use paper::Reading;
+use paper::Rechecking;
+use paper::Summarizing;
 use paper::Translation;
 
 // Writes bytes as they are.
@@ -120,6 +123,36 @@ pub fn say_explanation(why: Explanation) {
         }
         Explanation::Nothing(judgement) => {
             say(b"nothing ");
+            say_judgement(judgement)
+        }
+    }
+}
+
+fn say_mark(marked: bool) {
+    if marked { say(b" 1") } else { say(b" 0") }
+}
+
+// Writes what `summarize` answered: the set of the keys that are named as a number, and 1 where ::priority is, else 0.
+pub fn say_summarizing(summarizing: Summarizing) {
+    match summarizing {
+        Summarizing::Summary(keys, priority) => {
+            say(b"summary ");
+            say_number(keys as u64);
+            say_mark(priority)
+        }
+        Summarizing::Refused(number, place) => say_refused(number, place),
+    }
+}
+
+// Writes what `recheck` answered.
+pub fn say_rechecking(rechecking: Rechecking) {
+    match rechecking {
+        Rechecking::Reused(judgement) => {
+            say(b"reused ");
+            say_judgement(judgement)
+        }
+        Rechecking::Judged(judgement) => {
+            say(b"judged ");
             say_judgement(judgement)
         }
     }

@@ -2,21 +2,30 @@
 use crate::inputs::put_input;
 use crate::names::CHECK;
 use crate::names::CODE;
+use crate::names::EARLIER;
 use crate::names::ENTRY;
 use crate::names::EXPLAIN;
 use crate::names::JUDGE;
 use crate::names::LIST;
 use crate::names::LOAD;
+use crate::names::OLD;
 use crate::names::PRINT;
 use crate::names::READ;
+use crate::names::RECHECK;
+use crate::names::SUMMARIZE;
 use crate::names::TEXT;
 use crate::names::TRANSLATE;
 use crate::scan::not_understood;
 use crate::scan::part;
 use blocks::Block;
 use paper::Explanation;
+use paper::Judgement;
+use paper::Place;
 use paper::Printing;
+use paper::Summarizing;
 use paper::Translation;
+use paper::refused::ENTRY_RULE;
+use spelling::bytes::same_bytes;
 
 // The blocks of instructions, for a list without keys.
 fn write_code(code: &[u8], room: &mut [u8]) {
@@ -64,6 +73,36 @@ fn explain(text: &[u8], list: &[u8], entry: &[u8]) {
     }
 }
 
+// What a text names, and how many keys these are.
+fn summarize(text: &[u8], list: &[u8]) {
+    let named = valve::summarize(text, list);
+    lines::say_summarizing(named);
+    if let Summarizing::Summary(keys, _) = named {
+        lines::say(b" ");
+        lines::say_number(valve::count_keys(keys) as u64)
+    }
+}
+
+// The earlier answer that a word tells; any other word tells a refusal.
+fn earlier_answer(word: &[u8]) -> Judgement {
+    if same_bytes(word, b"accepted") {
+        return Judgement::Accepted;
+    }
+    if same_bytes(word, b"violated") {
+        return Judgement::Violated;
+    }
+    Judgement::Refused(ENTRY_RULE, Place::Entry(0))
+}
+
+// The new entry against the old one that is given, with its earlier answer.
+fn recheck(file: &[u8], at: usize, text: &[u8], list: &[u8], new: &[u8]) {
+    let mut all = io::large_buffer();
+    let o = put_input(file, at, OLD, &mut all, 0);
+    let e = put_input(file, at, EARLIER, &mut all, o);
+    let earlier = earlier_answer(part(&all, o, e));
+    lines::say_rechecking(valve::recheck(text, list, part(&all, 0, o), earlier, new))
+}
+
 // The calls that write into the room.
 fn write(call: usize, text: &[u8], list: &[u8], room: &mut [u8]) {
     match call {
@@ -80,6 +119,7 @@ fn answer(call: usize, text: &[u8], list: &[u8], entry: &[u8], room: &[u8]) {
         CHECK => lines::say_checking(valve::check(text, list)),
         JUDGE => lines::say_judgement(valve::judge(text, list, entry)),
         EXPLAIN => explain(text, list, entry),
+        SUMMARIZE => summarize(text, list),
         LOAD => lines::say_loading(valve::load(list, room)),
         _ => lines::say_judgement(valve::run(list, room, entry)),
     }
@@ -101,5 +141,9 @@ pub(crate) fn make(call: usize, file: &[u8], at: usize, room: &mut [u8]) {
     if call <= PRINT {
         return write(call, text, list, room);
     }
-    answer(call, text, list, part(&all, l, e), room)
+    let entry = part(&all, l, e);
+    if call == RECHECK {
+        return recheck(file, at, text, list, entry);
+    }
+    answer(call, text, list, entry, room)
 }

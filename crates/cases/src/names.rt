@@ -1,4 +1,4 @@
-// The commands, by the places of their names in a list: the first four give what calls are lent, and the last eight print an answer.
+// The commands, by the places of their names in a list: the first six give what calls are lent, and the last ten print an answer.
 ghost use Prim.Native.Nat.{_≤_};
 ghost use mathlib.Core.Path.{_≡_};
 ghost use lib.ListN.{length};
@@ -13,33 +13,41 @@ pub const LIST: usize = 1;
 
 pub const ENTRY: usize = 2;
 
-pub const ROOM: usize = 3;
+pub const OLD: usize = 3;
 
-pub const TITLE: usize = 4;
+pub const EARLIER: usize = 4;
 
-pub const CHANGE: usize = 5;
+pub const ROOM: usize = 5;
 
-pub const SHOW: usize = 6;
+pub const TITLE: usize = 6;
 
-pub const CODE: usize = 7;
+pub const CHANGE: usize = 7;
 
-pub const BLOCKS: usize = 8;
+pub const SHOW: usize = 8;
 
-pub const TRANSLATE: usize = 9;
+pub const CODE: usize = 9;
 
-pub const PRINT: usize = 10;
+pub const BLOCKS: usize = 10;
 
-pub const READ: usize = 11;
+pub const TRANSLATE: usize = 11;
 
-pub const CHECK: usize = 12;
+pub const PRINT: usize = 12;
 
-pub const JUDGE: usize = 13;
+pub const READ: usize = 13;
 
-pub const EXPLAIN: usize = 14;
+pub const CHECK: usize = 14;
 
-pub const LOAD: usize = 15;
+pub const JUDGE: usize = 15;
 
-pub const RUN: usize = 16;
+pub const EXPLAIN: usize = 16;
+
+pub const SUMMARIZE: usize = 17;
+
+pub const RECHECK: usize = 18;
+
+pub const LOAD: usize = 19;
+
+pub const RUN: usize = 20;
 
 // Which of some words a word is, counted from 0; their count for none of them.
 fn place_in(words: &[u8], word: &[u8]) -> usize
@@ -64,7 +72,7 @@ pub(crate) fn command_at(file: &[u8], at: usize) -> usize
     ensures { λ r. ⌜ r ≡ commandAt (now (file .entry)) at ⌝ }
 {
     place_in(
-        b"text list entry room title change show code blocks translate print read check judge explain load run",
+        b"text list entry old earlier room title change show code blocks translate print read check judge explain summarize recheck load run",
         part(file, at, scan(file, at, b':')),
     )
 }

@@ -38,6 +38,14 @@ impl KeyRecord {
             width: key[2],
         }
     }
+
+    // The name of key k, where it lies in the list.
+    pub fn name(list: &[u8], k: usize) -> &[u8]
+        requires { ⌜ k < length (now list) / recordSize ⌝ }
+        ensures { λ r. ⌜ now r ≡ nameOf (recordAt (now (list .entry)) k) ⌝ }
+    {
+        name_of(record_at(list, k))
+    }
 }
 
 // The bytes of key k's record in the list.

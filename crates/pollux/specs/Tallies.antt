@@ -2,7 +2,9 @@
 use Prim.Native.Nat.{ℕ, _+_}
 use Rattle.paper.specs.declared.Judgement.{Judgement}
 use Rattle.paper.specs.declared.Judgement.the-variants.{Accepted, Violated, Refused}
-use Rattle.pollux.specs.declared.entries.Tally.{Tally}
+use Rattle.paper.specs.declared.Rechecking.{Rechecking}
+use Rattle.paper.specs.declared.Rechecking.the-variants.{Reused, Judged}
+use Rattle.pollux.specs.declared.tally.Tally.{Tally}
 
 -- a count is held in 64 bits
 abbrev pub mostCounted : ℕ
@@ -15,3 +17,12 @@ abbrev pub counted : Judgement → Tally → Tally
 counted Accepted t = record { accepted = t .accepted + 1; violated = t .violated; refused = t .refused }
 counted Violated t = record { accepted = t .accepted; violated = t .violated + 1; refused = t .refused }
 counted (Refused n p) t = record { accepted = t .accepted; violated = t .violated; refused = t .refused + 1 }
+
+-- a recheck hands back one answer, reused or not
+abbrev pub answerIn : Rechecking → Judgement
+answerIn (Reused j) = j
+answerIn (Judged j) = j
+
+abbrev pub reusedBy : Rechecking → ℕ
+reusedBy (Reused j) = 1
+reusedBy (Judged j) = 0

@@ -24,11 +24,20 @@ pub(crate) fn judged_as(why: Explanation) -> Judgement
     }
 }
 
-fn say_judgement(n: usize, judgement: Judgement) {
+// The judgement of entry n, and how it was come by, if that is told.
+pub(crate) fn say_judgement(n: usize, how: &[u8], judgement: Judgement) {
     match judgement {
-        Judgement::Accepted => say_number(b"accepted entry #\n", n),
-        Judgement::Violated => say_number(b"violated entry #\n", n),
-        Judgement::Refused(number, place) => entry_refused(n, number, place),
+        Judgement::Accepted => {
+            say_number(b"accepted entry #", n);
+            say(how);
+            say(b"\n")
+        }
+        Judgement::Violated => {
+            say_number(b"violated entry #", n);
+            say(how);
+            say(b"\n")
+        }
+        Judgement::Refused(number, place) => entry_refused(n, how, number, place),
     }
 }
 
@@ -45,11 +54,11 @@ pub(crate) fn say_judged(n: usize, why: Explanation, text: &[u8], list: &[u8]) {
             caret::show(text, from, to)
         }
         Explanation::Key(_, _, _) => {
-            say_judgement(n, judged_as(why));
+            say_judgement(n, b"", judged_as(why));
             say(b"its key is ");
             say(valve::list_piece(list, why));
             say(b"\n")
         }
-        Explanation::Nothing(judgement) => say_judgement(n, judgement),
+        Explanation::Nothing(judgement) => say_judgement(n, b"", judgement),
     }
 }

@@ -1,7 +1,9 @@
-// The calls, on the files that arguments 2 to 4 name.
+// The calls, on the files that arguments 2 to 5 name.
 use crate::entries::Way;
 use crate::entries::judge_file;
 use crate::files::read_argument;
+use crate::named::say_summary;
+use crate::rechecks::recheck_files;
 use crate::refusals::refused;
 use crate::say::say_argument;
 use crate::say::say_count;
@@ -13,6 +15,7 @@ use lines::start;
 use paper::Checking;
 use paper::Loading;
 use paper::Printing;
+use paper::Summarizing;
 use paper::Translation;
 
 // Where a call finds its files among the arguments.
@@ -28,6 +31,8 @@ pub enum Call {
     Load,
     Judge,
     Explain,
+    Summary,
+    Recheck,
     Run,
 }
 
@@ -36,6 +41,7 @@ fn passed(call: Call, text: &[u8], list: &[u8]) {
     match call {
         Call::Judge => judge_file(Way::Judge, text, list),
         Call::Explain => judge_file(Way::Explain, text, list),
+        Call::Recheck => recheck_files(text, list),
         _ => say(b"passed\n"),
     }
 }
@@ -45,6 +51,15 @@ fn check(call: Call, text: &[u8], list: &[u8], text_size: usize, list_size: usiz
     match valve::check(text, list) {
         Checking::Passed => passed(call, text, list),
         Checking::Refused(number, place) => {
+            refused(number, place, text, list, text_size, list_size)
+        }
+    }
+}
+
+fn summarize(text: &[u8], list: &[u8], text_size: usize, list_size: usize) {
+    match valve::summarize(text, list) {
+        Summarizing::Summary(keys, priority) => say_summary(list, keys, priority),
+        Summarizing::Refused(number, place) => {
             refused(number, place, text, list, text_size, list_size)
         }
     }
@@ -99,9 +114,10 @@ fn load(call: Call, list: &[u8], blocks: &[u8], list_size: usize, blocks_size: u
 
 fn answer_on(call: Call, first: &[u8], second: &[u8], first_size: usize, second_size: usize) {
     match call {
-        Call::Check | Call::Judge | Call::Explain => {
+        Call::Check | Call::Judge | Call::Explain | Call::Recheck => {
             check(call, first, second, first_size, second_size)
         }
+        Call::Summary => summarize(first, second, first_size, second_size),
         Call::Translate => translate(first, second, first_size, second_size),
         Call::Load | Call::Run => load(call, first, second, first_size, second_size),
     }

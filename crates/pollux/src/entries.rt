@@ -1,53 +1,23 @@
 // Entries that stand end to end in a file: each is judged as it comes, through one buffer.
 ghost use Prim.Native.Nat.{_+_, _≤_, _<_};
-ghost use mathlib.Core.Path.{_≡_};
 ghost use lib.ListN.{length};
-ghost use Rattle.pollux.specs.Tallies.{total, counted, mostCounted};
+ghost use Rattle.pollux.specs.Tallies.{total, mostCounted};
 use crate::broken::judged_as;
 use crate::broken::say_judged;
 use crate::files::at_end;
 use crate::say::cannot_read;
-use crate::say::say_count;
-use crate::say::say_three;
 use crate::sizes::entry_end;
 use crate::sizes::entry_size;
 use crate::sizes::whole_entries;
+use crate::tally::Tally;
+use crate::tally::say_tally;
 use paper::Explanation;
-use paper::Judgement;
 
 // How entries are judged: by a text, without a word of what broke or with one, or by blocks.
 pub enum Way {
     Judge,
     Explain,
     Run,
-}
-
-struct Tally {
-    accepted: usize,
-    violated: usize,
-    refused: usize,
-}
-
-impl Tally {
-    fn count(mut self, judgement: Judgement) -> Tally
-        requires { ⌜ total self < mostCounted ⌝ }
-        ensures { λ r. ⌜ r ≡ counted judgement self ⌝ }
-        ensures { λ r. ⌜ total r ≡ total self + 1 ⌝ }
-    {
-        match judgement {
-            Judgement::Accepted => self.accepted += 1,
-            Judgement::Violated => self.violated += 1,
-            Judgement::Refused(_, _) => self.refused += 1,
-        }
-        self
-    }
-
-    fn entries(self) -> usize
-        requires { ⌜ total self ≤ mostCounted ⌝ }
-        ensures { λ r. ⌜ r ≡ total self ⌝ }
-    {
-        self.accepted + self.violated + self.refused
-    }
 }
 
 // What is said of an entry, by a text or blocks.
@@ -99,18 +69,6 @@ fn judge_turns(way: Way, rule: &[u8], list: &[u8], fd: i32, part: &mut [u8]) -> 
         }
     }
     tally
-}
-
-fn say_tally(tally: Tally)
-    requires { ⌜ total tally ≤ mostCounted ⌝ }
-{
-    say_count(b"# entry: ", b"# entries: ", tally.entries());
-    say_three(
-        b"# accepted, # violated, # refused\n",
-        tally.accepted,
-        tally.violated,
-        tally.refused,
-    )
 }
 
 // As many whole entries at a time as the buffer holds, so that none stands across two turns.

@@ -1,6 +1,7 @@
-// Polluxvalve for people: checks, prints, translates, loads, judges, explains and runs what stands in files, and tells the answer in words.
+// Polluxvalve for people: checks, prints, sums up, translates, loads, judges, explains, rechecks and runs what stands in files, and tells
+// the answer in words.
 //
-// Each answer is a line on standard output whose first word is passed, translated, loaded, printed, accepted, violated, refused,
+// Each answer is a line on standard output whose first word is passed, translated, loaded, printed, named, accepted, violated, refused,
 // cannot or usage; the script `pollux` at the root makes an exit status of it. A refusal of a text is followed by the line and a caret under
 // the place, what broke for an entry by the line and carets under the part, or by the key's name. Files may have any length: a place that
 // is a length is the file's true length, and entries stream through one buffer. No output file is touched unless the whole call passes, and
@@ -10,10 +11,13 @@ mod calls;
 mod caret;
 mod entries;
 mod files;
+mod named;
 mod reasons;
+mod rechecks;
 mod refusals;
 mod say;
 mod sizes;
+mod tally;
 mod writing;
 
 use calls::Call;
@@ -29,6 +33,8 @@ fn usage() {
        pollux load KEYS BLOCKS
        pollux judge TEXT KEYS ENTRIES
        pollux explain TEXT KEYS ENTRIES
+       pollux summary TEXT KEYS
+       pollux recheck TEXT KEYS OLD NEW
        pollux run KEYS BLOCKS ENTRIES
 ",
     )
@@ -47,6 +53,8 @@ fn with_one(call: &[u8]) {
 fn with_two(call: &[u8]) {
     if same_bytes(call, b"check") {
         answer(Call::Check)
+    } else if same_bytes(call, b"summary") {
+        answer(Call::Summary)
     } else if same_bytes(call, b"load") {
         answer(Call::Load)
     } else {
@@ -69,6 +77,15 @@ fn with_three(call: &[u8]) {
     }
 }
 
+// A call of four.
+fn with_four(call: &[u8]) {
+    if same_bytes(call, b"recheck") {
+        answer(Call::Recheck)
+    } else {
+        usage()
+    }
+}
+
 fn main() {
     let mut call = [0u8; 16];
     let n = os::arg(1, &mut call);
@@ -76,6 +93,7 @@ fn main() {
         3 => with_one(&call[..n]),
         4 => with_two(&call[..n]),
         5 => with_three(&call[..n]),
+        6 => with_four(&call[..n]),
         _ => usage(),
     }
 }

@@ -2,11 +2,11 @@
 use crate::caret;
 use crate::reasons::say_reason;
 use crate::say::say_number;
-use crate::say::say_three;
 use crate::say::say_two;
 use crate::sizes::true_offset;
 use keys::Entry;
 use keys::Matched;
+use lines::say;
 use paper::Place;
 use paper::refused::ENTRY_RULE;
 
@@ -80,9 +80,11 @@ fn say_of_entry(number: u8, at: usize) {
     say_reason(number, false)
 }
 
-// Entry n is refused.
-pub(crate) fn entry_refused(n: usize, number: u8, place: Place) {
+// Entry n is refused, and how that was come by, if it is told.
+pub(crate) fn entry_refused(n: usize, how: &[u8], number: u8, place: Place) {
     let at = offset(place);
-    say_three(b"refused entry #: # at byte #: ", n, number as usize, at);
+    say_number(b"refused entry #", n);
+    say(how);
+    say_two(b": # at byte #: ", number as usize, at);
     say_of_entry(number, at)
 }

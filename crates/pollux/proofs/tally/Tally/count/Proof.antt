@@ -2,8 +2,8 @@
 use native.Mathlib.Omega.{arith}
 use mathlib.Core.Path.{_≡_, refl}
 use borrow.Author.Needs.{needs}
-use Rattle.pollux.proofs.entries.Tally.count.Statement.{statement}
-use Rattle.pollux.proofs.entries.Tally.count.Tie as tie
+use Rattle.pollux.proofs.tally.Tally.count.Statement.{statement}
+use Rattle.pollux.proofs.tally.Tally.count.Tie as tie
 
 returns : tie.Need-returns
 returns c = (rw (c .before .enum-told .given .1), omega arith)

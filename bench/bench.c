@@ -60,7 +60,7 @@ static struct input entry_at(struct input entries, const struct table *table, si
 
 static void each_recheck(const struct edit *edit, with_request *use)
 {
-    const struct table *table = edit->table;
+    const struct table *table = &edit->table;
     use(&(struct request){ .call = SUMMARIZE, .inputs = { table->text, table->list, { table->text.at, 0 } } }, table);
     for (size_t i = 0; i < different(edit); i++) {
         struct input old = entry_at(edit->old, table, i), new = entry_at(edit->new, table, i);
@@ -279,7 +279,7 @@ static void measure_beside(const struct table tables[TABLES], const struct besid
 
 static uint64_t recheck_entry(const struct edit *edit, size_t index)
 {
-    const struct table *table = edit->table;
+    const struct table *table = &edit->table;
     struct input old = entry_at(edit->old, table, index), new = entry_at(edit->new, table, index);
     struct pollux_answer earlier = { .says = edit->earlier[index] };
     return pollux_recheck(TEXT, LIST, old.at, old.length, earlier, new.at, new.length).says;
@@ -287,7 +287,7 @@ static uint64_t recheck_entry(const struct edit *edit, size_t index)
 
 static uint64_t judge_entry(const struct edit *edit, size_t index)
 {
-    const struct table *table = edit->table;
+    const struct table *table = &edit->table;
     struct input new = entry_at(edit->new, table, index);
     return pollux_judge(TEXT, LIST, new.at, new.length).says;
 }
@@ -312,7 +312,7 @@ static void measure_edit(const struct edit *edit)
         rechecked = recheck > rechecked ? recheck : rechecked;
         judged = judge > judged ? judge : judged;
     }
-    printf("%-13s %-10s %12.0f %12.0f %6.2f\n", edit->table->name, edit->named ? "named" : "not named", rechecked, judged,
+    printf("%-13s %-10s %12.0f %12.0f %6.2f\n", edit->table.name, edit->named ? "named" : "not named", rechecked, judged,
            judged / rechecked);
     fflush(stdout);
 }

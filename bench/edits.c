@@ -5,6 +5,7 @@
 
 #include "plain.h"
 
+/* Zeros. */
 static uint8_t *room(size_t length)
 {
     uint8_t *at = malloc(length);
@@ -12,13 +13,49 @@ static uint8_t *room(size_t length)
         perror("malloc");
         exit(3);
     }
+    memset(at, 0, length);
     return at;
+}
+
+static size_t key_count(const struct table *table)
+{
+    return table->list.length / POLLUX_KEY_SIZE;
+}
+
+/* The conforming entries with a record more at the end of each: the key is exact, and 0. */
+static struct input with_record(const struct table *table)
+{
+    size_t size = table->entry_size, wider = size + POLLUX_RECORD_SIZE, count = table->conforming.length / size;
+    uint8_t *at = room(count * wider);
+    for (size_t i = 0; i < count; i++) {
+        memcpy(at + i * wider, table->conforming.at + i * size, size);
+        at[i * wider + size] = 1;
+    }
+    return (struct input){ at, count * wider };
+}
+
+/* The table with one key more, exact and of 8 bits, if there may be one. */
+static struct table widened(const struct table *table)
+{
+    static const char name[] = "not.named";
+    struct table wider = *table;
+    if (key_count(table) == POLLUX_MAX_KEYS)
+        return wider;
+    wider.list = (struct input){ room(table->list.length + POLLUX_KEY_SIZE), table->list.length + POLLUX_KEY_SIZE };
+    memcpy(wider.list.at, table->list.at, table->list.length);
+    uint8_t *record = wider.list.at + table->list.length;
+    record[0] = sizeof name - 1;
+    record[2] = 8;
+    memcpy(record + POLLUX_KEY_SIZE - POLLUX_MAX_NAME, name, sizeof name - 1);
+    wider.conforming = with_record(table);
+    wider.entry_size = table->entry_size + POLLUX_RECORD_SIZE;
+    return wider;
 }
 
 /* The first key that is named, or is not; the number of keys where there is none. */
 static size_t first_key(const struct table *table, bool named)
 {
-    size_t keys = table->list.length / POLLUX_KEY_SIZE, key = 0;
+    size_t keys = key_count(table), key = 0;
     struct pollux_summary summary = plain_summarize(table->text.at, table->text.length, table->list.at, table->list.length);
     while (key < keys && (summary.keys >> key & 1) != named)
         key++;
@@ -39,7 +76,7 @@ static void change(uint8_t record[POLLUX_RECORD_SIZE], bool exact)
 
 static void add_entry(struct edit *edit, size_t index)
 {
-    const struct table *table = edit->table;
+    const struct table *table = &edit->table;
     size_t size = table->entry_size, key = edit->key;
     uint8_t *old = edit->old.at + index * size, *new = edit->new.at + index * size;
     memcpy(old, table->conforming.at + index % different(edit) * size, size);
@@ -51,10 +88,11 @@ static void add_entry(struct edit *edit, size_t index)
 
 bool make_edit(struct edit *edit, const struct table *table, bool named)
 {
-    size_t length = EDITED * table->entry_size;
-    *edit = (struct edit){ .table = table, .named = named, .key = first_key(table, named) };
-    if (edit->key == table->list.length / POLLUX_KEY_SIZE)
+    *edit = (struct edit){ .table = widened(table), .named = named };
+    edit->key = first_key(&edit->table, named);
+    if (edit->key == key_count(&edit->table))
         return false;
+    size_t length = EDITED * edit->table.entry_size;
     edit->old = (struct input){ room(length), length };
     edit->new = (struct input){ room(length), length };
     edit->earlier = room(EDITED);

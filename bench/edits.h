@@ -7,20 +7,20 @@
 enum { EDITED = 10000 };
 
 struct edit {
-    const struct table *table;
+    struct table table;    /* with one key more than it has, which the text does not name, where there is room for one */
     bool named;            /* the key that is changed */
     size_t key;
-    struct input old, new; /* the entries, end to end, and those of the table again and again */
+    struct input old, new; /* the entries, end to end: those of the table again and again */
     uint8_t *earlier;      /* what is said of each old entry: POLLUX_ACCEPTED or POLLUX_VIOLATED */
 };
 
-/* False where the text names no key, or every key. */
+/* False where the text names no key, or every key that there may be. */
 bool make_edit(struct edit *edit, const struct table *table, bool named);
 
 /* How many entries differ among them. */
 static inline size_t different(const struct edit *edit)
 {
-    return edit->table->conforming.length / edit->table->entry_size;
+    return edit->table.conforming.length / edit->table.entry_size;
 }
 
 #endif

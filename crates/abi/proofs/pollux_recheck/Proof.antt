@@ -6,13 +6,20 @@ use Rattle.paper.specs.Promised.{RecheckPromised}
 use Rattle.abi.proofs.pollux_recheck.Statement.{statement}
 use Rattle.abi.proofs.pollux_recheck.Tie as tie
 
+-- where the judgement has been heard; and from there what the function was given
+abbrev start : tie.After-judgement → tie.Start
+start c = c .before .before .before .before .before
+
 returns : tie.Need-returns
 returns c =
     let answered = c .before in
-    let heard = answered .before in
+    let heard : tie.After-judgement = answered .before in
+    let a = start heard .args in
+    let r = answered .recheck .result in
     record {
-      result = answered .recheck .result;
-      promised = subst (λ (j : Judgement). RecheckPromised _ _ _ j _ (answered .recheck .result)) (heard .judgement .ensures) (answered .recheck .ensures);
+      result = r;
+      promised =
+          subst (λ (j : Judgement). RecheckPromised (a .text .now) (a .list .now) (a .old .now) j (a .new .now) r) (heard .judgement .ensures) (answered .recheck .ensures);
       same = c .of-rechecking .ensures;
     }
 

@@ -8,7 +8,7 @@ use Rattle.paper.specs.Explained.{explainAnswer}
 use Rattle.paper.specs.Named.{summaryAnswer}
 use Rattle.paper.specs.Rechecking.{recheckAnswer}
 use Rattle.paper.specs.Pieces.{PartOf}
-use Rattle.paper.specs.AnswerExamples.{Answers, lies, PieceAnswers, InOrder, AnswerExamples}
+use Rattle.paper.specs.AnswerExamples.{Answers, RunAnswers, lies, PieceAnswers, InOrder, AnswerExamples}
 
 answers : Answers
 unfolding readAnswer checkAnswer judgeAnswer translateAnswer translateBuffer loadAnswer runAnswer explainAnswer summaryAnswer recheckAnswer
@@ -56,6 +56,10 @@ answers =
       recheck-refuses-entry = refl;
     }
 
+of-runs : RunAnswers
+unfolding judgeAnswer runAnswer
+of-runs = record { in-steps = refl; violated-in-steps = refl; accepted = refl; violated = refl; refused = refl }
+
 -- an empty piece has no offset to tell
 empty : (block offset at : ℕ) (s : List ℕ) → PartOf 0 0 (lies block offset s) (lies block at [])
 empty block offset at s = record { bytes = refl; block = refl; offset = λ some. absurd (some refl) }
@@ -99,4 +103,4 @@ in-order =
     }
 
 pub answerExamples : AnswerExamples
-answerExamples = record { answers = answers; pieces = pieces; in-order = in-order }
+answerExamples = record { answers = answers; of-runs = of-runs; pieces = pieces; in-order = in-order }

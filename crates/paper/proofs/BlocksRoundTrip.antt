@@ -16,10 +16,10 @@ use Rattle.paper.specs.Keys.{mostKeys}
 use Rattle.paper.specs.Code.{Instruction, pushPriority, instructionSize, encode, partsAt, decode}
 use Rattle.paper.specs.Blocks.{blockSize, inBlock, mostBlocks, checkOf, sealed, blocksNeeded, blocksFrom, blocksOf, countAt, countsFrom, blocksIn, totalOf, countOk, blockTest, layout}
 use Rattle.paper.specs.Loading.{instructionAt, instructionsFrom}
-use Rattle.paper.specs.BlocksRoundTrip.{All, InRange, Written, BlocksBack}
-use Rattle.paper.proofs.Basics.{all-at}
+use Rattle.paper.specs.BlocksRoundTrip.{Ranged, Written, BlocksBack}
 use Rattle.paper.proofs.Digits.{number-back}
 use Rattle.paper.proofs.InstructionsRoundTrip.{bytes-back, row-there}
+use Rattle.paper.proofs.RangedCode.{ranged-at}
 use Rattle.paper.proofs.OneBlock.{body, afterCode, at-count, at-code, block-passes, taken, block-length, blocks-length, block-there}
 use Rattle.paper.proofs.InTurn.{all-pass}
 
@@ -106,12 +106,13 @@ module _ (keys : ℕ) (code : List Instruction) (keys-few : keys ≤ mostKeys) (
 
   -- the sequence
 
-  module _ (ranged : All InRange code) where
+  module _ (ranged : Ranged code) where
     abbrev at : ℕ → Instruction
     at i = getD code i pushPriority
 
-    instruction-back : (i : ℕ) → i < total → decode (partsAt blocks (instructionAt i)) ≡ some (at i)
-    instruction-back i h =
+    -- so many are left after it
+    instruction-back : (i left : ℕ) → i + 1 + left ≡ total → decode left (partsAt blocks (instructionAt i)) ≡ some (at i)
+    instruction-back i left e =
         let k = i / inBlock in
         let j = i % inBlock in
         let r = rest-after k (omega arith) in
@@ -122,7 +123,7 @@ module _ (keys : ℕ) (code : List Instruction) (keys-few : keys ≤ mostKeys) (
         ∙ ap at (div-add-mod i inBlock)
         in
         let place : instructionAt i ≡ start + instructionSize * j = omega arith in
-        bytes-back (at i) (all-at InRange code pushPriority ranged i h) blocks (row .0) (instructionAt i)
+        bytes-back left (at i) (ranged-at code pushPriority ranged i left e) blocks (row .0) (instructionAt i)
         (ap (λ n. drop n blocks) place ∙ sym (drop-drop (instructionSize * j) start blocks)
         ∙ ap (drop (instructionSize * j)) (at-code total keys k (part k) (few-here k) blocks (r .0) (k * blockSize) (r .1)) ∙ row .1
         ∙ ap (λ x. encode x ++ row .0) same)
@@ -132,7 +133,7 @@ module _ (keys : ℕ) (code : List Instruction) (keys-few : keys ≤ mostKeys) (
         let past : total ≤ i = omega arith in
         rw (drop-of-length-le code past)
     sequence-back (suc n) i e =
-        rw (drop-cons code i pushPriority (omega arith), instruction-back i (omega arith))
+        rw (drop-cons code i pushPriority (omega arith), instruction-back i n (omega arith))
         (ap (λ s. some (at i) ∷ s) (sequence-back n (i + 1) (omega arith) ∙ ap (λ m. map some (drop m code)) (add-one i)))
 
     written : Written keys code blocks

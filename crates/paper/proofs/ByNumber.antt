@@ -1,13 +1,13 @@
 -- Kinds, fields and comparisons by their numbers: a number names what has that number, and one past the last names the last. So it
 -- spells what it names exactly up to the last.
-use Prim.Native.Nat.{ℕ, zero, suc, _≤_, _<_, min}
+use Prim.Native.Nat.{ℕ, zero, suc, _*_, _≤_, _<_, min}
 use native.Mathlib.Omega.{arith}
 use mathlib.Core.Path.{_≡_, refl, sym, _∙_}
-use mathlib.Core.Bool.{Bool, true, false}
+use mathlib.Core.Bool.{Bool, true, false, _||_}
 use lib.Dec.{leb, eqb}
 use borrow.Author.Tests.{leb-true, leb-false, lt-leb, eq-eqb, ne-eqb}
 use Rattle.paper.specs.Keys.{kindNo, kindOf}
-use Rattle.paper.specs.Code.{bit, fieldNo, fieldOf, comparisonNo, comparisonOf}
+use Rattle.paper.specs.Code.{bit, firstByte, fieldNo, fieldOf, comparisonNo, comparisonOf}
 
 spelled : (n m last : ℕ) → m ≡ min n last → eqb n m ≡ leb n last
 spelled n m last e = go (leb n last) (leb-true n last) (leb-false n last)
@@ -63,6 +63,14 @@ bit-spelled zero = refl
 bit-spelled (suc zero) = refl
 bit-spelled (suc (suc n)) =
     let m = suc (suc n) in rw (bit-over m (omega arith), ne-eqb m 0 (λ e. omega arith)) (sym (lt-leb m 1 (omega arith)))
+
+-- a bool in the first byte of a constant
+pub first-spelled : (n : ℕ) → eqb n (bit (eqb n firstByte) * firstByte) ≡ eqb n firstByte || eqb n 0
+first-spelled n = go (eqb n firstByte) refl
+  where
+    go : (b : Bool) → eqb n firstByte ≡ b → eqb n (bit b * firstByte) ≡ b || eqb n 0
+    go true e = e
+    go false e = refl
 
 pub kind-spelled : (n : ℕ) → eqb n (kindNo (kindOf n)) ≡ leb n 4
 kind-spelled n = spelled n (kindNo (kindOf n)) 4 (kind-number n)

@@ -1,21 +1,24 @@
--- The instructions of a tree's code are in range: its indices are those of keys, and its widths those of keys.
+-- The instructions of a tree's code are in range: its indices are those of keys, its widths those of keys, and each skip lands directly
+-- after its join, which stands in the code.
 use Prim.Native.Nat.{ℕ, zero, suc, _+_, _^_, _≤_, _<_}
 use native.Mathlib.Omega.{arith}
 use mathlib.Core.Bool.{Bool, true, false, cond, _&&_}
 use mathlib.Core.Option.{Option, none, some}
 use mathlib.Core.List.{List, [], _∷_, _++_}
-use lib.ListN.{length, getElem?}
+use lib.ListN.{length, length-append, getElem?}
 use lib.Dec.{eqb}
 use Rattle.paper.specs.Answers.{Answer, ok, refused, _>>=_}
 use Rattle.paper.specs.Tokens.{bytes, sameBytes, Prefix, notSign, minusSign}
 use Rattle.paper.specs.Keys.{Key, findFrom, find}
 use Rattle.paper.specs.Grammar.{Tree, truth, number, key, field, attribute, prefixed, joined, compared}
 use Rattle.paper.specs.Types.{Ty, bool, int, of, sameTy, when, andThen, Field, value, mask, prefixLength, low, high, has, fieldTy, fieldNamed, bareType, fieldType, prefixType, isNumber, joinType, meetKind, meet, compares, comparisonType, operatorType, known, namedType, typeOf}
-use Rattle.paper.specs.Code.{pushKey, pushField}
-use Rattle.paper.specs.Translating.{hasType, changed, convertTo, pushing, operation, codeOf}
-use Rattle.paper.specs.BlocksRoundTrip.{All, Width, InRange, CodeInRange}
-use Rattle.paper.proofs.Basics.{all-append, If, if-then, if-when, any, map-then}
+use Rattle.paper.specs.Meaning.{connective}
+use Rattle.paper.specs.Code.{pushKey, pushField, compare}
+use Rattle.paper.specs.Translating.{hasType, meeting, convertTo, changed, conversion, operation, pushing, codeOf}
+use Rattle.paper.specs.BlocksRoundTrip.{All, Width, Ranged, Listed, NumbersFit, CodeInRange}
+use Rattle.paper.proofs.Basics.{If, if-then, if-when, any, map-then}
 use Rattle.paper.proofs.Stages.{Of, of-bind}
+use Rattle.paper.proofs.RangedCode.{ranged-append, join-size, join-ranged}
 
 -- types of a width from 1 to 128
 
@@ -113,56 +116,80 @@ found-below (x ∷ ks) k n name h = go (sameBytes (x .name) name) (found-below k
 
 -- instructions
 
-key-ranged : (o : Option ℕ) → If (λ j. j < 2 ^ 16) o → All InRange (pushing (andThen o (λ k. some (pushKey k))))
+key-ranged : (o : Option ℕ) → If (λ j. j < 2 ^ 16) o → Ranged (pushing (andThen o (λ k. some (pushKey k))))
 key-ranged none h = tt
 key-ranged (some k) h = (h, tt)
 
 field-ranged : (o : Option ℕ) (p : Option Field) → If (λ j. j < 2 ^ 16) o
-    → All InRange (pushing (andThen o (λ k. andThen p (λ g. some (pushField g k)))))
+    → Ranged (pushing (andThen o (λ k. andThen p (λ g. some (pushField g k)))))
 field-ranged none p h = tt
 field-ranged (some k) none h = tt
 field-ranged (some k) (some g) h = (h, tt)
 
-prefix-ranged : (o : Prefix) → All InRange (operation o ∷ [])
+prefix-ranged : (o : Prefix) → Ranged (operation o ∷ [])
 prefix-ranged notSign = (tt, tt)
 prefix-ranged minusSign = (tt, tt)
 
-convert-ranged : (m : Ty) → Narrow m → All InRange (convertTo m)
+convert-ranged : (m : Ty) → Narrow m → Ranged (convertTo m)
 convert-ranged bool h = tt
 convert-ranged int h = tt
 convert-ranged (of k w) h = (h, tt)
 
-change-ranged : (a m : Option Ty) → If Narrow m → All InRange (changed a m)
+change-ranged : (a m : Option Ty) → If Narrow m → Ranged (changed a m)
 change-ranged none m h = tt
 change-ranged (some a) none h = tt
 change-ranged (some a) (some m) h = go (sameTy a m)
   where
-    go : (b : Bool) → All InRange (cond b [] (convertTo m))
+    go : (b : Bool) → Ranged (cond b [] (convertTo m))
     go true = tt
     go false = convert-ranged m h
 
+module _ (ks : List Key) (listed : Listed ks) where
+  index-small : (w : List ℕ) → If (λ j. j < 2 ^ 16) (find ks w)
+  index-small w = found-below ks 0 (2 ^ 16) w (omega (arith, listed .few))
+
+  narrow : (t : Tree) → If Narrow (hasType (typeOf ks t))
+  narrow t = has-narrow (typeOf ks t) (type-narrow ks (listed .widths) t)
+
+  meeting-narrow : (l r : Tree) → If Narrow (meeting ks l r)
+  meeting-narrow l r =
+      if-then Narrow Narrow (hasType (typeOf ks l)) _ (narrow l)
+      (λ a n. if-then Narrow Narrow (hasType (typeOf ks r)) _ (narrow r) (λ b k. meet-narrow a b n k))
+
+  conversion-ranged : (l r t : Tree) → Ranged (conversion ks t (meeting ks l r))
+  conversion-ranged l r t = change-ranged (hasType (typeOf ks t)) (meeting ks l r) (meeting-narrow l r)
+
+  ranged : (t : Tree) → NumbersFit t → length (codeOf ks t) < 2 ^ 16 → Ranged (codeOf ks t)
+  unfolding codeOf
+  ranged (truth at b) h few = (tt, tt)
+  ranged (number at n) h few = (h, tt)
+  ranged (key at w) h few = key-ranged (find ks w) (index-small w)
+  ranged (field at w to f) h few = field-ranged (find ks w) (fieldNamed f) (index-small w)
+  ranged (attribute at to f) h few = (tt, tt)
+  ranged (prefixed at o t) h few =
+      let size = length-append (codeOf ks t) (operation o ∷ []) in
+      ranged-append (codeOf ks t) (operation o ∷ []) (ranged t h (omega (arith, size, few))) (prefix-ranged o)
+  ranged (joined at o l r) h few =
+      let size = join-size (connective o) (codeOf ks l) (codeOf ks r) in
+      join-ranged (connective o) (codeOf ks l) (codeOf ks r) (omega (arith, size, few)) (ranged l (h .0) (omega (arith, size, few)))
+      (ranged r (h .1) (omega (arith, size, few)))
+  ranged (compared at c l r) h few =
+      let m = meeting ks l r in
+      let one = codeOf ks l ++ conversion ks l m in
+      let two = one ++ codeOf ks r in
+      let three = two ++ conversion ks r m in
+      let last = compare c ∷ [] in
+      let size-one = length-append (codeOf ks l) (conversion ks l m) in
+      let size-two = length-append one (codeOf ks r) in
+      let size-three = length-append two (conversion ks r m) in
+      let size = length-append three last in
+      ranged-append three last
+      (ranged-append two (conversion ks r m)
+      (ranged-append one (codeOf ks r)
+      (ranged-append (codeOf ks l) (conversion ks l m) (ranged l (h .0) (omega (arith, size, size-three, size-two, size-one, few))) (conversion-ranged l r l))
+      (ranged r (h .1) (omega (arith, size, size-three, size-two, few))))
+      (conversion-ranged l r r))
+      (tt, tt)
+
 pub code-in-range : CodeInRange
-unfolding codeOf
-code-in-range ks listed (truth at b) h = (tt, tt)
-code-in-range ks listed (number at n) h = (h, tt)
-code-in-range ks listed (key at w) h = key-ranged (find ks w) (found-below ks 0 (2 ^ 16) w (omega (arith, listed .few)))
-code-in-range ks listed (field at w to f) h = field-ranged (find ks w) (fieldNamed f) (found-below ks 0 (2 ^ 16) w (omega (arith, listed .few)))
-code-in-range ks listed (attribute at to f) h = (tt, tt)
-code-in-range ks listed (prefixed at o t) h = all-append InRange (codeOf ks t) _ (code-in-range ks listed t h) (prefix-ranged o)
-code-in-range ks listed (joined at o l r) h =
-    all-append InRange (codeOf ks l ++ codeOf ks r) _
-    (all-append InRange (codeOf ks l) (codeOf ks r) (code-in-range ks listed l (h .0)) (code-in-range ks listed r (h .1))) (tt, tt)
-code-in-range ks listed (compared at c l r) h =
-    let a = hasType (typeOf ks l) in
-    let b = hasType (typeOf ks r) in
-    let m = andThen a (λ x. andThen b (meet x)) in
-    let left = has-narrow (typeOf ks l) (type-narrow ks (listed .widths) l) in
-    let right = has-narrow (typeOf ks r) (type-narrow ks (listed .widths) r) in
-    let met : If Narrow m = if-then Narrow Narrow a _ left (λ x n. if-then Narrow Narrow b _ right (λ y k. meet-narrow x y n k)) in
-    all-append InRange (codeOf ks l ++ changed a m ++ codeOf ks r ++ changed b m) _
-    (all-append InRange (codeOf ks l ++ changed a m ++ codeOf ks r) (changed b m)
-    (all-append InRange (codeOf ks l ++ changed a m) (codeOf ks r)
-    (all-append InRange (codeOf ks l) (changed a m) (code-in-range ks listed l (h .0)) (change-ranged a m met))
-    (code-in-range ks listed r (h .1)))
-    (change-ranged b m met))
-    (tt, tt)
+code-in-range = ranged

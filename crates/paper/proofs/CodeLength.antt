@@ -1,4 +1,4 @@
--- How long the code of a tree is: its nodes and its conversions, of which there is at most one to a comparison.
+-- How long the code of a tree is: its nodes, its conversions, of which there is at most one to a comparison, and a skip for each join.
 use Prim.Native.Nat.{ℕ, _+_, _≤_}
 use native.Mathlib.Omega.{arith}
 use mathlib.Core.Path.{_≡_, refl}
@@ -12,7 +12,7 @@ use Rattle.paper.specs.Grammar.{truth, number, key, field, attribute, pr
 use Rattle.paper.specs.Types.{Ty, bool, int, of, sameTy, when, andThen, Field, fieldNamed, takes, meet, fieldType, prefixType, joinType, comparisonType, operatorType, known, namedType, typeOf}
 use Rattle.paper.specs.Code.{pushKey, pushField}
 use Rattle.paper.specs.Translating.{hasType, changed, convertTo, pushing, codeOf, conversions}
-use Rattle.paper.specs.CodeCorrect.{CodeCounted, FewConversions, CodeFits}
+use Rattle.paper.specs.CodeCorrect.{CodeCounted, FewBesideNodes, CodeFits}
 use Rattle.paper.proofs.Stages.{never-ok, bind-ok}
 use Rattle.paper.proofs.MeetingTypes.{same-self, meets-by-converting}
 
@@ -82,17 +82,17 @@ one-changes (some a) (some b) = rw (meets-by-converting a b) (go (sameTy a b) (t
     go false false true = omega (arith, unchanged a, changes (some b) a)
     go false false false = omega arith
 
-pub few-conversions : FewConversions
+pub few-beside-nodes : FewBesideNodes
 unfolding conversions
-few-conversions ks (truth at b) = omega arith
-few-conversions ks (number at n) = omega arith
-few-conversions ks (key at w) = omega arith
-few-conversions ks (field at w to f) = omega arith
-few-conversions ks (attribute at to f) = omega arith
-few-conversions ks (prefixed at o t) = omega (arith, few-conversions ks t)
-few-conversions ks (joined at o l r) = omega (arith, few-conversions ks l, few-conversions ks r)
-few-conversions ks (compared at c l r) =
-    omega (arith, few-conversions ks l, few-conversions ks r, one-changes (hasType (typeOf ks l)) (hasType (typeOf ks r)))
+few-beside-nodes ks (truth at b) = omega arith
+few-beside-nodes ks (number at n) = omega arith
+few-beside-nodes ks (key at w) = omega arith
+few-beside-nodes ks (field at w to f) = omega arith
+few-beside-nodes ks (attribute at to f) = omega arith
+few-beside-nodes ks (prefixed at o t) = omega (arith, few-beside-nodes ks t)
+few-beside-nodes ks (joined at o l r) = omega (arith, few-beside-nodes ks l, few-beside-nodes ks r)
+few-beside-nodes ks (compared at c l r) =
+    omega (arith, few-beside-nodes ks l, few-beside-nodes ks r, one-changes (hasType (typeOf ks l)) (hasType (typeOf ks r)))
 
 pub code-fits : CodeFits
-code-fits ks t a h few = omega (arith, code-counted ks t a h, few-conversions ks t)
+code-fits ks t a h few = omega (arith, code-counted ks t a h, few-beside-nodes ks t)

@@ -8,11 +8,12 @@ use Rattle.paper.specs.declared.Reading.{Reading}
 use Rattle.paper.specs.declared.Checking.{Checking}
 use Rattle.paper.specs.declared.Judgement.{Judgement}
 use Rattle.paper.specs.declared.Loading.{Loading}
+use Rattle.paper.specs.declared.Running.{Running}
 use Rattle.paper.specs.declared.Explanation.{Explanation}
 use Rattle.paper.specs.declared.Summarizing.{Summarizing}
 use Rattle.paper.specs.declared.Rechecking.{Rechecking}
 use Rattle.paper.specs.declared.Rechecking.the-variants as K
-use Rattle.paper.specs.Answers.{Input, inText, inList, inEntry, inBlocks, inBuffer, Answer, inputOf, offsetOf, readingSays, checkingSays, judgementSays, translationSays, loadingSays, printingSays}
+use Rattle.paper.specs.Answers.{Input, inText, inList, inEntry, inBlocks, inBuffer, Answer, inputOf, offsetOf, readingSays, checkingSays, judgementSays, translationSays, loadingSays, runningSays, printingSays}
 use Rattle.paper.specs.Calls.{readAnswer, checkAnswer, judgeAnswer, translateAnswer, loadAnswer, runAnswer, printAnswer}
 use Rattle.paper.specs.Explained.{explanationSays}
 use Rattle.paper.specs.ExplainedRight.{judgementOf}
@@ -117,10 +118,10 @@ load-answered list blocks r promised =
     answered-by inputs (loadAnswer list blocks) (loadingSays r) (loadStages list blocks) (table-holds .load list blocks)
     (load-located inputs list blocks here second) promised
 
-pub run-answered : (list blocks entry : List ℕ) (r : Judgement) → RunPromised list blocks entry r → RunAnswered list blocks entry r
+pub run-answered : (list blocks entry : List ℕ) (r : Running) → RunPromised list blocks entry r → RunAnswered list blocks entry r
 run-answered list blocks entry r promised =
     let inputs = lent inList list ∷ lent inBlocks blocks ∷ lent inEntry entry ∷ [] in
-    answered-by inputs (runAnswer list blocks entry) (judgementSays r) (runStages list blocks entry) (table-holds .run list blocks entry)
+    answered-by inputs (runAnswer list blocks entry) (runningSays r) (runStages list blocks entry) (table-holds .run list blocks entry)
     (located-then inputs (loadStages list blocks) (entryStages list entry) (load-located inputs list blocks here second)
     (λ _. entry-located inputs list entry third)) promised
 

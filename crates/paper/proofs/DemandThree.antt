@@ -1,6 +1,8 @@
--- Demand 3: with programs that keep the promises, the blocks of a text load and say what the text says, and all blocks that load run.
+-- Demand 3: with programs that keep the promises, the blocks of a text load and say what the text says, in the steps counted over its tree,
+-- and all blocks that load run.
 use Prim.Native.Nat.{ℕ, _*_}
 use mathlib.Core.Path.{_≡_, sym, ap, _∙_}
+use mathlib.Core.Bool.{Bool}
 use mathlib.Core.List.{List}
 use lib.ListN.{length}
 use borrow.Author.Tests.{le-leb, lt-leb}
@@ -8,17 +10,33 @@ use Rattle.paper.specs.declared.Place.the-variants as P
 use Rattle.paper.specs.declared.Checking.the-variants as C
 use Rattle.paper.specs.declared.Translation.the-variants as T
 use Rattle.paper.specs.declared.Loading.the-variants as L
-use Rattle.paper.specs.Answers.{ok, checkingSays, translationSays, loadingSays}
+use Rattle.paper.specs.declared.Running.{Running}
+use Rattle.paper.specs.Answers.{ok, Ran, checkingSays, translationSays, loadingSays, runningSays}
 use Rattle.paper.specs.Keys.{Key, keys}
 use Rattle.paper.specs.Entry.{Entry, entryOf}
+use Rattle.paper.specs.Meaning.{isTrue, valueOf}
 use Rattle.paper.specs.Blocks.{blockSize, blocksNeeded}
-use Rattle.paper.specs.Calls.{translateBuffer}
-use Rattle.paper.specs.TranslationCorrect.{Filled}
-use Rattle.paper.specs.Promised.{verdict, Bytes, Programs, Kept}
-use Rattle.paper.specs.Demands.{Translates, blocksWritten, Carried, Judged, DemandThree, DemandThreeMet}
+use Rattle.paper.specs.Translating.{stepsOf}
+use Rattle.paper.specs.Calls.{translateBuffer, runAnswer}
+use Rattle.paper.specs.TranslationCorrect.{judgedInSteps, verdictOf, Filled}
+use Rattle.paper.specs.Promised.{verdictIn, judgementOfRun, Bytes, Programs, Kept}
+use Rattle.paper.specs.Demands.{Judgeable, Translates, blocksWritten, Carried, Judged, DemandThree, DemandThreeMet}
+use Rattle.paper.proofs.Stages.{ok-same}
 use Rattle.paper.proofs.TranslationCorrect.{translation-carries, checked-count, loaded-answers}
-use Rattle.paper.proofs.Promised.{verdict-says, judgement-same, translation-same, loading-same}
+use Rattle.paper.proofs.Promised.{ran-says, judgement-of-run, judgement-same, translation-same, loading-same, running-same}
 use Rattle.paper.proofs.ByteLists.{take-bytes, buffer-bytes}
+use Rattle.paper.proofs.DemandTwo.{checkable-restriction}
+
+-- of a text, a list and an entry that can be judged
+
+abbrev judgedOn : {text list entry : List ℕ} → Judgeable text list entry → Ran
+judgedOn j =
+    let c = j .passes in
+    record { accepted = isTrue (valueOf (c .ks) (j .on) (c .root)); steps = stepsOf (c .ks) (j .on) (c .root) }
+
+judgeable-steps : {text list entry : List ℕ} (j : Judgeable text list entry) → judgedInSteps text list entry ≡ ok (judgedOn j)
+unfolding judgedInSteps
+judgeable-steps {text} {list} j = rw (checkable-restriction text list (j .passes), j .conforms)
 
 module _ (p : Programs) (kept : Kept p) where
   translates : (text list : List ℕ) → Bytes text → Bytes list → p .check text list ≡ C.Passed → Translates p text list
@@ -60,12 +78,27 @@ module _ (p : Programs) (kept : Kept p) where
           later = rw exit (filled .later);
         }
 
-    runs-alike : (entry : List ℕ) → Bytes entry
-        → p .run list (blocksWritten n (p .translate text list buffer .buffer)) entry ≡ p .judge text list entry
+    -- the run of the blocks
+    abbrev running : List ℕ → Running
+    running entry = p .run list (blocksWritten n (p .translate text list buffer .buffer)) entry
+
+    ran : (entry : List ℕ) → Bytes entry → runningSays (running entry) ≡ runAnswer list blocks entry
+    ran entry en = ap (λ s. runningSays (p .run list (blocksWritten n s) entry)) exit ∙ kept .run list blocks entry l blocks-there en
+
+    runs-alike : (entry : List ℕ) → Bytes entry → judgementOfRun (running entry) ≡ p .judge text list entry
     runs-alike entry en =
-        rw exit
-        (judgement-same (p .run list blocks entry) (p .judge text list entry)
-        (kept .run list blocks entry l blocks-there en ∙ filled .carries .runs entry ∙ sym (kept .judge text list entry t l en)))
+        judgement-same (judgementOfRun (running entry)) (p .judge text list entry)
+        (judgement-of-run (running entry)
+        ∙ ap verdictOf (ran entry en)
+        ∙ filled .carries .judges entry
+        ∙ sym (kept .judge text list entry t l en))
+
+    steps-counted : (entry : List ℕ) → Bytes entry → (j : Judgeable text list entry) (b : Bool) (m : ℕ)
+        → running entry ≡ verdictIn b m → m ≡ stepsOf (j .passes .ks) (j .on) (j .passes .root)
+    steps-counted entry en j b m h =
+        let told : ok (record { accepted = b; steps = m }) ≡ ok (judgedOn j) =
+        sym (ran-says b m) ∙ sym (ap runningSays h) ∙ ran entry en ∙ filled .carries .runs entry ∙ judgeable-steps j in
+        ap (λ a. a .steps) (ok-same (record { accepted = b; steps = m }) (judgedOn j) told)
 
   answered : (list blocks : List ℕ) → Bytes list → Bytes blocks → (n : ℕ) → p .load list blocks ≡ L.Loaded n
       → (ks : List Key) → keys list ≡ ok ks → (entry : List ℕ) → Bytes entry → (e : Entry) → entryOf ks entry ≡ ok e
@@ -75,12 +108,20 @@ module _ (p : Programs) (kept : Kept p) where
       record {
         goes = a .run;
         answer =
-            judgement-same (p .run list blocks entry) (verdict (a .run .bit))
-            (kept .run list blocks entry l s en ∙ a .answer ∙ sym (verdict-says (a .run .bit)));
+            running-same (p .run list blocks entry) (verdictIn (a .run .bit) (length (a .run .path)))
+            (kept .run list blocks entry l s en ∙ a .answer ∙ sym (ran-says (a .run .bit) (length (a .run .path))));
       }
 
   demands : DemandThree p
-  demands = record { translates = translates; bytes = bytes-there; carries = carried; runs-alike = runs-alike; runs = answered }
+  demands =
+      record {
+        translates = translates;
+        bytes = bytes-there;
+        carries = carried;
+        runs-alike = runs-alike;
+        steps-counted = steps-counted;
+        runs = answered;
+      }
 
 pub demand-three-met : DemandThreeMet
 demand-three-met = demands

@@ -28,24 +28,23 @@ use Rattle.paper.specs.Entry.{entryOf}
 use Rattle.paper.specs.Grammar.{nodes}
 use Rattle.paper.specs.Types.{typeOf, rootType, typed}
 use Rattle.paper.specs.Meaning.{Value, truth, valueOf, isTrue}
-use Rattle.paper.specs.Code.{Walk, ends}
 use Rattle.paper.specs.Blocks.{blockSize, blocksNeeded}
-use Rattle.paper.specs.Loading.{program, loaded, valuesAlong, leftTrue}
-use Rattle.paper.specs.Translating.{codeOf, conversions}
-use Rattle.paper.specs.Calls.{sized, tree, Restriction, restriction, checkAnswer, judgeAnswer, runAnswer}
+use Rattle.paper.specs.Translating.{codeOf, conversions, joins}
+use Rattle.paper.specs.Calls.{sized, tree, Restriction, restriction, checkAnswer, judgeAnswer}
 use Rattle.paper.specs.Explained.{explanationSays}
 use Rattle.paper.specs.Named.{names, marked, setOf, Summary, summaryAnswer, summarizingSays}
 use Rattle.paper.specs.Rechecking.{saidBy, recheckingSays}
 use Rattle.paper.specs.RecheckedRight.{Summarizes}
-use Rattle.paper.specs.Promised.{verdict, ReadPromised, CheckPromised, JudgePromised, TranslateResult, TranslatePromised, RunPromised, ExplainPromised, SummarizePromised, RecheckPromised}
-use Rattle.paper.specs.Demands.{Checkable, Judgeable, Runnable, Refuses, ReadRight, CheckedRight, JudgedRight, TranslatedRight, RanRight, ExplainRight, SummarizeRight, judgementIn, RecheckRight, DemandTwoMet}
+use Rattle.paper.specs.Promised.{verdict, ReadPromised, CheckPromised, JudgePromised, TranslateResult, TranslatePromised, ExplainPromised, SummarizePromised, RecheckPromised}
+use Rattle.paper.specs.Demands.{Checkable, Judgeable, Refuses, ReadRight, CheckedRight, JudgedRight, TranslatedRight, ExplainRight, SummarizeRight, judgementIn, RecheckRight, DemandTwoMet}
 use Rattle.paper.proofs.Stages.{never-ok, ok-same, bind-ok, require-ok}
-use Rattle.paper.proofs.LoadedBlocksRun.{conforming, loaded-runs}
+use Rattle.paper.proofs.LoadedBlocksRun.{conforming}
 use Rattle.paper.proofs.TypeSoundness.{judged, bool-root}
 use Rattle.paper.proofs.TranslationCorrect.{passing, counted, translating, translates, translated}
 use Rattle.paper.proofs.Promised.{verdict-says, reading-same, checking-same, judgement-same, translation-same, summarizing-same}
 use Rattle.paper.proofs.WellFormed.{formed-tree, tree-formed, formed-answer, answer-formed}
 use Rattle.paper.proofs.PrintDemands.{printed-right}
+use Rattle.paper.proofs.RunsRight.{ran-right}
 use Rattle.paper.proofs.ExplainedRight.{explained-is-right}
 use Rattle.paper.proofs.RecheckedRight.{summary, summary-there, summarizes, reused-exactly, fresh-if-true}
 use Rattle.paper.proofs.DemandOne.{recheck-judged}
@@ -117,36 +116,8 @@ module _ (text list entry : List ℕ) where
       judged (j .passes .ks) (j .on) (conforming (j .passes .ks) entry (j .on) (j .conforms)) (j .passes .root)
       (ap (λ a. a >>= rootType (j .passes .root)) (j .passes .typed))
 
--- blocks that load, with an entry, are run
-
-module _ (list blocks entry : List ℕ) where
-  abbrev left : Runnable list blocks entry → Walk Value
-  left j = valuesAlong (j .ks) (j .on) (program blocks)
-
-  runnable-answer : (j : Runnable list blocks entry) → runAnswer list blocks entry ≡ ok (leftTrue (left j))
-  unfolding runAnswer
-  runnable-answer j = rw (j .listed, j .loads, j .conforms)
-
-  answer-runnable : (b : Bool) → runAnswer list blocks entry ≡ ok b → Runnable list blocks entry
-  unfolding runAnswer
-  answer-runnable b e =
-      let (ks, listed, rest) =
-      bind-ok (keys list) (λ ks. loaded ks blocks >>= λ _. entryOf ks entry >>= λ e. ok (leftTrue (valuesAlong ks e (program blocks)))) b e
-      in
-      let (n, loads, last) =
-      bind-ok (loaded ks blocks) (λ _. entryOf ks entry >>= λ e. ok (leftTrue (valuesAlong ks e (program blocks)))) b rest
-      in
-      let (on, conforms, _) = bind-ok (entryOf ks entry) (λ e. ok (leftTrue (valuesAlong ks e (program blocks)))) b last in
-      record { ks = ks; listed = listed; count = n; loads = loads; on = on; conforms = conforms }
-
-  -- one bool is left
-  runnable-truth : (j : Runnable list blocks entry) → (b : Bool) × (left j ≡ ends (truth b ∷ []))
-  runnable-truth j =
-      let run = loaded-runs (j .ks) blocks (j .count) (j .loads) (j .on) (conforming (j .ks) entry (j .on) (j .conforms)) in
-      (run .bit, run .to)
-
--- What a judgement says, from the text or from blocks. It is refused exactly when the inputs do not `Fit`, and else the verdict of a bool
--- that `read` finds in what they come to.
+-- What a judgement says. It is refused exactly when the inputs do not `Fit`, and else the verdict of a bool that `read` finds in what they
+-- come to.
 module _ (Fit X : Type 0) (tell : Bool → X) (read : X → Bool) (reads : (b : Bool) → read (tell b) ≡ b) (answer : Answer Bool)
     (come : Fit → X) (answers : (j : Fit) → answer ≡ ok (read (come j))) (fits : (b : Bool) → answer ≡ ok b → Fit)
     (a-bool : (j : Fit) → (b : Bool) × (come j ≡ tell b)) (got : Judgement) (promised : judgementSays got ≡ answer) where
@@ -202,21 +173,6 @@ judged-right text list entry r promised =
       violates = λ j. exactly j false;
     }
 
-pub ran-right : (list blocks entry : List ℕ) (r : Judgement) → RunPromised list blocks entry r → RanRight list blocks entry r
-ran-right list blocks entry r promised =
-    let exactly =
-    told-exactly (Runnable list blocks entry) (Walk Value) (λ b. ends (truth b ∷ [])) leftTrue (λ b. refl) (runAnswer list blocks entry)
-    (left list blocks entry) (runnable-answer list blocks entry) (answer-runnable list blocks entry) (runnable-truth list blocks entry) r promised
-    in
-    record {
-      refuses =
-          refused-exactly (Runnable list blocks entry) (Walk Value) (λ b. ends (truth b ∷ [])) leftTrue (λ b. refl)
-          (runAnswer list blocks entry) (left list blocks entry) (runnable-answer list blocks entry) (answer-runnable list blocks entry)
-          (runnable-truth list blocks entry) r promised;
-      accepts = λ j. exactly j true;
-      violates = λ j. exactly j false;
-    }
-
 -- a translation: the restriction of a text that passes, and the test of the buffer
 pub translated-right : (text list buffer : List ℕ) (r : TranslateResult) → TranslatePromised text list buffer r
     → TranslatedRight text list buffer r
@@ -228,7 +184,10 @@ translated-right text list buffer r promised n = (
       let (c, same) = restriction-checkable text list q passed in
       record {
         passes = c;
-        count = sym count ∙ counted text list q passed ∙ ap (λ (x : Restriction). nodes (x .root) + conversions (x .keys) (x .root)) (sym same);
+        count =
+            sym count
+            ∙ counted text list q passed
+            ∙ ap (λ (x : Restriction). nodes (x .root) + conversions (x .keys) (x .root) + joins (x .root)) (sym same);
         room = subst (λ (m : ℕ). blockSize * blocksNeeded m ≤ length buffer) count room;
       },
   λ t.

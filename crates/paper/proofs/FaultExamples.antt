@@ -12,10 +12,11 @@ use native.Mathlib.Omega.{arith}
 use Rattle.paper.specs.Tokens.{bytes, word, notSign, sequel, less, scan}
 use Rattle.paper.specs.Keys.{exact}
 use Rattle.paper.specs.Types.{Ty, bool, int, of, typeOf}
-use Rattle.paper.specs.Code.{invert}
+use Rattle.paper.specs.Meaning.{both}
+use Rattle.paper.specs.Code.{Skip, pushBool, invert, connects}
 use Rattle.paper.specs.Blocks.{sumsOf}
-use Rattle.paper.specs.Loading.{typesAlong}
 use Rattle.paper.specs.Translating.{codeOf}
+use Rattle.paper.specs.LoadedBlocksRun.{typesThrough}
 use Rattle.paper.specs.Faults as F
 use Rattle.paper.specs.Faults.{at-start, a-blank, a-token}
 use Rattle.paper.specs.Table.{Sooner}
@@ -35,8 +36,15 @@ abbrev anInt : List Ty → Bool
 anInt [] = false
 anInt (t ∷ ts) = isInt t
 
+abbrev alone-held : List Ty → Bool
+alone-held held = eqb (length held) 1
+
+-- over the next instruction, where the top is false
+abbrev skipOne : Skip
+skipOne = record { on = false; to = false; over = 1 }
+
 rows : Rows
-unfolding scan typeOf codeOf sumsOf typesAlong
+unfolding scan typeOf codeOf sumsOf typesThrough
 rows =
     record {
       row-1 = F.text-over (lit< tt);
@@ -64,6 +72,15 @@ rows =
       row-16-uneven = F.blocks-uneven (apart (λ n. eqb n 511) refl refl);
       row-17 = F.block-broken 1 (lit< tt) refl;
       row-18 = F.instruction-fails [] (some invert) [] [] refl refl refl;
+      row-18-over-a-push =
+          F.skip-misfits (some (pushBool true) ∷ []) skipOne (some (pushBool true) ∷ []) (bool ∷ []) (bool ∷ bool ∷ []) refl refl refl
+          (apart alone-held refl refl);
+      row-18-before-the-end =
+          F.skip-misfits (some (pushBool true) ∷ []) skipOne (some (pushBool true) ∷ some (connects both) ∷ []) (bool ∷ []) (bool ∷ bool ∷ []) refl
+          refl refl (apart alone-held refl refl);
+      row-18-over-a-join =
+          F.skip-misfits (some (pushBool true) ∷ some (pushBool true) ∷ []) skipOne (some (connects both) ∷ []) (bool ∷ bool ∷ []) (bool ∷ []) refl
+          refl refl (λ h. apart alone-held refl refl (sym h));
       row-18-at-the-end = F.end-not-bool (int ∷ []) refl (apart anInt refl refl);
       row-19 = F.entry-wrong (apart (λ n. eqb n 3) refl refl);
       row-20-priority = F.priority-broken (lit≤ tt);

@@ -2,11 +2,11 @@
 use mathlib.Core.Path.{refl}
 use Rattle.paper.specs.Keys.{keys}
 use Rattle.paper.specs.Entry.{entryOf}
-use Rattle.paper.specs.Loading.{typesAlong, valuesAlong}
+use Rattle.paper.specs.Loading.{typesAlong, runAlong}
 use Rattle.paper.specs.InstructionExamples.{InstructionExamples}
 
 pub instructionExamples : InstructionExamples
-unfolding keys entryOf typesAlong valuesAlong
+unfolding keys entryOf typesAlong runAlong
 instructionExamples =
     record {
       encoded = refl;

@@ -17,7 +17,7 @@ use Rattle.paper.specs.Tokens.{equal, unequal, greater, atLeast, less, a
 use Rattle.paper.specs.Keys.{exact, ternary, lpm, range, optional}
 use Rattle.paper.specs.Types.{when, andThen, value, mask, prefixLength, low, high}
 use Rattle.paper.specs.Meaning.{both, either, ifThen}
-use Rattle.paper.specs.Code.{Instruction, pushBool, pushInt, pushKey, pushField, pushPriority, invert, negate, convert, compare, connects, Parts, partsOf, instructionSize, encode, partsAt, instructionNamed, sameParts, inRange, decode}
+use Rattle.paper.specs.Code.{Instruction, pushBool, pushInt, pushKey, pushField, pushPriority, invert, negate, convert, compare, connects, skip, Parts, bit, firstByte, partsOf, instructionSize, encode, partsAt, instructionNamed, sameParts, inRange, decode}
 use Rattle.paper.specs.Blocks.{encodeAll}
 use Rattle.paper.specs.BlocksRoundTrip.{InRange, PartsBack, BytesBack, PartsAgain, WrittenAgain, BytesAgain}
 use Rattle.paper.proofs.Basics.{all-parts}
@@ -52,24 +52,33 @@ named-back (compare atMost) = refl
 named-back (connects both) = refl
 named-back (connects either) = refl
 named-back (connects ifThen) = refl
+named-back (skip s) = skip-back (s .on) (s .to) (s .over)
+  where
+    skip-back : (on to : Bool) (over : ℕ)
+        → instructionNamed (partsOf (skip (record { on = on; to = to; over = over }))) ≡ some (skip (record { on = on; to = to; over = over }))
+    skip-back true true over = refl
+    skip-back true false over = refl
+    skip-back false true over = refl
+    skip-back false false over = refl
 
 same-self : (p : Parts) → sameParts p p ≡ true
 same-self p = rw (eq-eqb (p .operation) (p .operation) refl, eq-eqb (p .detail) (p .detail) refl, eq-eqb (p .operand) (p .operand) refl, eq-eqb (p .constant) (p .constant) refl)
 
-range-kept : (i : Instruction) → InRange i → inRange i ≡ true
-range-kept (pushBool b) h = refl
-range-kept (pushInt n) h = refl
-range-kept (pushKey k) h = refl
-range-kept (pushField f k) h = refl
-range-kept pushPriority h = refl
-range-kept invert h = refl
-range-kept negate h = refl
-range-kept (convert k w) h = rw (le-leb 1 w (h .0), le-leb w 128 (h .1))
-range-kept (compare c) h = refl
-range-kept (connects o) h = refl
+range-kept : (left : ℕ) (i : Instruction) → InRange left i → inRange left i ≡ true
+range-kept left (pushBool b) h = refl
+range-kept left (pushInt n) h = refl
+range-kept left (pushKey k) h = refl
+range-kept left (pushField f k) h = refl
+range-kept left pushPriority h = refl
+range-kept left invert h = refl
+range-kept left negate h = refl
+range-kept left (convert k w) h = rw (le-leb 1 w (h .0), le-leb w 128 (h .1))
+range-kept left (compare c) h = refl
+range-kept left (connects o) h = refl
+range-kept left (skip s) h = rw (le-leb 1 (s .over) (h .0), le-leb (s .over) left (h .1))
 
 pub parts-back : PartsBack
-parts-back i h = rw (named-back i, range-kept i h, same-self (partsOf i))
+parts-back left i h = rw (named-back i, range-kept left i h, same-self (partsOf i))
 
 -- by its bytes
 
@@ -77,20 +86,25 @@ pub record PartsSmall (p : Parts) : Type 0 where
   pub operand : p .operand < 256 ^ 2
   pub constant : p .constant < 256 ^ 16
 
-small-parts : (i : Instruction) → InRange i → PartsSmall (partsOf i)
-small-parts (pushBool true) h = record { operand = lit< tt; constant = lit< tt }
-small-parts (pushBool false) h = record { operand = lit< tt; constant = lit< tt }
-small-parts (pushInt n) h = record { operand = lit< tt; constant = h }
-small-parts (pushKey k) h = record { operand = h; constant = lit< tt }
-small-parts (pushField f k) h = record { operand = h; constant = lit< tt }
-small-parts pushPriority h = record { operand = lit< tt; constant = lit< tt }
-small-parts invert h = record { operand = lit< tt; constant = lit< tt }
-small-parts negate h = record { operand = lit< tt; constant = lit< tt }
-small-parts (convert k w) h = record { operand = omega arith; constant = lit< tt }
-small-parts (compare c) h = record { operand = lit< tt; constant = lit< tt }
-small-parts (connects both) h = record { operand = lit< tt; constant = lit< tt }
-small-parts (connects either) h = record { operand = lit< tt; constant = lit< tt }
-small-parts (connects ifThen) h = record { operand = lit< tt; constant = lit< tt }
+first-small : (b : Bool) → bit b * firstByte < 256 ^ 16
+first-small true = lit< tt
+first-small false = lit< tt
+
+small-parts : (left : ℕ) (i : Instruction) → InRange left i → PartsSmall (partsOf i)
+small-parts left (pushBool true) h = record { operand = lit< tt; constant = lit< tt }
+small-parts left (pushBool false) h = record { operand = lit< tt; constant = lit< tt }
+small-parts left (pushInt n) h = record { operand = lit< tt; constant = h }
+small-parts left (pushKey k) h = record { operand = h; constant = lit< tt }
+small-parts left (pushField f k) h = record { operand = h; constant = lit< tt }
+small-parts left pushPriority h = record { operand = lit< tt; constant = lit< tt }
+small-parts left invert h = record { operand = lit< tt; constant = lit< tt }
+small-parts left negate h = record { operand = lit< tt; constant = lit< tt }
+small-parts left (convert k w) h = record { operand = omega arith; constant = lit< tt }
+small-parts left (compare c) h = record { operand = lit< tt; constant = lit< tt }
+small-parts left (connects both) h = record { operand = lit< tt; constant = lit< tt }
+small-parts left (connects either) h = record { operand = lit< tt; constant = lit< tt }
+small-parts left (connects ifThen) h = record { operand = lit< tt; constant = lit< tt }
+small-parts left (skip s) h = record { operand = h .2; constant = first-small (s .to) }
 
 parts-there : (i : Instruction) → PartsSmall (partsOf i) → (s rest : List ℕ) (at : ℕ) → drop at s ≡ encode i ++ rest → partsAt s at ≡ partsOf i
 parts-there i small s rest at h =
@@ -110,7 +124,7 @@ parts-there i small s rest at h =
     λ k. record { operation = one k; detail = two k; operand = three k; constant = four k }
 
 pub bytes-back : BytesBack
-bytes-back i h s rest at there = ap decode (parts-there i (small-parts i h) s rest at there) ∙ parts-back i h
+bytes-back left i h s rest at there = ap (decode left) (parts-there i (small-parts left i h) s rest at there) ∙ parts-back left i h
 
 -- the other way: what is read is written again
 
@@ -134,27 +148,31 @@ passes test (some x) a h = go (test x) refl h
     go true e h = let same : x ≡ a = cc in rw same at e
     go false e h = absurd (Option·none-ne-some a h)
 
-read-test : (p : Parts) (i : Instruction) → decode p ≡ some i → (inRange i ≡ true) × (sameParts p (partsOf i) ≡ true)
-read-test p i h =
-    and-eq-true-iff (inRange i) (sameParts p (partsOf i)) .0 (passes (λ x. inRange x && sameParts p (partsOf x)) (instructionNamed p) i h)
+pub read-test : (left : ℕ) (p : Parts) (i : Instruction) → decode left p ≡ some i → (inRange left i ≡ true) × (sameParts p (partsOf i) ≡ true)
+read-test left p i h =
+    and-eq-true-iff (inRange left i) (sameParts p (partsOf i)) .0
+    (passes (λ x. inRange left x && sameParts p (partsOf x)) (instructionNamed p) i h)
 
 pub parts-again : PartsAgain
-parts-again p i h = same-parts p (partsOf i) (read-test p i h .1)
+parts-again left p i h = same-parts p (partsOf i) (read-test left p i h .1)
 
--- parts of two and of sixteen bytes leave only a width to ask for
-range-told : (i : Instruction) → PartsSmall (partsOf i) → inRange i ≡ true → InRange i
-range-told (pushBool b) small h = tt
-range-told (pushInt n) small h = small .constant
-range-told (pushKey k) small h = small .operand
-range-told (pushField f k) small h = small .operand
-range-told pushPriority small h = tt
-range-told invert small h = tt
-range-told negate small h = tt
-range-told (convert k w) small h =
+-- parts of two and of sixteen bytes leave only a width and a landing to ask for
+range-told : (left : ℕ) (i : Instruction) → PartsSmall (partsOf i) → inRange left i ≡ true → InRange left i
+range-told left (pushBool b) small h = tt
+range-told left (pushInt n) small h = small .constant
+range-told left (pushKey k) small h = small .operand
+range-told left (pushField f k) small h = small .operand
+range-told left pushPriority small h = tt
+range-told left invert small h = tt
+range-told left negate small h = tt
+range-told left (convert k w) small h =
     let wide = and-eq-true-iff (leb 1 w) (leb w 128) .0 h in
     (leb-true 1 w (wide .0), leb-true w 128 (wide .1))
-range-told (compare c) small h = tt
-range-told (connects o) small h = tt
+range-told left (compare c) small h = tt
+range-told left (connects o) small h = tt
+range-told left (skip s) small h =
+    let lands = and-eq-true-iff (leb 1 (s .over)) (leb (s .over) left) .0 h in
+    (leb-true 1 (s .over) (lands .0), leb-true (s .over) left (lands .1), small .operand)
 
 next-byte : (s : List ℕ) (at : ℕ) → at < length s → drop at s ≡ byteAt s at ∷ drop (at + 1) s
 next-byte s at h = drop-cons s at 0 h ∙ ap (λ n. byteAt s at ∷ drop n s) (sym (add-one at))
@@ -177,11 +195,11 @@ module _ (s : List ℕ) (at : ℕ) (there : at + instructionSize ≤ length s) (
         constant = number-below s (at + 4) 16 (omega arith) (few .1);
       }
 
-  written-again : (i : Instruction) → decode (partsAt s at) ≡ some i → WrittenAgain i (bytesAt s at instructionSize)
-  written-again i h =
-      let same : partsOf i ≡ partsAt s at = parts-again (partsAt s at) i h in
+  written-again : (left : ℕ) (i : Instruction) → decode left (partsAt s at) ≡ some i → WrittenAgain left i (bytesAt s at instructionSize)
+  written-again left i h =
+      let same : partsOf i ≡ partsAt s at = parts-again left (partsAt s at) i h in
       record {
-        ranged = range-told i (rw same parts-small) (read-test (partsAt s at) i h .0);
+        ranged = range-told left i (rw same parts-small) (read-test left (partsAt s at) i h .0);
         again = rw (same, cut, ← number-again s (at + 2) 2 (omega arith) (few .0), ← number-again s (at + 4) 16 (omega arith) (few .1));
       }
 

@@ -28,6 +28,7 @@ pub mod MeaningExamples
 pub mod BlockExamples
 pub mod InstructionExamples
 pub mod TranslationExamples
+pub mod SkipExamples
 pub mod PrintExamples
 pub mod PartExamples
 pub mod SummaryExamples
@@ -36,10 +37,14 @@ pub mod FaultExamples
 pub mod Basics
 pub mod Walks
 pub mod Stages
-pub mod LoadedBlocksRun
 pub mod MeetingTypes
+pub mod Landings
+pub mod Steps
+pub mod LoadedBlocksRun
+pub mod RangedCode
 pub mod Ranges
 pub mod TypeSoundness
+pub mod CodeLeads
 pub mod CodeCorrect
 pub mod CodeLength
 pub mod Digits
@@ -66,6 +71,8 @@ pub mod InTurn
 pub mod ListFaults
 pub mod BlockFaults
 pub mod EntryFaults
+pub mod FirstWrong
+pub mod Misfits
 pub mod CodeFaults
 pub mod TokenFaults
 pub mod Phrases
@@ -95,11 +102,13 @@ pub mod Depends
 pub mod RecheckedRight
 pub mod ExplainedRight
 pub mod DemandOne
+pub mod RunsRight
 pub mod DemandTwo
 pub mod DemandThree
 pub mod WrongPrints
 pub mod WrongExplainers
 pub mod WrongRecheckers
+pub mod WrongRunners
 pub mod WrongRecheckersExist
 pub mod WrongExplainersExist
 pub mod PiecesRight

@@ -16,6 +16,8 @@ use Rattle.paper.specs.declared.Translation.{Translation}
 use Rattle.paper.specs.declared.Translation.the-variants as T
 use Rattle.paper.specs.declared.Loading.{Loading}
 use Rattle.paper.specs.declared.Loading.the-variants as L
+use Rattle.paper.specs.declared.Running.{Running}
+use Rattle.paper.specs.declared.Running.the-variants as N
 use Rattle.paper.specs.declared.Printing.{Printing}
 use Rattle.paper.specs.declared.Printing.the-variants as W
 use Rattle.paper.specs.declared.Explanation.{Explanation}
@@ -24,13 +26,14 @@ use Rattle.paper.specs.declared.Summarizing.{Summarizing}
 use Rattle.paper.specs.declared.Summarizing.the-variants as S
 use Rattle.paper.specs.declared.Rechecking.{Rechecking}
 use Rattle.paper.specs.declared.Rechecking.the-variants as K
-use Rattle.paper.specs.Answers.{Input, inText, inList, inEntry, inBlocks, inBuffer, Answer, ok, refused, inputOf, offsetOf, readingSays, checkingSays, judgementSays, translationSays, loadingSays, printingSays}
+use Rattle.paper.specs.Answers.{Input, inText, inList, inEntry, inBlocks, inBuffer, Answer, ok, refused, inputOf, offsetOf, Ran, readingSays, checkingSays, judgementSays, translationSays, loadingSays, runningSays, printingSays}
 use Rattle.paper.specs.Calls.{readAnswer, checkAnswer, judgeAnswer, translateAnswer, translateBuffer, loadAnswer, runAnswer, printAnswer, printBuffer}
+use Rattle.paper.specs.TranslationCorrect.{verdictOf}
 use Rattle.paper.specs.Parts.{Part}
 use Rattle.paper.specs.Explained.{Reason, inPart, atKey, nothingToShow, falsePart, isRecord, keyIndex, nameStretch, reasonFor, explainAnswer, explanationSays}
 use Rattle.paper.specs.Named.{Summary, summaryAnswer, summarizingSays}
 use Rattle.paper.specs.Rechecking.{Rechecked, reused, judged, recheckAnswer, recheckingSays}
-use Rattle.paper.specs.Promised.{ExplainPromised, RecheckPromised, verdict, Sole, NoSecondResult, CanBeKept}
+use Rattle.paper.specs.Promised.{ExplainPromised, RecheckPromised, verdict, verdictIn, judgementOfRun, Sole, NoSecondResult, CanBeKept}
 
 -- places
 
@@ -132,6 +135,31 @@ loadings = record { good = L.Loaded; refusal = L.Refused; good-says = λ n. refl
     go : (r : Loading) → Either L.Loaded L.Refused r
     go (L.Loaded n) = is-good n
     go (L.Refused n p) = is-refusal n p
+
+pub ran-says : (b : Bool) (n : ℕ) → runningSays (verdictIn b n) ≡ ok (record { accepted = b; steps = n })
+ran-says true n = refl
+ran-says false n = refl
+
+runnings : Enum runningSays
+runnings =
+    record {
+      good = λ (a : Ran). verdictIn (a .accepted) (a .steps);
+      refusal = N.Refused;
+      good-says = λ a. ran-says (a .accepted) (a .steps);
+      refusal-says = λ n p. refl;
+      either = go;
+    }
+  where
+    go : (r : Running) → Either (λ (a : Ran). verdictIn (a .accepted) (a .steps)) N.Refused r
+    go (N.Accepted n) = is-good (record { accepted = true; steps = n })
+    go (N.Violated n) = is-good (record { accepted = false; steps = n })
+    go (N.Refused n p) = is-refusal n p
+
+-- a run, its steps aside, says the verdict of what it says
+pub judgement-of-run : (r : Running) → judgementSays (judgementOfRun r) ≡ verdictOf (runningSays r)
+judgement-of-run (N.Accepted n) = refl
+judgement-of-run (N.Violated n) = refl
+judgement-of-run (N.Refused n p) = refl
 
 printings : Enum printingSays
 printings = record { good = W.Printed; refusal = W.Refused; good-says = λ n. refl; refusal-says = λ n p. refl; either = go }
@@ -239,6 +267,9 @@ translation-same = same-says translationSays translations
 pub loading-same : (r s : Loading) → loadingSays r ≡ loadingSays s → r ≡ s
 loading-same = same-says loadingSays loadings
 
+pub running-same : (r s : Running) → runningSays r ≡ runningSays s → r ≡ s
+running-same = same-says runningSays runnings
+
 pub printing-same : (r s : Printing) → printingSays r ≡ printingSays s → r ≡ s
 printing-same = same-says printingSays printings
 
@@ -264,7 +295,7 @@ no-second-result =
             no-second = λ r h i. record { answer = answer .no-second (r .answer) (h .says) i; buffer = h .holds i };
           };
       load = λ list blocks. one-says loadingSays loadings (loadAnswer list blocks);
-      run = λ list blocks entry. one-says judgementSays judgements (runAnswer list blocks entry);
+      run = λ list blocks entry. one-says runningSays runnings (runAnswer list blocks entry);
       print = λ text buffer.
           let answer = one-says printingSays printings (printAnswer text buffer) in
           record {

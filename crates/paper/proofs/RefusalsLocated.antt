@@ -4,6 +4,7 @@ use native.Mathlib.Decide.{ℕ-discrete}
 use native.Mathlib.Omega.{arith}
 use mathlib.Core.Path.{_≡_, sym, ap, _∙_}
 use mathlib.Core.Logic.{inl, inr}
+use mathlib.Core.Option.{Option, some}
 use mathlib.Core.List.{List, [], _∷_, _++_, List·Memᴰ}
 use lib.ListN.{length, length-append}
 use Rattle.paper.specs.Answers.{Input, inText, inList, inEntry, inBlocks, inBuffer, ok, inTurn}
@@ -13,10 +14,12 @@ use Rattle.paper.specs.Entry.{headSize, matchSize}
 use Rattle.paper.specs.Grammar.{Tree, truth, number, key, field, attribute, prefixed, joined, compared, parsed, placeOf}
 use Rattle.paper.specs.Sentences.{Number, text-ends, no-sentence, too-deep, bad-string}
 use Rattle.paper.specs.Places.{Everywhere}
+use Rattle.paper.specs.Code.{Instruction, skip}
 use Rattle.paper.specs.Blocks.{inBlock, blocksIn, totalOf, blockTest}
+use Rattle.paper.specs.Loading.{instructionAt, program}
 use Rattle.paper.specs.Print.{print}
 use Rattle.paper.specs.Calls.{tree, restriction}
-use Rattle.paper.specs.Faults.{TextSize, text-over, ListSize, list-uneven, list-over, ListRecords, record-broken, name-repeated, TextTokens, no-token, numeral-large, one-more-token, TextGrammar, TreeTypes, key-unknown, key-of-field-unknown, field-unknown, attribute-unknown, prefix-wrong, join-wrong, comparison-wrong, in-operand, join-left, join-right, comparison-left, comparison-right, RootType, not-bool, BufferSize, buffer-short, BlocksSize, no-blocks, blocks-uneven, blocks-over, BlocksLayout, block-broken, BlocksCode, instruction-fails, end-not-bool, EntrySize, entry-wrong, EntryRules, priority-broken, match-broken, LendingSize, over-limit, over-buffer}
+use Rattle.paper.specs.Faults.{TextSize, text-over, ListSize, list-uneven, list-over, ListRecords, record-broken, name-repeated, TextTokens, no-token, numeral-large, one-more-token, TextGrammar, TreeTypes, key-unknown, key-of-field-unknown, field-unknown, attribute-unknown, prefix-wrong, join-wrong, comparison-wrong, in-operand, join-left, join-right, comparison-left, comparison-right, RootType, not-bool, BufferSize, buffer-short, BlocksSize, no-blocks, blocks-uneven, blocks-over, BlocksLayout, block-broken, BlocksCode, instruction-fails, skip-misfits, end-not-bool, EntrySize, entry-wrong, EntryRules, priority-broken, match-broken, LendingSize, over-limit, over-buffer}
 use Rattle.paper.specs.Table.{lastNumber, Free, Stage, Given, Decided, Clear, sizeStages, listStages, treeStages, typeStages, bufferStages, blockStages, entryStages, printingStages, checkStages}
 use Rattle.paper.specs.Demands.{Lent, lent}
 use Rattle.paper.proofs.Basics.{some-below}
@@ -26,6 +29,7 @@ use Rattle.paper.proofs.LoadedBlocksRun.{program-length}
 use Rattle.paper.proofs.LayoutPassed.{each-block, counts-within}
 use Rattle.paper.proofs.StagesInOrder.{free-passes}
 use Rattle.paper.proofs.BlockFaults.{blocks-layout-tells}
+use Rattle.paper.proofs.CodeFaults.{inside-blocks}
 use Rattle.paper.proofs.TypeFaults.{placed}
 
 -- a number and an offset in bytes
@@ -166,12 +170,17 @@ code-bounded list blocks free n at (ks, listed, h) = go n at h
         in
         counts-within (length ks) blocks (each-block (length ks) blocks passes)
 
-    go : (n at : ℕ) → BlocksCode ks blocks n at → Bounded blocks n at
-    go n at (instruction-fails front i rest held split upto stops) =
+    here : (front : List (Option Instruction)) (i : Option Instruction) (rest : List (Option Instruction)) → program blocks ≡ front ++ (i ∷ rest)
+        → Bounded blocks 18 (instructionAt (length front))
+    here front i rest split =
         let size : length front + suc (length rest) ≡ totalOf blocks =
         sym (length-append front (i ∷ rest)) ∙ ap length (sym split) ∙ program-length blocks 0 (totalOf blocks)
         in
-        bound (omega arith) (omega arith) (omega (arith, few))
+        bound (omega arith) (omega arith) (omega (arith, inside-blocks blocks (length front) few (omega arith)))
+
+    go : (n at : ℕ) → BlocksCode ks blocks n at → Bounded blocks n at
+    go n at (instruction-fails front i rest held split upto stops) = here front i rest split
+    go n at (skip-misfits front s rest held there split upto lands differs) = here front (some (skip s)) rest split
     go n at (end-not-bool held e d) = bound (omega arith) (omega arith) (omega arith)
 
 entry-size-bounded : (list entry : List ℕ) (n at : ℕ) → Given (keys list) (λ ks. EntrySize ks entry) n at → Bounded entry n at

@@ -16,10 +16,10 @@ use Rattle.paper.specs.Grammar.{Tree, nodes, parsed}
 use Rattle.paper.specs.Types.{typed}
 use Rattle.paper.specs.Meaning.{valueOf, isTrue}
 use Rattle.paper.specs.Blocks.{blockSize, blocksNeeded}
-use Rattle.paper.specs.Loading.{program, loaded, valuesAlong, leftTrue}
+use Rattle.paper.specs.Loading.{program, loaded, runAlong}
 use Rattle.paper.specs.Translating.{codeOf}
 use Rattle.paper.specs.Print.{print}
-use Rattle.paper.specs.Calls.{sized, tree, Restriction, restriction, readAnswer, checkAnswer, judgeAnswer, roomFor, translatable, translateAnswer, loadAnswer, runAnswer, lends, printable, printAnswer}
+use Rattle.paper.specs.Calls.{sized, tree, Restriction, restriction, readAnswer, checkAnswer, judgeAnswer, roomFor, translatable, translateAnswer, loadAnswer, ranTo, runAnswer, lends, printable, printAnswer}
 use Rattle.paper.specs.Named.{names, marked, setOf, Summary, summaryAnswer}
 use Rattle.paper.specs.Faults.{Faults, TextSize, text-over, TextTokens, TextGrammar, BufferSize, buffer-short, LendingSize, over-limit, over-buffer}
 use Rattle.paper.specs.Table.{Free, stage, Given, sizeStages, listStages, treeStages, typeStages, bufferStages, blockStages, entryStages, readStages, checkStages, judgeStages, translateStages, loadStages, runStages, printingStages, printStages, TableHolds}
@@ -167,7 +167,7 @@ run-follows list blocks entry =
     (λ ks listed.
     follows-then (blockStages list blocks) (entryStages list entry) (loaded ks blocks) _ (blocks-follow list ks blocks listed)
     (λ _ _.
-    follows-as (entryStages list entry) (entryOf ks entry) (λ e. leftTrue (valuesAlong ks e (program blocks)))
+    follows-as (entryStages list entry) (entryOf ks entry) (λ e. ranTo (runAlong ks e (program blocks)))
     (entry-follows list ks entry listed)))
 
 print-follows : (text buffer : List ℕ) → Follows (printStages text buffer) (printAnswer text buffer)

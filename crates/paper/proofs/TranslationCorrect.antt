@@ -1,31 +1,33 @@
--- The blocks of a text load, and say of every entry what the text says.
+-- The blocks of a text load, and say of every entry what the text says, in the steps counted over its tree: they read back as the code of
+-- the tree, which pushes a bool in the load check and the tree's value in the run.
 use Prim.Native.Nat.{ℕ, _+_, _*_, _≤_}
 use native.Mathlib.Omega.{arith}
 use mathlib.Core.Path.{_≡_, refl, sym, ap, subst, _∙_}
-use mathlib.Core.List.{List, [], _∷_}
+use mathlib.Core.Option.{some}
+use mathlib.Core.List.{List, [], _∷_, _++_, map, append-nil}
 use lib.ListN.{length, take, drop, length-append, length-drop}
 use lib.Seq.{take-at, drop-at}
 use lib.Dec.{leb}
 use borrow.Author.Tests.{leb-true, le-leb}
-use Rattle.paper.specs.Answers.{Answer, ok, refused, _>>=_, require, Input, inBuffer}
+use Rattle.paper.specs.Answers.{Answer, ok, refused, _>>=_, require, Ran, Input, inBuffer}
 use Rattle.paper.specs.Tokens.{tokens}
 use Rattle.paper.specs.Keys.{Key, keys}
 use Rattle.paper.specs.Entry.{Entry, entryOf}
 use Rattle.paper.specs.Grammar as G
 use Rattle.paper.specs.Grammar.{Tree, nodes, parsed}
 use Rattle.paper.specs.Types.{bool, typeOf, rootType, typed}
-use Rattle.paper.specs.Meaning.{truth, valueOf, isTrue}
+use Rattle.paper.specs.Meaning.{Value, truth, valueOf, isTrue}
 use Rattle.paper.specs.Code.{Instruction, ends, mostHeld}
-use Rattle.paper.specs.Blocks.{blockSize, inBlock, mostBlocks, blocksNeeded, blocksOf}
-use Rattle.paper.specs.Loading.{program, typesAlong, loaded, valuesAlong, leftTrue}
-use Rattle.paper.specs.Translating.{codeOf, conversions}
-use Rattle.paper.specs.Calls.{sized, tree, Restriction, restriction, checkAnswer, judgeAnswer, translatable, translateAnswer, over, filled, translateBuffer, loadAnswer, runAnswer}
+use Rattle.paper.specs.Blocks.{blockSize, blocksNeeded, blocksOf}
+use Rattle.paper.specs.Loading.{program, typesAlong, loaded, Step, done, after, runAlong}
+use Rattle.paper.specs.Translating.{codeOf, conversions, joins, stepsOf}
+use Rattle.paper.specs.Calls.{sized, tree, Restriction, restriction, checkAnswer, judgeAnswer, translatable, translateAnswer, over, filled, translateBuffer, loadAnswer, ranTo, runAnswer}
 use Rattle.paper.specs.LoadedBlocksRun.{Covers}
-use Rattle.paper.specs.CodeCorrect.{needs}
+use Rattle.paper.specs.CodeCorrect.{needs, mostTranslated, afterAll}
 use Rattle.paper.specs.BlocksRoundTrip.{Written}
-use Rattle.paper.specs.TranslationCorrect.{Carries, Filled, TranslationCarries, CheckedTranslates, RefusedUnchanged, LoadedAnswers}
+use Rattle.paper.specs.TranslationCorrect.{judgedInSteps, verdictOf, Carries, Filled, TranslationCarries, CheckedTranslates, RefusedUnchanged, LoadedAnswers}
 use Rattle.paper.proofs.Nodes.{nodes-within-tokens}
-use Rattle.paper.proofs.Stages.{Of, never-ok, bind-ok, test-again, require-ok}
+use Rattle.paper.proofs.Stages.{Of, never-ok, bind-ok, bind-again, test-again, require-ok}
 use Rattle.paper.proofs.LoadedBlocksRun.{conforming, loaded-runs}
 use Rattle.paper.proofs.TypeSoundness.{judged, bool-root}
 use Rattle.paper.proofs.CodeCorrect.{code-pushes-value, code-pushes-type}
@@ -59,6 +61,11 @@ module _ (text list : List ℕ) where
   pub passing : (r : Restriction) → restriction text list ≡ ok r → Passing text list r
   unfolding restriction
   passing r h = subst (Of (Passing text list)) h (stages-pass (sized text) (keys list) (tree text) refl refl)
+
+-- a run of steps and no more
+after-done : (path : List Step) (held : List Value) → afterAll path (done [] held) ≡ done path held
+after-done [] held = refl
+after-done (p ∷ path) held = ap (after p) (after-done path held)
 
 -- its blocks
 
@@ -97,10 +104,10 @@ module _ (text list : List ℕ) (r : Restriction) (passed : restriction text lis
   room : needs t ≤ mostHeld
   room = omega (arith, few-held text t (known .read))
 
-  pub counted : length code ≡ nodes t + conversions ks t
+  pub counted : length code ≡ nodes t + conversions ks t + joins t
   counted = code-counted ks t bool a-bool
 
-  short : length code ≤ mostBlocks * inBlock
+  short : length code ≤ mostTranslated
   unfolding tree
   short =
       let a = bind-ok (tokens text) (parsed (length text)) t (known .read) in
@@ -109,44 +116,60 @@ module _ (text list : List ℕ) (r : Restriction) (passed : restriction text lis
   written : Written (length ks) code blocks
   written =
       let k = keys-listed list ks (known .listed) in
-      blocks-back (length ks) code (k .few) (omega (arith, counted, nodes-some t)) short (code-in-range ks k t (numbers-read text t (known .read)))
+      blocks-back (length ks) code (k .few) (omega (arith, counted, nodes-some t)) (omega (arith, short))
+      (code-in-range ks k t (numbers-read text t (known .read)) (omega (arith, short)))
+
+  read-back : program blocks ≡ map some code ++ []
+  read-back = written .back ∙ sym (append-nil (map some code))
 
   types-end : typesAlong ks (program blocks) ≡ ends (bool ∷ [])
   unfolding typesAlong
-  types-end = rw (written .back) (code-pushes-type ks t bool a-bool [] (omega (arith, room)) 0)
+  types-end = rw read-back (code-pushes-type ks t bool a-bool [] (omega (arith, room)) 0 [])
 
   loads : loaded ks blocks ≡ ok (length code)
   unfolding loaded
   loads = rw (written .passes, types-end, written .total)
 
-  judged-alike : (e : Entry) → Covers ks e → leftTrue (valuesAlong ks e (program blocks)) ≡ isTrue (valueOf ks e t)
-  unfolding valuesAlong
-  judged-alike e covers =
+  -- what judging says of an entry, with the steps
+  abbrev judgedOf : Entry → Ran
+  judgedOf e = record { accepted = isTrue (valueOf ks e t); steps = stepsOf ks e t }
+
+  ran : (e : Entry) → Covers ks e → ranTo (runAlong ks e (program blocks)) ≡ judgedOf e
+  unfolding runAlong
+  ran e covers =
       let v = judged ks e covers t (known .checked) in
-      let w = code-pushes-value ks e covers t (truth (v .0)) (v .1) [] (omega (arith, room)) 0 in
-      rw (written .back, w, v .1)
+      let (path, many, to) = code-pushes-value ks e covers t (truth (v .0)) (v .1) [] (omega (arith, room)) 0 [] in
+      rw (read-back, to, after-done path (truth (v .0) ∷ []), many, v .1)
 
   module _ (entry : List ℕ) where
     -- with what is known of the entry
     alike : (x : Answer Entry) → entryOf ks entry ≡ x
-        → (x >>= λ e. ok (leftTrue (valuesAlong ks e (program blocks)))) ≡ (x >>= λ e. ok (isTrue (valueOf ks e t)))
-    alike (ok e) h = ap (λ b. ok b) (judged-alike e (conforming ks entry e h))
+        → (x >>= λ e. ok (ranTo (runAlong ks e (program blocks)))) ≡ (x >>= λ e. ok (judgedOf e))
+    alike (ok e) h = ap (λ a. ok a) (ran e (conforming ks entry e h))
     alike (refused n i at) h = refl
 
-    runs : runAnswer list blocks entry ≡ (entryOf ks entry >>= λ e. ok (leftTrue (valuesAlong ks e (program blocks))))
+    runs : runAnswer list blocks entry ≡ (entryOf ks entry >>= λ e. ok (ranTo (runAlong ks e (program blocks))))
     unfolding runAnswer
     runs = rw (known .listed, loads)
 
-    judges : judgeAnswer text list entry ≡ (entryOf ks entry >>= λ e. ok (isTrue (valueOf ks e t)))
+    judged-so : judgedInSteps text list entry ≡ (entryOf ks entry >>= λ e. ok (judgedOf e))
+    unfolding judgedInSteps
+    judged-so = rw passed
+
+    verdict-so : verdictOf (entryOf ks entry >>= λ e. ok (judgedOf e)) ≡ judgeAnswer text list entry
     unfolding judgeAnswer
-    judges = ap (λ x. x >>= λ q. entryOf (q .keys) entry >>= λ e. ok (isTrue (valueOf (q .keys) e (q .root)))) passed
+    verdict-so = rw passed (bind-again (entryOf ks entry) (λ e. ok (judgedOf e)) (λ a. ok (a .accepted)))
+
+    runs-alike : runAnswer list blocks entry ≡ (entryOf ks entry >>= λ e. ok (judgedOf e))
+    runs-alike = runs ∙ alike (entryOf ks entry) refl
 
   carries : Carries text list blocks (length code)
   unfolding loadAnswer
   carries =
       record {
         loads = rw (known .listed) loads;
-        runs = λ entry. runs entry ∙ alike entry (entryOf ks entry) refl ∙ sym (judges entry);
+        runs = λ entry. runs-alike entry ∙ sym (judged-so entry);
+        judges = λ entry. ap verdictOf (runs-alike entry) ∙ verdict-so entry;
       }
 
   -- in a buffer
@@ -221,7 +244,7 @@ checked-translates text list h buffer room =
 
 -- its number of instructions is the text's and the list's, and the buffer is measured against that
 pub checked-count : (text list : List ℕ) → checkAnswer text list ≡ ok tt
-    → (n : ℕ) × (n ≤ mostBlocks * inBlock)
+    → (n : ℕ) × (n ≤ mostTranslated)
     × ((buffer : List ℕ) → translateAnswer text list buffer
     ≡ (require (leb (blockSize * blocksNeeded n) (length buffer)) 15 inBuffer (length buffer) >>= λ _. ok n))
 unfolding checkAnswer

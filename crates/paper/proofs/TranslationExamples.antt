@@ -1,7 +1,9 @@
 -- Each example of a translation is computed from the definitions.
 use mathlib.Core.Path.{refl}
-use Rattle.paper.specs.Translating.{codeOf, conversions}
+use Rattle.paper.specs.Entry.{entryOf}
+use Rattle.paper.specs.Translating.{codeOf, conversions, stepsOf}
 use Rattle.paper.specs.Calls.{restriction, judgeAnswer, translateAnswer, translateBuffer, runAnswer}
+use Rattle.paper.specs.TranslationCorrect.{judgedInSteps}
 use Rattle.paper.specs.TranslationExamples.{EveryInstruction, Refused, TranslationExamples}
 
 every : EveryInstruction
@@ -13,12 +15,17 @@ unfolding translateAnswer translateBuffer
 refusals = record { short = refl; short-unchanged = refl; one-of-two-blocks = refl; untyped = refl; untyped-unchanged = refl }
 
 pub translationExamples : TranslationExamples
-unfolding restriction codeOf conversions
+unfolding restriction entryOf codeOf conversions stepsOf judgedInSteps
 translationExamples =
     record {
       of-nodes = refl;
       of-conversions = refl;
       counted = refl;
+      joins-counted = refl;
+      steps-counted = refl;
+      judged-in-steps = refl;
+      held-counted = refl;
+      most-blocks = refl;
       every-instruction = every;
       refusals = refusals;
     }

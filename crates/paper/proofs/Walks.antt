@@ -1,10 +1,10 @@
--- Laws of a walk, whatever it holds: one walk seen through another, a walk of a sum of sequences, and how much is held.
+-- Laws of a walk, whatever it holds: one walk seen through another, a walk of a sum of sequences, and how much an instruction leaves.
 use Prim.Native.Nat.{ℕ, suc, _+_, _≤_}
 use native.Mathlib.Nat.{add-zero}
 use native.Mathlib.Omega.{arith}
 use mathlib.Core.Path.{_≡_, refl, sym, subst, _∙_}
 use mathlib.Core.Bool.{Bool, true, false}
-use mathlib.Core.Option.{Option, none, some, Option·map}
+use mathlib.Core.Option.{Option, none, some, Option·map, Option·some-injective, Option·none-ne-some}
 use mathlib.Core.List.{List, [], _∷_, _++_, map}
 use lib.ListN.{length, length-map}
 use lib.Dec.{ltb}
@@ -33,7 +33,7 @@ module _ {A B : Type 0} (g : A → B) where
   put-follows none s = refl
   put-follows (some a) s = rw length-map (map-when (map g) (ltb (length s) mostHeld) (a ∷ s))
 
-  act-follows : (u : Action B) (v : Action A) → Follows u v → (s : List A) → act u (map g s) ≡ Option·map (map g) (act v s)
+  pub act-follows : (u : Action B) (v : Action A) → Follows u v → (s : List A) → act u (map g s) ≡ Option·map (map g) (act v s)
   act-follows (leaves o) (leaves p) h s = rw h (put-follows p s)
   act-follows (leaves o) (takesOne f) h s = absurd h
   act-follows (leaves o) (takesTwo f) h s = absurd h
@@ -87,36 +87,31 @@ walk-front {A} xs ys i s t e = go (walk i xs s) (sym (walk-append xs ys i s) ∙
     go (fails j) h = absurd (let z : _≡_ {A = ℕ} 0 1 = cc in omega arith)
     go (ends u) h = (u, refl)
 
--- how much is held
-
-abbrev Few : {A : Type 0} → Walk A → Type 0
-Few (fails i) = Unit {0}
-Few (ends held) = length held ≤ mostHeld
-
-go-few : {A : Type 0} (i : ℕ) (o : Option A) (s : List A) (w : List A → Walk A)
-    → ((t : List A) → length t ≤ mostHeld → Few (w t)) → Few (goOn i (put o s) w)
-go-few i none s w h = tt
-go-few {A} i (some a) s w h = go (ltb (length s) mostHeld) refl
-  where
-    go : (b : Bool) → ltb (length s) mostHeld ≡ b → Few (goOn i (when b (a ∷ s)) w)
-    go true e = h (a ∷ s) (ltb-true (length s) mostHeld e)
-    go false e = tt
-
-act-few : {A : Type 0} (i : ℕ) (x : Action A) (s : List A) (w : List A → Walk A)
-    → ((t : List A) → length t ≤ mostHeld → Few (w t)) → Few (goOn i (act x s) w)
-act-few i (leaves o) s w h = go-few i o s w h
-act-few i (takesOne f) [] w h = tt
-act-few i (takesOne f) (a ∷ s) w h = go-few i (f a) s w h
-act-few i (takesTwo f) [] w h = tt
-act-few i (takesTwo f) (b ∷ []) w h = tt
-act-few i (takesTwo f) (b ∷ a ∷ s) w h = go-few i (f a b) s w h
-
-every-few : {A : Type 0} (xs : List (Action A)) (i : ℕ) (s : List A) → length s ≤ mostHeld → Few (walk i xs s)
+-- where it begins to count matters only where it fails
+pub walk-anywhere : {A : Type 0} (xs : List (Action A)) (i j : ℕ) (s t : List A) → walk i xs s ≡ ends t → walk j xs s ≡ ends t
 unfolding walk
-every-few [] i s h = h
-every-few (x ∷ xs) i s h = act-few i x s _ (every-few xs (i + 1))
+walk-anywhere [] i j s t h = h
+walk-anywhere {A} (x ∷ xs) i j s t h = go (act x s) h (λ u. walk-anywhere xs (i + 1) (j + 1) u t)
+  where
+    go : (o : Option (List A)) → goOn i o (walk (i + 1) xs) ≡ ends t
+        → ((u : List A) → walk (i + 1) xs u ≡ ends t → walk (j + 1) xs u ≡ ends t) → goOn j o (walk (j + 1) xs) ≡ ends t
+    go none e later = absurd (let z : _≡_ {A = ℕ} 0 1 = cc in omega arith)
+    go (some u) e later = later u e
 
--- at most 384, if there were at the start
-pub walk-few : {A : Type 0} (xs : List (Action A)) (i : ℕ) (s t : List A) → length s ≤ mostHeld → walk i xs s ≡ ends t
-    → length t ≤ mostHeld
-walk-few xs i s t h e = subst Few e (every-few xs i s h)
+-- how much an instruction leaves: at most 384
+
+put-few : {A : Type 0} (o : Option A) (s t : List A) → put o s ≡ some t → length t ≤ mostHeld
+put-few none s t h = absurd (Option·none-ne-some t h)
+put-few {A} (some a) s t h = go (ltb (length s) mostHeld) refl h
+  where
+    go : (b : Bool) → ltb (length s) mostHeld ≡ b → when b (a ∷ s) ≡ some t → length t ≤ mostHeld
+    go true e h = subst (λ u. length u ≤ mostHeld) (Option·some-injective (a ∷ s) t h) (ltb-true (length s) mostHeld e)
+    go false e h = absurd (Option·none-ne-some t h)
+
+pub act-few : {A : Type 0} (x : Action A) (s t : List A) → act x s ≡ some t → length t ≤ mostHeld
+act-few (leaves o) s t h = put-few o s t h
+act-few (takesOne f) [] t h = absurd (Option·none-ne-some t h)
+act-few (takesOne f) (a ∷ s) t h = put-few (f a) s t h
+act-few (takesTwo f) [] t h = absurd (Option·none-ne-some t h)
+act-few (takesTwo f) (b ∷ []) t h = absurd (Option·none-ne-some t h)
+act-few (takesTwo f) (b ∷ a ∷ s) t h = put-few (f a b) s t h

@@ -1,6 +1,6 @@
 -- The wrong programs fail, each at an input: the cases 2 and 7 of the marked judgements, `true` with no keys, `true; v == 0`, for printers
--- `a;b`, `!(a==b)`, `0x10` and `ipv4('0.0.0.16')`, for explainers the texts of WrongExplainers, and for summaries and rechecks those of
--- WrongRecheckers.
+-- `a;b`, `!(a==b)`, `0x10` and `ipv4('0.0.0.16')`, for explainers the texts of WrongExplainers, for summaries and rechecks those of
+-- WrongRecheckers, and for ways with skips the blocks of WrongRunners.
 use Prim.Native.Nat.{ℕ, zero, suc, _+_, _*_, _≤_}
 use native.Mathlib.Omega.{arith}
 use mathlib.Core.Path.{_≡_, refl, sym, ap, subst, _∙_}
@@ -21,11 +21,13 @@ use Rattle.paper.specs.Tokens.{bytes, is, mostText}
 use Rattle.paper.specs.Keys.{keys}
 use Rattle.paper.specs.Meaning.{truth, isTrue}
 use Rattle.paper.specs.Code.{invert}
-use Rattle.paper.specs.Blocks.{blockSize, mostBlocks, blocksNeeded, blocksOf, countAt, layout}
+use Rattle.paper.specs.Blocks.{blockSize, blocksNeeded, blocksOf, countAt, layout}
 use Rattle.paper.specs.Grammar.{Tree, nodes}
-use Rattle.paper.specs.Translating.{conversions}
+use Rattle.paper.specs.Translating.{conversions, joins}
 use Rattle.paper.specs.Print.{print}
 use Rattle.paper.specs.Calls.{tree, Restriction, checkAnswer, translateAnswer, judgeAnswer, loadAnswer, runAnswer}
+use Rattle.paper.specs.CodeCorrect.{mostTranslated}
+use Rattle.paper.specs.TranslationCorrect.{verdictOf}
 use Rattle.paper.specs.MarkedJudgements.{theKeys, theEntry}
 use Rattle.paper.specs.Promised.{verdict, PrintResult, Bytes, Programs, KeepsCheck, KeepsLoad}
 use Rattle.paper.specs.Demands.{DemandOne, DemandTwo, DemandThree}
@@ -33,7 +35,8 @@ use Rattle.paper.specs.WrongPrints.{withoutParentheses, withAllParenthes
 use Rattle.paper.specs.RecheckedRight.{Summarizes}
 use Rattle.paper.specs.WrongExplainers.{Right}
 use Rattle.paper.specs.WrongRecheckers.{RechecksRight, SummarizesRight}
-use Rattle.paper.specs.WrongPrograms.{RefusesAll, AcceptsAll, WritesNothing, FirstPartOnly, PassesNothing, PassesAll, WantsAllBlocks, CountsRight, Lends, CopiesText, LeavesParentheses, EnclosesAll, WritesAndForSequel, ForgetsBases, WritesAddressesInHex, explainer, NamesLastPart, FollowsLeftSpine, ShowsKeyForPriority, RechecksNever, RechecksAlways, RechecksEqual, RechecksUnranked, RechecksReadings, NamesPriority, NamesBareOnly, WrongProgramsFail, NoWrongProgram, paddedText, paddedBlocks, PaddingSeen}
+use Rattle.paper.specs.WrongRunners.{RunsRight}
+use Rattle.paper.specs.WrongPrograms.{RefusesAll, AcceptsAll, WritesNothing, FirstPartOnly, PassesNothing, PassesAll, WantsAllBlocks, CountsRight, Lends, CopiesText, LeavesParentheses, EnclosesAll, WritesAndForSequel, ForgetsBases, WritesAddressesInHex, explainer, NamesLastPart, FollowsLeftSpine, ShowsKeyForPriority, RechecksNever, RechecksAlways, RechecksEqual, RechecksUnranked, RechecksReadings, NamesPriority, NamesBareOnly, StepsByCode, SkipsKeepBool, LandsByHeight, WrongProgramsFail, NoWrongProgram, paddedText, paddedBlocks, PaddingSeen}
 use Rattle.paper.proofs.Stages.{never-ok, ok-same}
 use Rattle.paper.proofs.LayoutPassed.{first-counted}
 use Rattle.paper.proofs.Table.{table-holds}
@@ -47,6 +50,7 @@ use Rattle.paper.proofs.WellFormed.{tree-formed}
 use Rattle.paper.proofs.WrongPrints.{close, negated, sixteen, sixteen-in-hex, reads-close, reads-negated, reads-hex, reads-address}
 use Rattle.paper.proofs.WrongExplainers.{wrong-explainers-fail}
 use Rattle.paper.proofs.WrongRecheckers.{wrong-recheckers-fail}
+use Rattle.paper.proofs.WrongRunners.{wrong-runners-fail}
 
 -- what demand 2 says of an entry that is judged
 by-demand-two : (p : Programs) → DemandTwo p → (text list entry : List ℕ) → Bytes text → Bytes list → Bytes entry → (b : Bool) → judgeAnswer text list entry ≡ ok b
@@ -104,7 +108,7 @@ accepting-fails p two all =
 zeros : List ℕ
 zeros = replicate 41984 0
 
-enough : mostBlocks * blockSize ≤ length zeros
+enough : blocksNeeded mostTranslated * blockSize ≤ length zeros
 unfolding zeros
 enough = omega (arith, length-replicate {A = ℕ} 41984 0)
 
@@ -251,7 +255,7 @@ counts-right : (p : Programs) → DemandTwo p → CountsRight p
 counts-right p two text list buffer t l b n written r passed =
     let can = two .translates text list buffer t l b n .0 written in
     let same = ok-same (restricts text list (can .passes)) r (sym (checkable-restriction text list (can .passes)) ∙ passed) in
-    can .count ∙ ap (λ (x : Restriction). nodes (x .root) + conversions (x .keys) (x .root)) same
+    can .count ∙ ap (λ (x : Restriction). nodes (x .root) + conversions (x .keys) (x .root) + joins (x .root)) same
 
 -- a printer that lends other bytes gives another count
 
@@ -364,6 +368,20 @@ counting-priority-fails p two counts = wrong-recheckers-fail .priority-counted (
 missing-fields-fails : (p : Programs) → DemandTwo p → ¬ NamesBareOnly p
 missing-fields-fails p two misses = wrong-recheckers-fail .fields-missed (p .summarize) misses (summarizes-right p two)
 
+-- and of ways with skips
+
+runs-right : (p : Programs) → DemandTwo p → RunsRight (p .run)
+runs-right p two list blocks entry l s e = two .runs list blocks entry l s e
+
+steps-by-code-fails : (p : Programs) → DemandTwo p → ¬ StepsByCode p
+steps-by-code-fails p two reports = wrong-runners-fail .instructions (p .run) reports (runs-right p two)
+
+keeping-bool-fails : (p : Programs) → DemandTwo p → ¬ SkipsKeepBool p
+keeping-bool-fails p two keeps = wrong-runners-fail .old-bool (p .run) keeps (runs-right p two)
+
+landing-by-height-fails : (p : Programs) → KeepsLoad p → ¬ LandsByHeight p
+landing-by-height-fails p loads compares = wrong-runners-fail .heights (p .load) compares loads
+
 pub wrong-programs-fail : WrongProgramsFail
 wrong-programs-fail p =
     record {
@@ -391,6 +409,9 @@ wrong-programs-fail p =
       comparing-readings = comparing-readings-fails p;
       counting-priority = counting-priority-fails p;
       missing-fields = missing-fields-fails p;
+      steps-by-code = steps-by-code-fails p;
+      keeping-bool = keeping-bool-fails p;
+      landing-by-height = landing-by-height-fails p;
     }
 
 pub no-wrong-program : NoWrongProgram
@@ -422,13 +443,16 @@ no-wrong-program p kept =
       comparing-readings = comparing-readings-fails p two;
       counting-priority = counting-priority-fails p two;
       missing-fields = missing-fields-fails p two;
+      steps-by-code = steps-by-code-fails p two;
+      keeping-bool = keeping-bool-fails p two;
+      landing-by-height = landing-by-height-fails p (kept .load);
     }
 
 padded-loads : loadAnswer theKeys paddedBlocks ≡ ok 3
 unfolding loadAnswer blocksOf
 padded-loads = refl
 
-padded-runs : runAnswer theKeys paddedBlocks theEntry ≡ ok true
+padded-runs : runAnswer theKeys paddedBlocks theEntry ≡ ok (record { accepted = true; steps = 3 })
 unfolding runAnswer blocksOf
 padded-runs = refl
 
@@ -438,5 +462,6 @@ padding-seen =
       loads = padded-loads;
       runs = padded-runs;
       judged = whole-violated;
-      not-carried = λ n c. true≢false (ok-same true false (sym padded-runs ∙ c .runs theEntry ∙ whole-violated));
+      not-carried = λ n c.
+          true≢false (ok-same true false (sym (ap verdictOf padded-runs) ∙ c .judges theEntry ∙ whole-violated));
     }

@@ -14,25 +14,32 @@ use Rattle.paper.specs.declared.Loading.{Loading}
 use Rattle.paper.specs.declared.Loading.the-variants as L
 use Rattle.paper.specs.declared.Translation.{Translation}
 use Rattle.paper.specs.declared.Translation.the-variants as T
+use Rattle.paper.specs.declared.Running.{Running}
+use Rattle.paper.specs.declared.Running.the-variants as N
 use Rattle.paper.specs.declared.Printing.the-variants as W
 use Rattle.paper.specs.declared.Explanation.{Explanation}
 use Rattle.paper.specs.Answers.{Answer, ok, refused, _>>=_}
 use Rattle.paper.specs.Tokens.{bytes, is, mostText}
 use Rattle.paper.specs.Keys.{keys}
-use Rattle.paper.specs.Blocks.{blockSize, mostBlocks, totalOf}
+use Rattle.paper.specs.Entry.{entryOf}
+use Rattle.paper.specs.Blocks.{blockSize, mostBlocks, totalOf, layout}
+use Rattle.paper.specs.Loading.{program, loadCheck, loaded}
 use Rattle.paper.specs.Grammar as G
 use Rattle.paper.specs.Grammar.{Tree, nodes}
-use Rattle.paper.specs.Translating.{conversions}
+use Rattle.paper.specs.Translating.{conversions, joins}
 use Rattle.paper.specs.Calls.{sized, tree, Restriction, restriction, over, lends}
 use Rattle.paper.specs.Explained.{Reason, keyIndex, explanationSays}
-use Rattle.paper.specs.Promised.{TranslateResult, PrintResult, Bytes, Programs, Kept}
+use Rattle.paper.specs.Promised.{verdictIn, judgementOfRun, TranslateResult, PrintResult, Bytes, Programs, Kept}
 use Rattle.paper.specs.Demands.{blocksWritten}
 use Rattle.paper.specs.WrongPrints.{withoutParentheses, withAllParentheses, withAndForSequel, inDecimal, addressesInHex}
 use Rattle.paper.specs.WrongExplainers.{Explainer, Names}
 use Rattle.paper.specs.WrongRecheckers.{Rechecker, Summarizer}
-use Rattle.paper.specs.WrongPrograms.{FirstPartOnly, WantsAllBlocks, CountsRight, Lends, partOf, judging, translating, loading, printing, explaining, summarizing, rechecking, OthersKept, ThereIs, WrongProgramsExist}
+use Rattle.paper.specs.WrongRunners.{Runner, keepingAnswer, LeavesOldBool, heightsFrom, Loader, ComparesHeights}
+use Rattle.paper.specs.WrongPrograms.{FirstPartOnly, WantsAllBlocks, StepsByCode, CountsRight, Lends, partOf, judging, translating, loading, running, printing, explaining, summarizing, rechecking, OthersKept, ThereIs, WrongProgramsExist}
 use Rattle.paper.proofs.Promised.{placeAt, explanationFor, translation-same, can-be-kept}
 use Rattle.paper.proofs.ByteLists.{zero-bytes, all-bytes}
+use Rattle.paper.proofs.LoadedBlocksRun.{load-counts}
+use Rattle.paper.proofs.RunsRight.{ran-right}
 use Rattle.paper.proofs.DemandThree.{demand-three-met}
 use Rattle.paper.proofs.WrongExplainersExist.{wrong-explainers-exist}
 use Rattle.paper.proofs.WrongRecheckersExist.{never-real, always-real, equal-real, unranked-real, readings-real, priority-counted-real, fields-missed-real}
@@ -60,7 +67,7 @@ plain-restricts : restriction (bytes "true") [] ≡ ok plain
 unfolding restriction
 plain-restricts = refl
 
-plain-counts : nodes (plain .root) + conversions (plain .keys) (plain .root) ≡ 1
+plain-counts : nodes (plain .root) + conversions (plain .keys) (plain .root) + joins (plain .root) ≡ 1
 unfolding conversions
 plain-counts = refl
 
@@ -68,16 +75,16 @@ plain-counts = refl
 
 module _ (q : Programs) (kept : Kept q) where
   -- with other calls of document 01, or another printer
-  abbrev with-calls : (List ℕ → List ℕ → List ℕ → Judgement) → (List ℕ → List ℕ → List ℕ → TranslateResult) → (List ℕ → List ℕ → Loading)
+  abbrev with-calls : (List ℕ → List ℕ → List ℕ → Judgement) → (List ℕ → List ℕ → List ℕ → TranslateResult) → Loader → Runner
       → (List ℕ → List ℕ → PrintResult) → Programs
-  with-calls judge translate load print =
+  with-calls judge translate load run print =
       record {
         read = q .read;
         check = q .check;
         judge = judge;
         translate = translate;
         load = load;
-        run = q .run;
+        run = run;
         print = print;
         explain = q .explain;
         summarize = q .summarize;
@@ -102,7 +109,7 @@ module _ (q : Programs) (kept : Kept q) where
 
   -- with another judge
   judges : (List ℕ → List ℕ → List ℕ → Judgement) → Programs
-  judges judge = with-calls judge (q .translate) (q .load) (q .print)
+  judges judge = with-calls judge (q .translate) (q .load) (q .run) (q .print)
 
   others-than-judge : (judge : List ℕ → List ℕ → List ℕ → Judgement) → OthersKept judging (judges judge)
   unfolding judges
@@ -113,7 +120,7 @@ module _ (q : Programs) (kept : Kept q) where
 
   -- with another translator
   translators : (List ℕ → List ℕ → List ℕ → TranslateResult) → Programs
-  translators translate = with-calls (q .judge) translate (q .load) (q .print)
+  translators translate = with-calls (q .judge) translate (q .load) (q .run) (q .print)
 
   others-than-translate : (translate : List ℕ → List ℕ → List ℕ → TranslateResult) → OthersKept translating (translators translate)
   unfolding translators
@@ -124,7 +131,7 @@ module _ (q : Programs) (kept : Kept q) where
 
   -- with another loader
   loaders : (List ℕ → List ℕ → Loading) → Programs
-  loaders load = with-calls (q .judge) (q .translate) load (q .print)
+  loaders load = with-calls (q .judge) (q .translate) load (q .run) (q .print)
 
   others-than-load : (load : List ℕ → List ℕ → Loading) → OthersKept loading (loaders load)
   unfolding loaders
@@ -133,9 +140,20 @@ module _ (q : Programs) (kept : Kept q) where
     (kept .print, kept .explain, kept .summarize, kept .recheck),
   )
 
+  -- with another run
+  runners : Runner → Programs
+  runners run = with-calls (q .judge) (q .translate) (q .load) run (q .print)
+
+  others-than-run : (run : Runner) → OthersKept running (runners run)
+  unfolding runners
+  others-than-run run = (
+    (kept .read, kept .check, kept .judge, kept .translate, kept .load),
+    (kept .print, kept .explain, kept .summarize, kept .recheck),
+  )
+
   -- with another printer
   printers : (List ℕ → List ℕ → PrintResult) → Programs
-  printers print = with-calls (q .judge) (q .translate) (q .load) print
+  printers print = with-calls (q .judge) (q .translate) (q .load) (q .run) print
 
   others-than-print : (print : List ℕ → List ℕ → PrintResult) → OthersKept printing (printers print)
   unfolding printers
@@ -188,11 +206,11 @@ module _ (q : Programs) (kept : Kept q) where
       subst
       (λ (x : List ℕ).
       q .translate x list buffer .answer ≡ T.Written n
-      → q .run list (blocksWritten n (q .translate x list buffer .buffer)) entry ≡ q .judge first list entry)
+      → judgementOfRun (q .run list (blocksWritten n (q .translate x list buffer .buffer)) entry) ≡ q .judge first list entry)
       (sym (part-first first rest whole))
       (λ w. demand-three-met q kept .runs-alike first list buffer f l b n w entry en) e
 
-  -- the one that wants 82 blocks
+  -- the one that wants as many blocks as load
 
   greedy : List ℕ → List ℕ → List ℕ → TranslateResult
   greedy text list buffer =
@@ -246,6 +264,57 @@ module _ (q : Programs) (kept : Kept q) where
   there-is : (made : List ℕ → Tree → List ℕ) → ThereIs (Lends made) printing
   there-is made = (printers (lender made), lender-lends made, others-than-print (lender made))
 
+  -- the one that reports the instructions of the code
+
+  abbrev inSteps : ℕ → Running → Running
+  inSteps n (N.Accepted m) = N.Accepted n
+  inSteps n (N.Violated m) = N.Violated n
+  inSteps n (N.Refused m at) = N.Refused m at
+
+  counter : Runner
+  counter list blocks entry = inSteps (totalOf blocks) (q .run list blocks entry)
+
+  counter-reports : StepsByCode (runners counter)
+  unfolding runners counter
+  counter-reports list blocks entry l s e j = go (q .run list blocks entry) refl
+    where
+      go : (r : Running) → q .run list blocks entry ≡ r → (b : Bool) × (inSteps (totalOf blocks) r ≡ verdictIn b (j .count))
+      go (N.Accepted m) h = (true, ap N.Accepted (sym (load-counts (j .ks) blocks (j .count) (j .loads))))
+      go (N.Violated m) h = (false, ap N.Violated (sym (load-counts (j .ks) blocks (j .count) (j .loads))))
+      go (N.Refused m at) h = absurd (ran-right list blocks entry _ (kept .run list blocks entry l s e) .refuses .0 (m, at, h) j)
+
+-- the one whose skips leave the old bool, by the stages of `run`
+
+abbrev ranFor : Answer Running → Running
+ranFor (ok r) = r
+ranFor (refused n i at) = N.Refused n (placeAt i at)
+
+keeper : Runner
+keeper list blocks entry =
+    ranFor (keys list >>= λ ks. loaded ks blocks >>= λ _. entryOf ks entry >>= λ e. ok (keepingAnswer ks e blocks))
+
+keeper-keeps : LeavesOldBool keeper
+unfolding keeper
+keeper-keeps list blocks entry _ _ _ j = rw (j .listed, j .loads, j .conforms)
+
+-- the one that compares heights, by the stages of `load`
+
+abbrev loadedFor : Answer ℕ → Loading
+loadedFor (ok n) = L.Loaded n
+loadedFor (refused n i at) = L.Refused n (placeAt i at)
+
+leveler : Loader
+leveler list blocks =
+    loadedFor
+    (keys list
+    >>= λ ks. layout (length ks) blocks
+    >>= λ _. loadCheck (length blocks) (heightsFrom ks 0 (program blocks) [])
+    >>= λ _. ok (totalOf blocks))
+
+leveler-compares : ComparesHeights leveler
+unfolding leveler
+leveler-compares list blocks _ _ ks listed laid high = (totalOf blocks, rw (listed, laid, high))
+
 -- the wrong explainers, each in the words of the enum
 
 abbrev worded : Explainer → List ℕ → List ℕ → List ℕ → Explanation
@@ -255,7 +324,7 @@ names-worded : (n : ℕ) (r : Reason) → Names n r → Names n (explanationSays
 names-worded n r (place, s, e) = (place, s, ap (λ (x : Reason). explanationSays (explanationFor x)) e)
 
 pub wrong-programs-exist : WrongProgramsExist
-unfolding judges translators loaders explainers summarizers recheckers
+unfolding judges translators loaders runners explainers summarizers recheckers
 wrong-programs-exist =
     let (q, kept) = can-be-kept in
     let refuses : List ℕ → List ℕ → List ℕ → Judgement = λ text list entry. J.Refused 20 (P.Entry 0) in
@@ -313,4 +382,7 @@ wrong-programs-exist =
       comparing-readings = let (x, compares) = readings-real in (recheckers q kept x, compares, others-than-recheck q kept x);
       counting-priority = let (x, counts) = priority-counted-real in (summarizers q kept x, counts, others-than-summarize q kept x);
       missing-fields = let (x, misses) = fields-missed-real in (summarizers q kept x, misses, others-than-summarize q kept x);
+      steps-by-code = (runners q kept (counter q kept), counter-reports q kept, others-than-run q kept (counter q kept));
+      keeping-bool = (runners q kept keeper, keeper-keeps, others-than-run q kept keeper);
+      landing-by-height = (loaders q kept leveler, leveler-compares, others-than-load q kept leveler);
     }

@@ -11,6 +11,7 @@ use Rattle.paper.specs.declared.Checking.the-variants as C
 use Rattle.paper.specs.declared.Judgement.the-variants as J
 use Rattle.paper.specs.declared.Translation.the-variants as T
 use Rattle.paper.specs.declared.Loading.the-variants as L
+use Rattle.paper.specs.declared.Running.the-variants as N
 use Rattle.paper.specs.declared.Explanation.the-variants as X
 use Rattle.paper.specs.declared.Summarizing.the-variants as S
 use Rattle.paper.specs.declared.Rechecking.the-variants as K
@@ -18,7 +19,7 @@ use Rattle.paper.specs.Answers.{refused, inText, inList, inEntry, inBloc
 use Rattle.paper.specs.Numbers.{bigEndian}
 use Rattle.paper.specs.Tokens.{bytes}
 use Rattle.paper.specs.Calls.{readAnswer, checkAnswer, judgeAnswer, translateAnswer, loadAnswer, runAnswer}
-use Rattle.paper.specs.Promised.{ReadPromised, CheckPromised, JudgePromised, TranslatePromised, LoadPromised, RunPromised, ExplainPromised, SummarizePromised, RecheckPromised}
+use Rattle.paper.specs.Promised.{ReadPromised, CheckPromised, JudgePromised, TranslatePromised, LoadPromised, RunPromised, ExplainPromised, SummarizePromised, RecheckPromised, verdictIn, judgementOfRun}
 use Rattle.paper.specs.Pieces.{ExplainedPromised}
 use Rattle.paper.specs.MarkedJudgements.{theKeys, theEntry}
 use Rattle.paper.specs.CaseFour.{theBlock}
@@ -51,7 +52,7 @@ brokenEntry = bigEndian 4 (2 ^ 31) ++ replicate 180 0
 abbrev pub badRecord : List ℕ
 badRecord = entryWith 10 1 444 15
 
--- a block whose one instruction is 13, laid out well; the same with a check that is wrong; and one that says false
+-- a block whose one instruction is a skip over nothing, laid out well; the same with a check that is wrong; and one that says false
 abbrev pub badCode : List ℕ
 badCode = blockWith (0xCD ∷ 0x10 ∷ 0x0D ∷ 0x07 ∷ []) 0 1 (alone (row 13 0 0)) 1 5
 
@@ -85,11 +86,11 @@ pub record Answers : Type 0 where
   pub loads : LoadPromised theKeys falseBlock (L.Loaded 1)
   pub load-refuses-list : LoadPromised repeatingList theBlock (L.Refused 4 (P.List 80))
   pub load-refuses-blocks : LoadPromised theKeys badCode (L.Refused 18 (P.Blocks 4))
-  pub runs-to-accepted : RunPromised theKeys theBlock theEntry J.Accepted
-  pub runs-to-violated : RunPromised theKeys falseBlock theEntry J.Violated
-  pub run-refuses-list : RunPromised repeatingList theBlock theEntry (J.Refused 4 (P.List 80))
-  pub run-refuses-blocks : RunPromised theKeys badCode theEntry (J.Refused 18 (P.Blocks 4))
-  pub run-refuses-entry : RunPromised theKeys theBlock shortEntry (J.Refused 19 (P.Entry 183))
+  pub runs-to-accepted : RunPromised theKeys theBlock theEntry (N.Accepted 4)
+  pub runs-to-violated : RunPromised theKeys falseBlock theEntry (N.Violated 1)
+  pub run-refuses-list : RunPromised repeatingList theBlock theEntry (N.Refused 4 (P.List 80))
+  pub run-refuses-blocks : RunPromised theKeys badCode theEntry (N.Refused 18 (P.Blocks 4))
+  pub run-refuses-entry : RunPromised theKeys theBlock shortEntry (N.Refused 19 (P.Entry 183))
   pub explains-part : ExplainPromised (bytes "v == 1; (r::low > 0; false)") theKeys theEntry (X.Part 2 19 8 27)
   pub explains-key : ExplainPromised (bytes "true") theKeys badRecord (X.Key 112 256 257)
   pub explains-accepted : ExplainPromised (bytes "v == 1") theKeys theEntry (X.Nothing J.Accepted)
@@ -109,6 +110,14 @@ pub record Answers : Type 0 where
   pub recheck-refuses-text : RecheckPromised (bytes "d > 3") theKeys theEntry J.Accepted theEntry (K.Judged (J.Refused 13 (P.Text 2)))
   pub recheck-refuses-list : RecheckPromised (bytes "true") repeatingList theEntry J.Accepted theEntry (K.Judged (J.Refused 4 (P.List 80)))
   pub recheck-refuses-entry : RecheckPromised (bytes "true") theKeys theEntry J.Accepted shortEntry (K.Judged (J.Refused 19 (P.Entry 183)))
+
+-- 02 g: the verdict of a run with its steps, and the judgement that a run comes to, its steps aside
+pub record RunAnswers : Type 0 where
+  pub in-steps : RunPromised theKeys theBlock theEntry (verdictIn true 4)
+  pub violated-in-steps : RunPromised theKeys falseBlock theEntry (verdictIn false 1)
+  pub accepted : JudgePromised (bytes "v == 1") theKeys theEntry (judgementOfRun (N.Accepted 4))
+  pub violated : JudgePromised (bytes "v == 0") theKeys theEntry (judgementOfRun (N.Violated 4))
+  pub refused : JudgePromised (bytes "true") theKeys shortEntry (judgementOfRun (N.Refused 19 (P.Entry 183)))
 
 -- 02 c: "handed back as the piece itself": the text lies in block 7 from its byte 100 on, and the list in block 9 from its byte 1000 on
 
@@ -152,5 +161,6 @@ pub record InOrder : Type 0 where
 
 pub record AnswerExamples : Type 0 where
   pub answers : Answers
+  pub of-runs : RunAnswers
   pub pieces : PieceAnswers
   pub in-order : InOrder

@@ -14,6 +14,8 @@ use Rattle.paper.specs.declared.Translation.{Translation}
 use Rattle.paper.specs.declared.Translation.the-variants as T
 use Rattle.paper.specs.declared.Loading.{Loading}
 use Rattle.paper.specs.declared.Loading.the-variants as L
+use Rattle.paper.specs.declared.Running.{Running}
+use Rattle.paper.specs.declared.Running.the-variants as N
 use Rattle.paper.specs.declared.Printing.{Printing}
 use Rattle.paper.specs.declared.Printing.the-variants as W
 use Rattle.paper.specs.declared.Counted.{Counted}
@@ -78,6 +80,16 @@ translationSays (T.Refused n p) = refused n (inputOf p) (offsetOf p)
 abbrev pub loadingSays : Loading → Answer ℕ
 loadingSays (L.Loaded n) = ok n
 loadingSays (L.Refused n p) = refused n (inputOf p) (offsetOf p)
+
+-- 02 g: whether the entry is accepted, and "the steps taken"
+pub record Ran : Type 0 where
+  pub accepted : Bool
+  pub steps : ℕ
+
+abbrev pub runningSays : Running → Answer Ran
+runningSays (N.Accepted steps) = ok (record { accepted = true; steps = steps })
+runningSays (N.Violated steps) = ok (record { accepted = false; steps = steps })
+runningSays (N.Refused n p) = refused n (inputOf p) (offsetOf p)
 
 abbrev pub printingSays : Printing → Answer ℕ
 printingSays (W.Printed n) = ok n

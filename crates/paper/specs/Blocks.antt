@@ -19,8 +19,9 @@ blockSize = 512
 abbrev pub inBlock : ℕ
 inBlock = 25
 
+-- 02 g: "the limit becomes 123 blocks in number 16"
 abbrev pub mostBlocks : ℕ
-mostBlocks = 82
+mostBlocks = 123
 
 -- "The check runs over the 254 big-endian 16-bit words before it: two sums from 0, the first adds each word, the second adds the
 -- first sum, both modulo 65,535."
@@ -111,7 +112,7 @@ blockOk keys blocks k =
 abbrev pub blockTest : ℕ → List ℕ → ℕ → Answer (Unit {0})
 blockTest keys blocks k = require (blockOk keys blocks k) 17 inBlocks (k * blockSize)
 
--- 16: "blocks: length 0, no multiple of 512, or over 82 blocks"; then 17
+-- 16: "blocks: length 0, no multiple of 512, or over 82 blocks", 123 since 02 g; then 17
 unfoldable pub layout : ℕ → List ℕ → Answer (Unit {0})
 unfolding sumsOf
 layout keys blocks =

@@ -5,7 +5,7 @@ use mathlib.Core.Bool.{Bool, _&&_}
 use mathlib.Core.List.{List, _++_}
 use lib.ListN.{length, drop}
 use lib.Dec.{leb}
-use Rattle.paper.specs.Answers.{Answer, ok, refused, _>>=_, require, inText, inBuffer}
+use Rattle.paper.specs.Answers.{Answer, ok, refused, _>>=_, require, Ran, inText, inBuffer}
 use Rattle.paper.specs.Tokens.{tokens, mostText}
 use Rattle.paper.specs.Keys.{Key, keys}
 use Rattle.paper.specs.Entry.{Entry, entryOf}
@@ -13,7 +13,7 @@ use Rattle.paper.specs.Grammar.{Tree, nodes, parsed}
 use Rattle.paper.specs.Types.{typed}
 use Rattle.paper.specs.Meaning.{valueOf, isTrue}
 use Rattle.paper.specs.Blocks.{blockSize, blocksNeeded, blocksOf}
-use Rattle.paper.specs.Loading.{program, loaded, valuesAlong, leftTrue}
+use Rattle.paper.specs.Loading.{program, loaded, Run, runAlong, leftTrue, stepsTaken}
 use Rattle.paper.specs.Translating.{codeOf}
 use Rattle.paper.specs.Print.{print}
 
@@ -90,13 +90,17 @@ unfoldable pub loadAnswer : List ℕ → List ℕ → Answer ℕ
 unfolding keys loaded
 loadAnswer list blocks = keys list >>= λ ks. loaded ks blocks
 
-unfoldable pub runAnswer : List ℕ → List ℕ → List ℕ → Answer Bool
-unfolding keys loaded entryOf valuesAlong
+-- what a run comes to
+abbrev pub ranTo : Run → Ran
+ranTo r = record { accepted = leftTrue r; steps = stepsTaken r }
+
+unfoldable pub runAnswer : List ℕ → List ℕ → List ℕ → Answer Ran
+unfolding keys loaded entryOf runAlong
 runAnswer list blocks entry =
     keys list
     >>= λ ks. loaded ks blocks
     >>= λ _. entryOf ks entry
-    >>= λ e. ok (leftTrue (valuesAlong ks e (program blocks)))
+    >>= λ e. ok (ranTo (runAlong ks e (program blocks)))
 
 -- 02 a: "A print over 4,096 bytes, or over the lent buffer, is refused with number 21, placed in the buffer at its length here and
 -- in every later request."

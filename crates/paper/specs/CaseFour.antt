@@ -25,4 +25,4 @@ pub record CaseFour : Type 0 where
   pub written : translateAnswer (bytes "v == 1") theKeys (replicate 514 0xAA) ≡ ok 4
   pub block : translateBuffer (bytes "v == 1") theKeys (replicate 514 0xAA) ≡ theBlock ++ (0xAA ∷ 0xAA ∷ [])
   pub loads : loadAnswer theKeys theBlock ≡ ok 4
-  pub runs : runAnswer theKeys theBlock theEntry ≡ ok true
+  pub runs : runAnswer theKeys theBlock theEntry ≡ ok (record { accepted = true; steps = 4 })

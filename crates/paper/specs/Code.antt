@@ -1,7 +1,7 @@
--- 01, "Blocks", the instructions: their bytes, their types and their meaning.
+-- 01, "Blocks", the instructions: their bytes, their types and their meaning. With 02 g, operation 13.
 -- "Instructions are 20 bytes: operation, detail byte, two-byte operand, 16-byte constant; unused parts zero."
-use Prim.Native.Nat.{ℕ, _+_, _-_}
-use mathlib.Core.Bool.{Bool, true, false, cond, _&&_}
+use Prim.Native.Nat.{ℕ, _+_, _-_, _*_, _^_}
+use mathlib.Core.Bool.{Bool, true, false, cond, _&&_, Bool·beq}
 use mathlib.Core.Option.{Option, none, some}
 use mathlib.Core.List.{List, [], _∷_, _++_}
 use lib.ListN.{length, getElem?}
@@ -12,7 +12,14 @@ use Rattle.paper.specs.Tokens.{Comparison, equal, unequal, greater, atLe
 use Rattle.paper.specs.Keys.{Kind, kindNo, kindOf, Key}
 use Rattle.paper.specs.Entry.{Entry}
 use Rattle.paper.specs.Types.{Ty, bool, int, of, when, andThen, takes, Field, value, mask, prefixLength, low, high, bareType, fieldType, notType, negateType, joinType, compareType}
-use Rattle.paper.specs.Meaning.{Value, truth, whole, bareValue, fieldValue, notValue, negateValue, Connective, both, either, ifThen, joinValue, compareValue, convertValue}
+use Rattle.paper.specs.Meaning.{Value, truth, whole, matched, bareValue, fieldValue, notValue, negateValue, Connective, both, either, ifThen, joinValue, compareValue, convertValue}
+
+-- 02 g, "operation 13: if the top bool equals the detail byte (0 or 1), replace it by the bool in the constant's first byte (0 or 1)
+-- and pass over as many instructions as the operand says"
+pub record Skip : Type 0 where
+  pub on : Bool
+  pub to : Bool
+  pub over : ℕ
 
 -- "Operations: 1 push bool (operand 0 or 1), 2 push int (constant), 3 push bare key (operand: index), 4 push field (operand:
 -- index; detail 0 value, 1 mask, 2 prefix_length, 3 low, 4 high), 5 push priority, 6 not, 7 negate, 8 convert the top (detail: 0
@@ -27,6 +34,7 @@ pub data Instruction : Type 0 where
   convert : Kind → ℕ → Instruction
   compare : Comparison → Instruction
   connects : Connective → Instruction
+  skip : Skip → Instruction
 
 abbrev pub fieldNo : Field → ℕ
 fieldNo value = 0
@@ -71,6 +79,10 @@ abbrev pub bit : Bool → ℕ
 bit false = 0
 bit true = 1
 
+-- the first of a constant's 16 bytes, where it is 1
+abbrev pub firstByte : ℕ
+firstByte = 2 ^ 120
+
 abbrev pub partsOf : Instruction → Parts
 partsOf (pushBool b) = record { operation = 1; detail = 0; operand = bit b; constant = 0 }
 partsOf (pushInt n) = record { operation = 2; detail = 0; operand = 0; constant = n }
@@ -84,6 +96,7 @@ partsOf (compare c) = record { operation = 9; detail = comparisonNo c; operand =
 partsOf (connects both) = record { operation = 10; detail = 0; operand = 0; constant = 0 }
 partsOf (connects either) = record { operation = 11; detail = 0; operand = 0; constant = 0 }
 partsOf (connects ifThen) = record { operation = 12; detail = 0; operand = 0; constant = 0 }
+partsOf (skip s) = record { operation = 13; detail = bit (s .on); operand = s .over; constant = bit (s .to) * firstByte }
 
 abbrev pub instructionSize : ℕ
 instructionSize = 20
@@ -97,7 +110,7 @@ abbrev pub partsAt : List ℕ → ℕ → Parts
 partsAt s at =
     record { operation = byteAt s at; detail = byteAt s (at + 1); operand = numberAt s (at + 2) 2; constant = numberAt s (at + 4) 16 }
 
--- the instruction that a number of 01's list names, with the detail, the operand and the constant beside it. (Number 0 comes out as
+-- the instruction that a number of the list names, with the detail, the operand and the constant beside it. (Number 0 comes out as
 -- the first; it is no operation, since no instruction is spelled with it.)
 abbrev pub instructionNamed : Parts → Option Instruction
 instructionNamed p =
@@ -114,6 +127,7 @@ instructionNamed p =
     ∷ connects both
     ∷ connects either
     ∷ connects ifThen
+    ∷ skip (record { on = eqb (p .detail) 1; to = eqb (p .constant) firstByte; over = p .operand })
     ∷ [])
     (p .operation - 1)
 
@@ -125,21 +139,23 @@ sameParts p q =
     && eqb (p .operand) (q .operand)
     && eqb (p .constant) (q .constant)
 
--- "instruction fields in range": "operand W, 1 to 128". The other ranges are those of what the numbers name.
-abbrev pub inRange : Instruction → Bool
-inRange (pushBool b) = true
-inRange (pushInt n) = true
-inRange (pushKey k) = true
-inRange (pushField f k) = true
-inRange pushPriority = true
-inRange invert = true
-inRange negate = true
-inRange (convert k w) = leb 1 w && leb w 128
-inRange (compare c) = true
-inRange (connects o) = true
+-- "instruction fields in range": "operand W, 1 to 128"; of a skip "at least one, landing inside the code or exactly at its end", where so
+-- many instructions are left after it. The other ranges are those of what the numbers name.
+abbrev pub inRange : ℕ → Instruction → Bool
+inRange left (pushBool b) = true
+inRange left (pushInt n) = true
+inRange left (pushKey k) = true
+inRange left (pushField f k) = true
+inRange left pushPriority = true
+inRange left invert = true
+inRange left negate = true
+inRange left (convert k w) = leb 1 w && leb w 128
+inRange left (compare c) = true
+inRange left (connects o) = true
+inRange left (skip s) = leb 1 (s .over) && leb (s .over) left
 
-abbrev pub decode : Parts → Option Instruction
-decode p = andThen (instructionNamed p) (λ i. when (inRange i && sameParts p (partsOf i)) i)
+abbrev pub decode : ℕ → Parts → Option Instruction
+decode left p = andThen (instructionNamed p) (λ i. when (inRange left i && sameParts p (partsOf i)) i)
 
 -- One machine, which holds types in the load check and values in the run. "Running starts with nothing held; each instruction
 -- takes its operands off the top, the right one uppermost, and leaves what "Types and meaning" gives." The load check asks for
@@ -167,7 +183,7 @@ act (takesTwo f) [] = none
 act (takesTwo f) (b ∷ []) = none
 act (takesTwo f) (b ∷ a ∷ held) = put (f a b) held
 
--- the whole sequence, each instruction once: the index of the one that fails, or what is held at the end
+-- a sequence of which nothing is passed over: the index of the one that fails, or what is held at the end
 pub data Walk (A : Type 0) : Type 0 where
   fails : ℕ → Walk A
   ends : List A → Walk A
@@ -191,6 +207,13 @@ typeAction ks negate = takesOne negateType
 typeAction ks (convert k w) = takesOne (λ a. when (takes (of k w) a) (of k w))
 typeAction ks (compare c) = takesTwo (compareType c)
 typeAction ks (connects o) = takesTwo joinType
+typeAction ks (skip s) = takesOne notType
+
+-- what a skip leaves of the top bool
+abbrev pub skipValue : Skip → Value → Option Value
+skipValue s (truth b) = some (truth (cond (Bool·beq b (s .on)) (s .to) b))
+skipValue s (whole z) = none
+skipValue s (matched k w m) = none
 
 abbrev pub valueAction : List Key → Entry → Instruction → Action Value
 valueAction ks e (pushBool b) = leaves (some (truth b))
@@ -203,8 +226,24 @@ valueAction ks e negate = takesOne negateValue
 valueAction ks e (convert k w) = takesOne (convertValue k w)
 valueAction ks e (compare c) = takesTwo (compareValue c)
 valueAction ks e (connects o) = takesTwo (joinValue o)
+valueAction ks e (skip s) = takesOne (skipValue s)
 
 -- an instruction that could not be read fails
 abbrev pub actionOf : {A : Type 0} → (Instruction → Action A) → Option Instruction → Action A
 actionOf f none = leaves none
 actionOf f (some i) = f i
+
+-- the skip that an instruction is
+abbrev pub skipOf : Option Instruction → Option Skip
+skipOf none = none
+skipOf (some (pushBool b)) = none
+skipOf (some (pushInt n)) = none
+skipOf (some (pushKey k)) = none
+skipOf (some (pushField f k)) = none
+skipOf (some pushPriority) = none
+skipOf (some invert) = none
+skipOf (some negate) = none
+skipOf (some (convert k w)) = none
+skipOf (some (compare c)) = none
+skipOf (some (connects o)) = none
+skipOf (some (skip s)) = some s

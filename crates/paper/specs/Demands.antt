@@ -6,7 +6,7 @@
 --    exactly as the documents say; otherwise accepted exactly when the restriction holds."
 -- 3. "For every text and list that pass, the blocks written load with that list, and running them gives demand 2's answer. Any other
 --    blocks that load, whoever made them, run on every conforming entry to accepted or violated, each instruction once, never missing an
---    operand, never holding more than 384 values."
+--    operand, never holding more than 384 values." With 02 g: "In demand 3 "each once" becomes "each at most once"."
 use Prim.Native.Nat.{ℕ, _+_, _*_, _≤_, _<_}
 use mathlib.Core.Path.{_≡_}
 use mathlib.Core.Logic.{_↔_}
@@ -25,13 +25,15 @@ use Rattle.paper.specs.declared.Judgement.the-variants as J
 use Rattle.paper.specs.declared.Translation.the-variants as T
 use Rattle.paper.specs.declared.Loading.{Loading}
 use Rattle.paper.specs.declared.Loading.the-variants as L
+use Rattle.paper.specs.declared.Running.{Running}
+use Rattle.paper.specs.declared.Running.the-variants as N
 use Rattle.paper.specs.declared.Printing.the-variants as W
 use Rattle.paper.specs.declared.Explanation.{Explanation}
 use Rattle.paper.specs.declared.Summarizing.{Summarizing}
 use Rattle.paper.specs.declared.Summarizing.the-variants as S
 use Rattle.paper.specs.declared.Rechecking.{Rechecking}
 use Rattle.paper.specs.declared.Rechecking.the-variants as K
-use Rattle.paper.specs.Answers.{Input, inText, inList, inEntry, inBlocks, inBuffer, Answer, ok, refused, readingSays, checkingSays, judgementSays, translationSays, loadingSays, printingSays}
+use Rattle.paper.specs.Answers.{Input, inText, inList, inEntry, inBlocks, inBuffer, Answer, ok, refused, readingSays, checkingSays, judgementSays, translationSays, loadingSays, runningSays, printingSays}
 use Rattle.paper.specs.Tokens.{Token, mostText}
 use Rattle.paper.specs.Keys.{Key, keys}
 use Rattle.paper.specs.Entry.{Entry, entryOf}
@@ -39,10 +41,9 @@ use Rattle.paper.specs.Grammar.{Tree, nodes}
 use Rattle.paper.specs.Sentences.{Valid}
 use Rattle.paper.specs.Types.{bool, typeOf}
 use Rattle.paper.specs.Meaning.{truth, valueOf}
-use Rattle.paper.specs.Blocks.{blockSize, inBlock, mostBlocks, blocksNeeded}
-use Rattle.paper.specs.Code.{ends}
-use Rattle.paper.specs.Loading.{program, loaded, valuesAlong}
-use Rattle.paper.specs.Translating.{conversions}
+use Rattle.paper.specs.Blocks.{blockSize, blocksNeeded}
+use Rattle.paper.specs.Loading.{program, loaded, done, runAlong, Step}
+use Rattle.paper.specs.Translating.{conversions, joins, stepsOf}
 use Rattle.paper.specs.Print.{print}
 use Rattle.paper.specs.Calls.{over}
 use Rattle.paper.specs.Explained.{explanationSays}
@@ -51,9 +52,10 @@ use Rattle.paper.specs.Named.{summarizingSays}
 use Rattle.paper.specs.Rechecking.{recheckingSays}
 use Rattle.paper.specs.RecheckedRight.{Summarizes, Rechecks}
 use Rattle.paper.specs.LoadedBlocksRun.{Runs}
+use Rattle.paper.specs.CodeCorrect.{mostTranslated}
 use Rattle.paper.specs.Faults.{Cuts}
 use Rattle.paper.specs.Table.{lastNumber, Stage, Clear, ByTable, readStages, checkStages, judgeStages, translateStages, loadStages, runStages, printStages}
-use Rattle.paper.specs.Promised.{JudgePromised, verdict, TranslateResult, PrintResult, Bytes, Programs, Kept}
+use Rattle.paper.specs.Promised.{JudgePromised, verdictIn, judgementOfRun, TranslateResult, PrintResult, Bytes, Programs, Kept}
 
 -- Demand 1. An answer is one of the enum's cases. It is a refusal exactly as the table of 01 says, with that number at that place, and
 -- passes exactly when no stage of the call has a fault. The number is one of the table's, and the place lies in an input that was lent, or
@@ -107,9 +109,9 @@ pub record TranslateAnswered (text list buffer : List ℕ) (r : TranslateResult)
 abbrev pub LoadAnswered : List ℕ → List ℕ → Loading → Type 0
 LoadAnswered list blocks r = Answered (lent inList list ∷ lent inBlocks blocks ∷ []) (loadStages list blocks) (loadingSays r)
 
-abbrev pub RunAnswered : List ℕ → List ℕ → List ℕ → Judgement → Type 0
+abbrev pub RunAnswered : List ℕ → List ℕ → List ℕ → Running → Type 0
 RunAnswered list blocks entry r =
-    Answered (lent inList list ∷ lent inBlocks blocks ∷ lent inEntry entry ∷ []) (runStages list blocks entry) (judgementSays r)
+    Answered (lent inList list ∷ lent inBlocks blocks ∷ lent inEntry entry ∷ []) (runStages list blocks entry) (runningSays r)
 
 pub record PrintAnswered (text buffer : List ℕ) (r : PrintResult) : Type 0 where
   pub says : Answered (lent inText text ∷ lent inBuffer buffer ∷ []) (printStages text buffer) (printingSays (r .answer))
@@ -190,10 +192,10 @@ pub record JudgedRight (text list entry : List ℕ) (r : Judgement) : Type 0 whe
   pub violates : (j : Judgeable text list entry)
       → (r ≡ J.Violated) ↔ (valueOf (j .passes .ks) (j .on) (j .passes .root) ≡ some (truth false))
 
--- n instructions, as 01 counts them, for a buffer that their blocks fit in
+-- n instructions, as 01 and 02 g count them, for a buffer that their blocks fit in
 pub record Translatable (text list buffer : List ℕ) (n : ℕ) : Type 0 where
   pub passes : Checkable text list
-  pub count : n ≡ nodes (passes .root) + conversions (passes .ks) (passes .root)
+  pub count : n ≡ nodes (passes .root) + conversions (passes .ks) (passes .root) + joins (passes .root)
   pub room : blockSize * blocksNeeded n ≤ length buffer
 
 abbrev pub TranslatedRight : List ℕ → List ℕ → List ℕ → TranslateResult → Type 0
@@ -212,13 +214,17 @@ pub record PrintedRight (text buffer : List ℕ) (r : PrintResult) : Type 0 wher
   pub prints : (n : ℕ) → (r .answer ≡ W.Printed n) ↔ Printable text buffer n
   pub written : (n : ℕ) (p : Printable text buffer n) → r .buffer ≡ over (print (p .root)) buffer
 
--- "The entry is accepted exactly when the bool left at the end is true, else violated; this holds for all blocks that load"
-pub record RanRight (list blocks entry : List ℕ) (r : Judgement) : Type 0 where
-  pub refuses : Refuses r ↔ ¬ Runnable list blocks entry
-  pub accepts : (j : Runnable list blocks entry)
-      → (r ≡ J.Accepted) ↔ (valuesAlong (j .ks) (j .on) (program blocks) ≡ ends (truth true ∷ []))
-  pub violates : (j : Runnable list blocks entry)
-      → (r ≡ J.Violated) ↔ (valuesAlong (j .ks) (j .on) (program blocks) ≡ ends (truth false ∷ []))
+-- a run of blocks leaves one bool, in so many steps
+abbrev pub LeavesIn : (list blocks entry : List ℕ) → Runnable list blocks entry → Bool → ℕ → Type 0
+LeavesIn list blocks entry j b n =
+    (path : List Step) × (runAlong (j .ks) (j .on) (program blocks) ≡ done path (truth b ∷ [])) × (length path ≡ n)
+
+-- "The entry is accepted exactly when the bool left at the end is true, else violated; this holds for all blocks that load"; "Running
+-- reports the steps taken"
+pub record RanRight (list blocks entry : List ℕ) (r : Running) : Type 0 where
+  pub refuses : ((n : ℕ) × (at : Place) × (r ≡ N.Refused n at)) ↔ ¬ Runnable list blocks entry
+  pub accepts : (j : Runnable list blocks entry) (n : ℕ) → (r ≡ N.Accepted n) ↔ LeavesIn list blocks entry j true n
+  pub violates : (j : Runnable list blocks entry) (n : ℕ) → (r ≡ N.Violated n) ↔ LeavesIn list blocks entry j false n
 
 -- "For a violated entry, name the first false part .."
 abbrev pub ExplainRight : List ℕ → List ℕ → List ℕ → Explanation → Type 0
@@ -257,12 +263,12 @@ pub record DemandTwo (p : Programs) : Type 0 where
 
 -- Demand 3. A text and a list that pass have a number of instructions, and are translated with it into every buffer that has room for
 -- its blocks; every other buffer is refused, 15 at its length. The blocks written load with that list, with the number returned, and
--- running them on any entry gives what judging the text gives, refusals included; the buffer's later bytes stay. And all blocks that
--- load, whoever made them, run on every conforming entry to accepted or violated, as `Runs` says.
+-- running them on any entry gives what judging the text gives, refusals included, in the steps that are counted over its tree; the buffer's
+-- later bytes stay. And all blocks that load, whoever made them, run on every conforming entry to accepted or violated, as `Runs` says.
 
 pub record Translates (p : Programs) (text list : List ℕ) : Type 0 where
   pub count : ℕ
-  pub few : count ≤ mostBlocks * inBlock
+  pub few : count ≤ mostTranslated
   pub enough : (buffer : List ℕ) → Bytes buffer → blockSize * blocksNeeded count ≤ length buffer
       → p .translate text list buffer .answer ≡ T.Written count
   pub short : (buffer : List ℕ) → Bytes buffer → length buffer < blockSize * blocksNeeded count
@@ -279,7 +285,7 @@ pub record Carried (buffer exit : List ℕ) (n : ℕ) (loaded : Loading) : Type 
 
 pub record Judged (p : Programs) (list blocks entry : List ℕ) (ks : List Key) (e : Entry) (n : ℕ) : Type 0 where
   pub goes : Runs ks e blocks n
-  pub answer : p .run list blocks entry ≡ verdict (goes .bit)
+  pub answer : p .run list blocks entry ≡ verdictIn (goes .bit) (length (goes .path))
 
 pub record DemandThree (p : Programs) : Type 0 where
   pub translates : (text list : List ℕ) → Bytes text → Bytes list → p .check text list ≡ C.Passed → Translates p text list
@@ -289,7 +295,11 @@ pub record DemandThree (p : Programs) : Type 0 where
       → Carried buffer (p .translate text list buffer .buffer) n (p .load list (blocksWritten n (p .translate text list buffer .buffer)))
   pub runs-alike : (text list buffer : List ℕ) → Bytes text → Bytes list → Bytes buffer → (n : ℕ)
       → p .translate text list buffer .answer ≡ T.Written n → (entry : List ℕ) → Bytes entry
-      → p .run list (blocksWritten n (p .translate text list buffer .buffer)) entry ≡ p .judge text list entry
+      → judgementOfRun (p .run list (blocksWritten n (p .translate text list buffer .buffer)) entry) ≡ p .judge text list entry
+  pub steps-counted : (text list buffer : List ℕ) → Bytes text → Bytes list → Bytes buffer → (n : ℕ)
+      → p .translate text list buffer .answer ≡ T.Written n → (entry : List ℕ) → Bytes entry → (j : Judgeable text list entry) → (b : Bool) (m : ℕ)
+      → p .run list (blocksWritten n (p .translate text list buffer .buffer)) entry ≡ verdictIn b m
+      → m ≡ stepsOf (j .passes .ks) (j .on) (j .passes .root)
   pub runs : (list blocks : List ℕ) → Bytes list → Bytes blocks → (n : ℕ) → p .load list blocks ≡ L.Loaded n
       → (ks : List Key) → keys list ≡ ok ks → (entry : List ℕ) → Bytes entry → (e : Entry) → entryOf ks entry ≡ ok e
       → Judged p list blocks entry ks e n

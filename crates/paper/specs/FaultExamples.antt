@@ -15,7 +15,7 @@ use Rattle.paper.specs.Calls.{Restriction}
 use Rattle.paper.specs.Faults.{Faults, TextSize, ListSize, ListRecords, TextTokens, TreeTypes, RootType, BufferSize, BlocksSize, BlocksLayout, BlocksCode, EntrySize, EntryRules, LendingSize}
 use Rattle.paper.specs.Table.{Sooner, Wins, Stage, stage, Decided, Clear, readStages, checkStages, judgeStages, translateStages, loadStages, runStages, printStages}
 use Rattle.paper.specs.KeyExamples.{aKey}
-use Rattle.paper.specs.BlockExamples.{row, block, alone, firstBlock, lastBlock}
+use Rattle.paper.specs.BlockExamples.{row, block, alone, pushTrue, conjoin, firstBlock, lastBlock}
 use Rattle.paper.specs.AnswerExamples.{longText, shortList, repeatingList}
 use Rattle.paper.specs.Entry.{matchRecord}
 
@@ -60,6 +60,10 @@ pub record Rows : Type 0 where
   pub row-16-uneven : BlocksSize (replicate 511 0) 16 511
   pub row-17 : BlocksLayout 0 (firstBlock ++ set lastBlock 511 0xAA) 17 512
   pub row-18 : BlocksCode [] (block 0 1 (alone (row 6 0 0)) 1 0) 18 4
+  -- a skip that stands on one bool, and two are held where it lands, at the end or before it; one that stands on two, and one is held there
+  pub row-18-over-a-push : BlocksCode [] (block 0 3 (pushTrue ++ row 13 0 1 ++ pushTrue ++ replicate 440 0) 3 0) 18 24
+  pub row-18-before-the-end : BlocksCode [] (block 0 4 (pushTrue ++ row 13 0 1 ++ pushTrue ++ conjoin ++ replicate 420 0) 4 0) 18 24
+  pub row-18-over-a-join : BlocksCode [] (block 0 4 (pushTrue ++ pushTrue ++ row 13 0 1 ++ conjoin ++ replicate 420 0) 4 0) 18 44
   pub row-18-at-the-end : BlocksCode [] (block 0 1 (alone (row 5 0 0)) 1 0) 18 512
   pub row-19 : EntrySize e (bigEndian 3 0) 19 3
   pub row-20-priority : EntryRules e (bigEndian 4 (2 ^ 31)) 20 0

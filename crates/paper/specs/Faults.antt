@@ -5,7 +5,7 @@ use mathlib.Core.Logic.{_≢_}
 use mathlib.Core.Bool.{false}
 use mathlib.Core.Option.{Option, none, some}
 use mathlib.Core.List.{List, [], _∷_, _++_}
-use lib.ListN.{length, drop, getElem?}
+use lib.ListN.{length, take, drop, getElem?}
 use Rattle.paper.specs.Answers.{ok}
 use Rattle.paper.specs.Numbers.{byteAt}
 use Rattle.paper.specs.Tokens.{bytes, Prefix, Join, Comparison, Tok, Token, Scan, blank, token, noToken, tooLarge, scan, mostTokens, mostText}
@@ -14,11 +14,12 @@ use Rattle.paper.specs.Entry.{headSize, matchSize, matchAt, matchOk, pri
 use Rattle.paper.specs.Grammar.{Tree, key, field, attribute, prefixed, joined, compared, placeOf}
 use Rattle.paper.specs.Sentences.{Stops, placeFrom}
 use Rattle.paper.specs.Types.{Ty, bool, andThen, fieldNamed, fieldType, prefixType, joinType, comparisonType, typeOf}
-use Rattle.paper.specs.Code.{Instruction, act, ends, typeAction, actionOf}
+use Rattle.paper.specs.Code.{Skip, Instruction, skip, act, ends, typeAction, actionOf}
 use Rattle.paper.specs.Blocks.{blockSize, mostBlocks, blocksNeeded, blocksIn, blockOk}
-use Rattle.paper.specs.Loading.{instructionAt, program, typesAlong}
+use Rattle.paper.specs.Loading.{instructionAt, program}
 use Rattle.paper.specs.Translating.{codeOf}
 use Rattle.paper.specs.Calls.{Restriction}
+use Rattle.paper.specs.LoadedBlocksRun.{typesThrough}
 
 -- a number, and an offset in the input of its stage
 abbrev pub Faults : Type 1
@@ -100,7 +101,7 @@ pub data BufferSize (r : Restriction) (buffer : List ℕ) : ℕ → ℕ → Type
   buffer-short : length buffer < blockSize * blocksNeeded (length (codeOf (r .keys) (r .root)))
       → BufferSize r buffer 15 (length buffer)
 
--- 16: "blocks: length 0, no multiple of 512, or over 82 blocks"; blocks, length
+-- 16: "blocks: length 0, no multiple of 512, or over 82 blocks", 123 since 02 g; blocks, length
 pub data BlocksSize (blocks : List ℕ) : ℕ → ℕ → Type 0 where
   no-blocks : length blocks ≡ 0 → BlocksSize blocks 16 (length blocks)
   blocks-uneven : length blocks % blockSize ≢ 0 → BlocksSize blocks 16 (length blocks)
@@ -110,13 +111,19 @@ pub data BlocksSize (blocks : List ℕ) : ℕ → ℕ → Type 0 where
 pub data BlocksLayout (keys : ℕ) (blocks : List ℕ) : ℕ → ℕ → Type 0 where
   block-broken : (k : ℕ) → k < blocksIn blocks → blockOk keys blocks k ≡ false → BlocksLayout keys blocks 17 (k * blockSize)
 
--- 18: "an instruction fails the load check"; its first byte, or length at the end. The instructions before it pass, and hold types
--- on which it does not act; or all pass, and what is held at the end is not one bool
+-- 18: "an instruction fails the load check"; its first byte, or length at the end. The types are those that are held where nothing is
+-- passed over. An instruction does not act on what the ones before it leave; or a skip finds other types at its landing than it stands on,
+-- which is told only where all before the landing act ("A landing past an instruction that fails by itself is not compared"); or all act,
+-- and what is held at the end is not one bool
 pub data BlocksCode (ks : List Key) (blocks : List ℕ) : ℕ → ℕ → Type 0 where
   instruction-fails : (front : List (Option Instruction)) (i : Option Instruction) (rest : List (Option Instruction)) (held : List Ty)
-      → program blocks ≡ front ++ (i ∷ rest) → typesAlong ks front ≡ ends held → act (actionOf (typeAction ks) i) held ≡ none
+      → program blocks ≡ front ++ (i ∷ rest) → typesThrough ks front ≡ ends held → act (actionOf (typeAction ks) i) held ≡ none
       → BlocksCode ks blocks 18 (instructionAt (length front))
-  end-not-bool : (held : List Ty) → typesAlong ks (program blocks) ≡ ends held → held ≢ bool ∷ []
+  skip-misfits : (front : List (Option Instruction)) (s : Skip) (rest : List (Option Instruction)) (held there : List Ty)
+      → program blocks ≡ front ++ (some (skip s) ∷ rest) → typesThrough ks front ≡ ends held
+      → typesThrough ks (front ++ (some (skip s) ∷ take (s .over) rest)) ≡ ends there → held ≢ there
+      → BlocksCode ks blocks 18 (instructionAt (length front))
+  end-not-bool : (held : List Ty) → typesThrough ks (program blocks) ≡ ends held → held ≢ bool ∷ []
       → BlocksCode ks blocks 18 (length blocks)
 
 -- 19: "entry length wrong"; entry, length

@@ -1,10 +1,10 @@
--- 01, "Blocks", the instructions, by example: their bytes, what can be read as one, the load check of each, and what each leaves in a run.
+-- 01, "Blocks", the instructions, by example (for skips see SkipExamples): their bytes, what can be read as one, the load check of each, and what each leaves in a run.
 use Prim.Native.Nat.{ℕ, _-_, _^_}
 use mathlib.Core.Path.{_≡_}
 use mathlib.Core.Bool.{Bool, true, false}
 use mathlib.Core.Option.{Option, none, some}
-use mathlib.Core.List.{List, [], _∷_, _++_, map}
-use lib.ListN.{replicate}
+use mathlib.Core.List.{List, [], _∷_, _++_}
+use lib.ListN.{length, replicate}
 use Rattle.paper.specs.Answers.{Answer, ok, refused, _>>=_, inBlocks}
 use Rattle.paper.specs.Tokens.{equal, unequal, greater, atLeast, less, atMost}
 use Rattle.paper.specs.Keys.{exact, ternary, lpm, range, optional, keys}
@@ -12,7 +12,7 @@ use Rattle.paper.specs.Entry.{entryOf}
 use Rattle.paper.specs.Types.{value, mask, prefixLength, low, high}
 use Rattle.paper.specs.Meaning.{both, either, ifThen}
 use Rattle.paper.specs.Code.{Instruction, pushBool, pushInt, pushKey, pushField, pushPriority, invert, negate, convert, compare, connects, Parts, encode, partsAt, decode}
-use Rattle.paper.specs.Loading.{typesAlong, loadCheck, valuesAlong, leftTrue}
+use Rattle.paper.specs.Loading.{typesAlong, loadCheck, runAlong, leftTrue}
 use Rattle.paper.specs.MarkedJudgements.{theKeys, theEntry}
 use Rattle.paper.specs.Examples.{Example, on, Agree, numbersFrom}
 use Rattle.paper.specs.BlockExamples.{row}
@@ -125,7 +125,7 @@ decodings =
     ∷ on (parts 12 1 0 0) none
     ∷ on (parts 12 0 1 0) none
     ∷ on (parts 12 0 0 1) none
-    ∷ on (parts 13 0 0 0) none
+    ∷ on (parts 14 0 0 0) none
     ∷ on (parts 255 0 0 0) none
     ∷ []
 
@@ -173,8 +173,13 @@ implies = parts 12 0 0 0
 -- "The load check follows the types through the sequence: operands as above, at most 384 values held, one bool at the end; instruction
 -- fields in range." 18: an instruction's "first byte, or length at the end", in one block
 
+-- parts in a row, each read with those that are left after it
+abbrev pub readIn : List Parts → List (Option Instruction)
+readIn [] = []
+readIn (p ∷ code) = decode (length code) p ∷ readIn code
+
 abbrev pub loads : List Parts → Answer (Unit {0})
-loads code = keys theKeys >>= λ ks. loadCheck 512 (typesAlong ks (map decode code))
+loads code = keys theKeys >>= λ ks. loadCheck 512 (typesAlong ks (readIn code))
 
 abbrev pub passed : Answer (Unit {0})
 passed = ok tt
@@ -195,7 +200,7 @@ loadable =
     ∷ on (yes ∷ yes ∷ []) (fails 512)
     ∷ on (int 1 ∷ yes ∷ []) (fails 512)
     -- bytes that are no instruction, a key past the last one, a field that the kind lacks
-    ∷ on (parts 13 0 0 0 ∷ []) (fails 4)
+    ∷ on (parts 14 0 0 0 ∷ []) (fails 4)
     ∷ on (yes ∷ parts 6 1 0 0 ∷ []) (fails 24)
     ∷ on (key 4 ∷ key 4 ∷ compares 0 ∷ []) passed
     ∷ on (key 5 ∷ []) (fails 4)
@@ -250,7 +255,7 @@ loadable =
     ∷ on (yes ∷ and ∷ []) (fails 24)
     ∷ on (and ∷ []) (fails 4)
     -- "the earliest place wins"; the instruction that begins the second block
-    ∷ on (not ∷ parts 13 0 0 0 ∷ []) (fails 4)
+    ∷ on (not ∷ parts 14 0 0 0 ∷ []) (fails 4)
     ∷ on (yes ∷ (replicate 24 not ++ (minus ∷ []))) (fails 516)
     ∷ on (yes ∷ (replicate 25 not ++ (minus ∷ []))) (fails 536)
     ∷ []
@@ -259,7 +264,7 @@ loadable =
 -- accepted exactly when the bool left at the end is true, else violated"
 
 abbrev pub runs : List ℕ → List Parts → Answer Bool
-runs entry code = keys theKeys >>= λ ks. entryOf ks entry >>= λ e. ok (leftTrue (valuesAlong ks e (map decode code)))
+runs entry code = keys theKeys >>= λ ks. entryOf ks entry >>= λ e. ok (leftTrue (runAlong ks e (readIn code)))
 
 abbrev pub accepted : List Parts → Example (List Parts) (Answer Bool)
 accepted code = on code (ok true)
@@ -330,7 +335,7 @@ onOneValueEach =
 pub record InstructionExamples : Type 0 where
   pub encoded : Agree encode inBytes
   pub parted : PartsInBytes
-  pub decoded : Agree decode decodings
+  pub decoded : Agree (decode 0) decodings
   pub loaded : Agree loads loadable
   pub run-on-the-marked-entry : Agree (runs theEntry) onTheMarkedEntry
   pub run-on-one-value-each : Agree (runs oneEach) onOneValueEach

@@ -20,11 +20,11 @@ pub mod Parts
 pub mod Explained
 pub mod Named
 pub mod Rechecking
-pub mod LoadedBlocksRun
 pub mod Ranges
 pub mod TypeSoundness
-pub mod CodeCorrect
 pub mod BlocksRoundTrip
+pub mod LoadedBlocksRun
+pub mod CodeCorrect
 pub mod TranslationCorrect
 pub mod DamageDetected
 pub mod MarkedJudgements
@@ -48,6 +48,7 @@ pub mod MeaningExamples
 pub mod BlockExamples
 pub mod InstructionExamples
 pub mod TranslationExamples
+pub mod SkipExamples
 pub mod PrintExamples
 pub mod PartExamples
 pub mod SummaryExamples
@@ -61,5 +62,6 @@ pub mod Demands
 pub mod WrongPrints
 pub mod WrongExplainers
 pub mod WrongRecheckers
+pub mod WrongRunners
 pub mod PiecesRight
 pub mod WrongPrograms

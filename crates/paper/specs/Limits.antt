@@ -147,7 +147,7 @@ pub record Held : Type 0 where
   pub most : typesAlong [] (piled 384) ≡ ends (bool ∷ [])
   pub more : typesAlong [] (piled 385) ≡ fails 384
 
--- buffers: a byte short of the block that is needed; blocks: none, half a one, 83 of them
+-- buffers: a byte short of the block that is needed; blocks: none, half a one, 123 and 124 of them
 abbrev pub buffers : List (On ℕ)
 buffers =
     on (replicate 512 0) (ok 1)
@@ -159,8 +159,8 @@ lengths =
     on [] (refused 16 inBlocks 0)
     ∷ on (replicate 256 0) (refused 16 inBlocks 256)
     ∷ on (replicate 512 0) (refused 17 inBlocks 0)
-    ∷ on (replicate (82 * 512) 0) (refused 17 inBlocks 0)
-    ∷ on (replicate (83 * 512) 0) (refused 16 inBlocks 42496)
+    ∷ on (replicate (123 * 512) 0) (refused 17 inBlocks 0)
+    ∷ on (replicate (124 * 512) 0) (refused 16 inBlocks 63488)
     ∷ []
 
 pub record Sizes : Type 0 where

@@ -10,11 +10,13 @@ use Rattle.paper.specs.declared.Judgement.{Judgement}
 use Rattle.paper.specs.declared.Judgement.the-variants as J
 use Rattle.paper.specs.declared.Translation.{Translation}
 use Rattle.paper.specs.declared.Loading.{Loading}
+use Rattle.paper.specs.declared.Running.{Running}
+use Rattle.paper.specs.declared.Running.the-variants as N
 use Rattle.paper.specs.declared.Printing.{Printing}
 use Rattle.paper.specs.declared.Explanation.{Explanation}
 use Rattle.paper.specs.declared.Summarizing.{Summarizing}
 use Rattle.paper.specs.declared.Rechecking.{Rechecking}
-use Rattle.paper.specs.Answers.{readingSays, checkingSays, judgementSays, translationSays, loadingSays, printingSays}
+use Rattle.paper.specs.Answers.{readingSays, checkingSays, judgementSays, translationSays, loadingSays, runningSays, printingSays}
 use Rattle.paper.specs.BlocksRoundTrip.{All}
 use Rattle.paper.specs.Explained.{explainAnswer, explanationSays}
 use Rattle.paper.specs.Named.{summaryAnswer, summarizingSays}
@@ -44,8 +46,8 @@ pub record TranslatePromised (text list buffer : List ℕ) (r : TranslateResult)
 abbrev pub LoadPromised : List ℕ → List ℕ → Loading → Type 0
 LoadPromised list blocks r = loadingSays r ≡ loadAnswer list blocks
 
-abbrev pub RunPromised : List ℕ → List ℕ → List ℕ → Judgement → Type 0
-RunPromised list blocks entry r = judgementSays r ≡ runAnswer list blocks entry
+abbrev pub RunPromised : List ℕ → List ℕ → List ℕ → Running → Type 0
+RunPromised list blocks entry r = runningSays r ≡ runAnswer list blocks entry
 
 -- what `print` returns, and what the buffer holds at its exit
 pub record PrintResult : Type 0 where
@@ -70,6 +72,17 @@ RecheckPromised text list old earlier new r = recheckingSays r ≡ recheckAnswer
 abbrev pub verdict : Bool → Judgement
 verdict true = J.Accepted
 verdict false = J.Violated
+
+-- the verdict of a run, and so many steps
+abbrev pub verdictIn : Bool → ℕ → Running
+verdictIn true steps = N.Accepted steps
+verdictIn false steps = N.Violated steps
+
+-- a run, its steps aside
+abbrev pub judgementOfRun : Running → Judgement
+judgementOfRun (N.Accepted steps) = J.Accepted
+judgementOfRun (N.Violated steps) = J.Violated
+judgementOfRun (N.Refused n at) = J.Refused n at
 
 -- one result satisfies it, and no second
 pub record Sole {R : Type 0} (Promised : R → Type 0) : Type 0 where
@@ -101,7 +114,7 @@ pub record Programs : Type 0 where
   pub judge : List ℕ → List ℕ → List ℕ → Judgement
   pub translate : List ℕ → List ℕ → List ℕ → TranslateResult
   pub load : List ℕ → List ℕ → Loading
-  pub run : List ℕ → List ℕ → List ℕ → Judgement
+  pub run : List ℕ → List ℕ → List ℕ → Running
   pub print : List ℕ → List ℕ → PrintResult
   pub explain : List ℕ → List ℕ → List ℕ → Explanation
   pub summarize : List ℕ → List ℕ → Summarizing

@@ -1,5 +1,5 @@
 -- 01, "Try these against it": programs that the promises must leave no room for; and wrong printers (02 a and e), explainers (02 c),
--- summaries and rechecks (02 f). Each is refuted at an input, named in the proof.
+-- summaries and rechecks (02 f), and ways with skips (02 g). Each is refuted at an input, named in the proof.
 use Prim.Native.Nat.{ℕ, _+_, _*_, _≤_, _<_}
 use mathlib.Core.Path.{_≡_}
 use mathlib.Core.Bool.{true, false, cond}
@@ -18,15 +18,16 @@ use Rattle.paper.specs.Grammar.{Tree, nodes}
 use Rattle.paper.specs.Meaning.{both}
 use Rattle.paper.specs.Code.{pushBool, connects}
 use Rattle.paper.specs.Blocks.{blockSize, mostBlocks, blocksOf, layout}
-use Rattle.paper.specs.Translating.{conversions}
+use Rattle.paper.specs.Translating.{conversions, joins}
 use Rattle.paper.specs.Calls.{tree, Restriction, restriction, over, judgeAnswer, loadAnswer, runAnswer}
 use Rattle.paper.specs.TranslationCorrect.{Carries}
 use Rattle.paper.specs.MarkedJudgements.{theKeys, theEntry}
 use Rattle.paper.specs.Explained.{explanationSays}
-use Rattle.paper.specs.Promised.{Bytes, Programs, KeepsRead, KeepsCheck, KeepsJudge, KeepsTranslate, KeepsLoad, KeepsRun, KeepsPrint, KeepsExplain, KeepsSummarize, KeepsRecheck, Kept}
+use Rattle.paper.specs.Promised.{judgementOfRun, Bytes, Programs, KeepsRead, KeepsCheck, KeepsJudge, KeepsTranslate, KeepsLoad, KeepsRun, KeepsPrint, KeepsExplain, KeepsSummarize, KeepsRecheck, Kept}
 use Rattle.paper.specs.WrongPrints.{withoutParentheses, withAllParentheses, withAndForSequel, inDecimal, addressesInHex}
 use Rattle.paper.specs.WrongExplainers.{Explainer, NamesLast, FollowsSpine, KeyForPriority}
 use Rattle.paper.specs.WrongRecheckers.{NeverReuses, AlwaysReuses, WantsEqualEntries, ForgetsPriority, ComparesReadings, CountsPriority, MissesFields}
+use Rattle.paper.specs.WrongRunners.{ReportsInstructions, LeavesOldBool, ComparesHeights}
 use Rattle.paper.specs.Demands.{Refuses, blocksWritten, DemandOne, DemandTwo, DemandThree}
 
 -- the bytes before the first ";"
@@ -58,7 +59,8 @@ FirstPartOnly p =
     → partOf first ≡ first → p .check first list ≡ C.Passed → p .check rest list ≡ C.Passed
     → (n : ℕ) → p .translate (first ++ bytes ";" ++ rest) list buffer .answer ≡ T.Written n
     → (entry : List ℕ) → Bytes entry
-    → p .run list (blocksWritten n (p .translate (first ++ bytes ";" ++ rest) list buffer .buffer)) entry ≡ p .judge first list entry
+    → judgementOfRun (p .run list (blocksWritten n (p .translate (first ++ bytes ";" ++ rest) list buffer .buffer)) entry)
+    ≡ p .judge first list entry
 
 -- "a loader that passes nothing"
 abbrev pub PassesNothing : Programs → Type 0
@@ -70,13 +72,13 @@ PassesAll p =
     (list blocks : List ℕ) → Bytes list → Bytes blocks → (ks : List Key) → keys list ≡ ok ks → layout (length ks) blocks ≡ ok tt
     → (n : ℕ) × (p .load list blocks ≡ L.Loaded n)
 
--- "an invented instruction count (it is the nodes of the tree plus the conversions, as defined)": there is none
+-- "an invented instruction count (it is the nodes of the tree plus the conversions, as defined)", and since 02 g the joins: there is none
 abbrev pub CountsRight : Programs → Type 0
 CountsRight p =
     (text list buffer : List ℕ) → Bytes text → Bytes list → Bytes buffer → (n : ℕ) → p .translate text list buffer .answer ≡ T.Written n
-    → (r : Restriction) → restriction text list ≡ ok r → n ≡ nodes (r .root) + conversions (r .keys) (r .root)
+    → (r : Restriction) → restriction text list ≡ ok r → n ≡ nodes (r .root) + conversions (r .keys) (r .root) + joins (r .root)
 
--- a translator that asks for 82 blocks, whatever the text
+-- a translator that asks for as many blocks as load, whatever the text
 abbrev pub WantsAllBlocks : Programs → Type 0
 WantsAllBlocks p =
     (text list buffer : List ℕ) → Bytes text → Bytes list → Bytes buffer → length buffer < mostBlocks * blockSize
@@ -146,10 +148,21 @@ NamesPriority p = CountsPriority (p .summarize)
 abbrev pub NamesBareOnly : Programs → Type 0
 NamesBareOnly p = MissesFields (p .summarize)
 
+-- those of WrongRunners
+
+abbrev pub StepsByCode : Programs → Type 0
+StepsByCode p = ReportsInstructions (p .run)
+
+abbrev pub SkipsKeepBool : Programs → Type 0
+SkipsKeepBool p = LeavesOldBool (p .run)
+
+abbrev pub LandsByHeight : Programs → Type 0
+LandsByHeight p = ComparesHeights (p .load)
+
 -- each is real: there is such a program in which every other call keeps its promise
 
 pub data Call : Type 0 where
-  judging translating loading printing explaining summarizing rechecking : Call
+  judging translating loading running printing explaining summarizing rechecking : Call
 
 -- the calls of document 01, and those of 02
 
@@ -163,6 +176,7 @@ abbrev pub OthersKept : Call → Programs → Type 0
 OthersKept judging p = (KeepsRead p × KeepsCheck p × KeepsTranslate p × KeepsLoad p × KeepsRun p) × LaterKept p
 OthersKept translating p = (KeepsRead p × KeepsCheck p × KeepsJudge p × KeepsLoad p × KeepsRun p) × LaterKept p
 OthersKept loading p = (KeepsRead p × KeepsCheck p × KeepsJudge p × KeepsTranslate p × KeepsRun p) × LaterKept p
+OthersKept running p = (KeepsRead p × KeepsCheck p × KeepsJudge p × KeepsTranslate p × KeepsLoad p) × LaterKept p
 OthersKept printing p = FirstKept p × (KeepsExplain p × KeepsSummarize p × KeepsRecheck p)
 OthersKept explaining p = FirstKept p × (KeepsPrint p × KeepsSummarize p × KeepsRecheck p)
 OthersKept summarizing p = FirstKept p × (KeepsPrint p × KeepsExplain p × KeepsRecheck p)
@@ -196,6 +210,9 @@ pub record WrongProgramsExist : Type 0 where
   pub comparing-readings : ThereIs RechecksReadings rechecking
   pub counting-priority : ThereIs NamesPriority summarizing
   pub missing-fields : ThereIs NamesBareOnly summarizing
+  pub steps-by-code : ThereIs StepsByCode running
+  pub keeping-bool : ThereIs SkipsKeepBool running
+  pub landing-by-height : ThereIs LandsByHeight loading
 
 -- what excludes each: a demand, beside the calls that it is tried with; or the promise of `load`, by 18
 pub record DemandsExclude (p : Programs) : Type 0 where
@@ -223,6 +240,9 @@ pub record DemandsExclude (p : Programs) : Type 0 where
   pub comparing-readings : DemandTwo p → ¬ RechecksReadings p
   pub counting-priority : DemandTwo p → ¬ NamesPriority p
   pub missing-fields : DemandTwo p → ¬ NamesBareOnly p
+  pub steps-by-code : DemandTwo p → ¬ StepsByCode p
+  pub keeping-bool : DemandTwo p → ¬ SkipsKeepBool p
+  pub landing-by-height : KeepsLoad p → ¬ LandsByHeight p
 
 abbrev pub WrongProgramsFail : Type 0
 WrongProgramsFail = (p : Programs) → DemandsExclude p
@@ -253,6 +273,9 @@ pub record Excluded (p : Programs) : Type 0 where
   pub comparing-readings : ¬ RechecksReadings p
   pub counting-priority : ¬ NamesPriority p
   pub missing-fields : ¬ NamesBareOnly p
+  pub steps-by-code : ¬ StepsByCode p
+  pub keeping-bool : ¬ SkipsKeepBool p
+  pub landing-by-height : ¬ LandsByHeight p
 
 abbrev pub NoWrongProgram : Type 0
 NoWrongProgram = (p : Programs) → Kept p → Excluded p
@@ -267,6 +290,6 @@ paddedBlocks = blocksOf 5 (pushBool true ∷ pushBool true ∷ connects both ∷
 
 pub record PaddingSeen : Type 0 where
   pub loads : loadAnswer theKeys paddedBlocks ≡ ok 3
-  pub runs : runAnswer theKeys paddedBlocks theEntry ≡ ok true
+  pub runs : runAnswer theKeys paddedBlocks theEntry ≡ ok (record { accepted = true; steps = 3 })
   pub judged : judgeAnswer paddedText theKeys theEntry ≡ ok false
   pub not-carried : (n : ℕ) → ¬ Carries paddedText theKeys paddedBlocks n

@@ -28,7 +28,7 @@ pub enum Checking {
     Refused(u8, Place),
 }
 
-// An entry against a restriction, from its text or from its blocks.
+// An entry against a restriction, from its text.
 pub enum Judgement {
     Accepted,
     Violated,
@@ -44,6 +44,13 @@ pub enum Translation {
 // Blocks against a key list: how many instructions they hold.
 pub enum Loading {
     Loaded(usize),
+    Refused(u8, Place),
+}
+
+// An entry against a restriction, from its blocks: how many instructions were carried out.
+pub enum Running {
+    Accepted(usize),
+    Violated(usize),
     Refused(u8, Place),
 }
 

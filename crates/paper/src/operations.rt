@@ -1,4 +1,4 @@
-// The numbers of document 01's instructions.
+// The numbers of document 01's instructions, and the one of document 02.
 pub const PUSH_BOOL: u8 = 1;
 
 pub const PUSH_INT: u8 = 2;
@@ -22,3 +22,5 @@ pub const AND: u8 = 10;
 pub const OR: u8 = 11;
 
 pub const IMPLIES: u8 = 12;
+
+pub const SKIP: u8 = 13;

@@ -11,7 +11,7 @@ use borrow.Author.Tests.{eq-eqb, ne-eqb, lt-ltb, le-ltb, le-leb, lt-leb}
 use Rattle.paper.specs.Answers.{ok, refused, _>>=_, inTurn, inBlocks}
 use Rattle.paper.specs.Numbers.{bytesAt}
 use Rattle.paper.specs.Tokens.{sameBytes}
-use Rattle.paper.specs.Blocks.{Sums, sumsOf, checkOf, countOk, countAt, countsFrom, blocksIn, totalOf, blockOk, blockTest, layout}
+use Rattle.paper.specs.Blocks.{blockSize, mostBlocks, Sums, sumsOf, checkOf, countOk, countAt, countsFrom, blocksIn, totalOf, blockOk, blockTest, layout}
 use Rattle.paper.specs.Keys.{allZero}
 use Rattle.blocks.specs.declared.fields.Block.{Block}
 use Rattle.blocks.specs.Fields.{BlockOf}
@@ -83,16 +83,16 @@ module _ (keys : ℕ) (blocks : List ℕ) where
   unfolding layout
   laid-broken e h = rw (lt-ltb 0 (length blocks) h, ne-eqb (length blocks % 512) 0 e)
 
-  pub laid-long : 82 * 512 < length blocks → length blocks % 512 ≡ 0 → laidOut keys blocks ≡ refused 16 inBlocks (length blocks)
+  pub laid-long : mostBlocks * blockSize < length blocks → length blocks % 512 ≡ 0 → laidOut keys blocks ≡ refused 16 inBlocks (length blocks)
   unfolding layout
   laid-long h e =
       let p : 0 < length blocks = omega arith in
-      rw (lt-ltb 0 (length blocks) p, eq-eqb (length blocks % 512) 0 e, lt-leb (length blocks) (82 * 512) h)
+      rw (lt-ltb 0 (length blocks) p, eq-eqb (length blocks % 512) 0 e, lt-leb (length blocks) (mostBlocks * blockSize) h)
 
-  pub laid-through : 0 < length blocks → length blocks % 512 ≡ 0 → length blocks ≤ 82 * 512 →
+  pub laid-through : 0 < length blocks → length blocks % 512 ≡ 0 → length blocks ≤ mostBlocks * blockSize →
       laidOut keys blocks ≡ (inTurn (blockTest keys blocks) 0 (blocksIn blocks) >>= λ _. ok (totalOf blocks))
   unfolding layout
-  laid-through p e h = rw (lt-ltb 0 (length blocks) p, eq-eqb (length blocks % 512) 0 e, le-leb (length blocks) (82 * 512) h)
+  laid-through p e h = rw (lt-ltb 0 (length blocks) p, eq-eqb (length blocks % 512) 0 e, le-leb (length blocks) (mostBlocks * blockSize) h)
 
   -- a block of the blocks is right as the block by itself is
   pub block-there : (k total from : ℕ) → total ≡ totalOf blocks → from ≡ k * 512 →

@@ -48,7 +48,7 @@ impl Block {
 
     pub const CHECK_FIRST: usize = 510;
 
-    pub const MOST: usize = 82;
+    pub const MOST: usize = 123;
 
     // Reads what a block says of itself.
     pub(crate) fn read(block: &[u8]) -> Block

@@ -7,7 +7,7 @@ ghost use lib.ListN.{length, getD, take};
 ghost use Rattle.paper.specs.Answers.{countedSays};
 ghost use Rattle.paper.specs.Numbers.{bytesAt};
 ghost use Rattle.paper.specs.Tokens.{sameBytes};
-ghost use Rattle.paper.specs.Blocks.{countOk, countsFrom, checkOf};
+ghost use Rattle.paper.specs.Blocks.{mostBlocks, countOk, countsFrom, checkOf};
 ghost use Rattle.blocks.specs.Layout.{laidOut, blockRight};
 use crate::fields::Block;
 use crate::fields::two_bytes;
@@ -77,7 +77,7 @@ fn block_right(block: &[u8], k: usize, later: usize, total: usize, keys: usize) 
 
 // The counts of n blocks, added up as they stand.
 fn total_of(blocks: &[u8], n: usize) -> usize
-    requires { ⌜ (n ≤ 82) × (n * 512 ≤ length (now blocks)) ⌝ }
+    requires { ⌜ (n ≤ mostBlocks) × (n * 512 ≤ length (now blocks)) ⌝ }
     ensures { λ r. ⌜ r ≡ countsFrom (now (blocks .entry)) 0 n ⌝ }
 {
     let mut sum = 0;

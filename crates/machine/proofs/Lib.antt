@@ -1,6 +1,12 @@
 pub mod Along
 pub mod Decoded
+pub mod Fitting
+pub mod Going
 pub mod Loaded
+pub mod Marked
+pub mod Marks
+pub mod Packed
+pub mod Skips
 pub mod Stack
 pub mod Standing
 pub mod Types

@@ -1,2 +1,5 @@
 pub mod Acting
 pub mod Decoded
+pub mod Following
+pub mod Packed
+pub mod Running

@@ -1,52 +1,28 @@
-// The load check: the instructions one after another, with the types of what would be held.
+// The load check: the types are followed, and each skip's landing is held to what its skip leaves.
 ghost use mathlib.Core.Path.{_≡_};
-ghost use Prim.Native.Nat.{_*_, _/_, _^_, _≤_, _<_};
+ghost use mathlib.Core.List.{List};
+ghost use Prim.Native.Nat.{_*_, _^_, _≤_, _<_};
 ghost use lib.ListN.{length};
+ghost use Rattle.paper.specs.Keys.{Key};
 ghost use Rattle.paper.specs.Answers.{refused, inBlocks, checkingSays};
-ghost use Rattle.paper.specs.Code.{actionOf, typeAction};
-ghost use Rattle.paper.specs.Blocks.{blockSize, inBlock};
+ghost use Rattle.paper.specs.Blocks.{inBlock, mostBlocks, blocksIn};
 ghost use Rattle.paper.specs.Loading.{instructionAt, instructionsFrom, typesAlong, loadCheck};
 ghost use Rattle.keys.specs.Says.{keysIn};
-ghost use Rattle.values.specs.Typed.{tyMeant, typingMeant};
-ghost use Rattle.machine.specs.Decoded.{instructionMeant};
-ghost use Rattle.machine.specs.Acting.{gives};
-use crate::decoding::instruction_at;
+ghost use Rattle.machine.specs.Following.{Followed, Fitted};
+use crate::decoding::over_at;
 use crate::decoding::place_of;
-use crate::holding::MOST_HELD;
-use crate::holding::below;
-use crate::instruction::Instruction;
-use crate::instruction::Op;
-use crate::instruction::narrow;
-use crate::instruction::takes;
-use operands::bare_type;
-use operands::field_type_at;
+use crate::following::ONE_BOOL;
+use crate::following::follow;
+use blocks::Block;
 use paper::Checking;
 use paper::Place;
 use paper::refused;
-use values::operators;
-use values::types::Type;
-use values::types::Typing;
-use values::types::is_bool;
 
-// What an instruction leaves, of the types of its lowest operand and its uppermost.
-fn typed(list: &[u8], instruction: Instruction, low: Type, top: Type) -> Typing
-    ensures { λ r. ⌜ typingMeant r ≡ gives (actionOf (typeAction (keysIn (now (list .entry)))) (instructionMeant instruction)) (tyMeant low) (tyMeant top) ⌝ }
-{
-    let op = instruction.op;
-    match op {
-        Op::PushBool(_) => Typing::Is(Type::Bool),
-        Op::PushInt => Typing::Is(Type::Int),
-        Op::PushKey(k) => bare_type(list, k),
-        Op::PushField(field, k) => field_type_at(list, field, k),
-        Op::PushPriority => Typing::Is(Type::Int),
-        Op::Not => operators::not_type(low),
-        Op::Negate => operators::negate_type(low),
-        Op::Convert(kind, width) => operators::convert_type(kind, narrow(width), low),
-        Op::Compare(comparison) => operators::compare_type(comparison, low, top),
-        Op::Connect(_) => operators::join_type(low, top),
-        Op::Wrong => Typing::Wrong,
-    }
-}
+// A mark for each point of code that is short, as most is: these are soon cleared.
+const FEW_MARKS: usize = 256;
+
+// And of as much code as blocks can hold.
+const ALL_MARKS: usize = Block::MOST * Block::INSTRUCTIONS + 1;
 
 fn refused_at(i: usize) -> Checking
     requires { ⌜ instructionAt i < 2 ^ 64 ⌝ }
@@ -55,33 +31,51 @@ fn refused_at(i: usize) -> Checking
     Checking::Refused(refused::INSTRUCTION, Place::Blocks(place_of(i)))
 }
 
-// Whether the first n instructions of blocks pass the load check against a key list, or refusal 18.
-pub fn check_code(list: &[u8], blocks: &[u8], n: usize) -> Checking
-    requires { ⌜ n ≤ inBlock * (length (now blocks) / blockSize) ⌝ }
-    ensures { λ r. ⌜ checkingSays r ≡ loadCheck (length (now (blocks .entry))) (typesAlong (keysIn (now (list .entry))) (instructionsFrom (now (blocks .entry)) 0 n)) ⌝ }
+// The number of the first instruction before `upto` whose landing does not fit, or `upto`. A landing past it is not compared. An instruction
+// that passes nothing over lands on the next, and is compared with itself.
+fn misfit(blocks: &[u8], n: usize, upto: usize, marks: &[u32]) -> usize
+    requires { ⌜ n ≤ inBlock * blocksIn (now blocks) ⌝ }
+    requires { ⌜ (upto ≤ n) × (upto < length (now marks)) ⌝ }
+    ensures { λ r. ⌜ ((ks : List Key) → Followed ks (now (blocks .entry)) n (now (marks .entry)) upto → Fitted ks (now (blocks .entry)) n (now (marks .entry)) r) ⌝ }
 {
-    let mut stack = [Type::Bool; MOST_HELD];
-    let mut height = 0;
     let mut i = 0;
-    while i < n {
-        let instruction = instruction_at(blocks, i);
-        let need = takes(instruction);
-        if height < need {
-            return refused_at(i);
+    while i < upto {
+        let landing = i + 1 + over_at(blocks, i);
+        if landing <= upto {
+            if marks[landing] != marks[i + 1] {
+                return i;
+            }
         }
-        let base = height - need;
-        if MOST_HELD <= base {
-            return refused_at(i);
-        }
-        let Typing::Is(left) = typed(list, instruction, stack[base], stack[below(height)]) else {
-            return refused_at(i);
-        };
-        stack[base] = left;
-        height = base + 1;
         i += 1;
     }
-    if (height == 1) & is_bool(stack[0]) {
+    upto
+}
+
+// The load check, with room for a mark at each point.
+fn check_marking(list: &[u8], blocks: &[u8], n: usize, marks: &mut [u32]) -> Checking
+    requires { ⌜ (n ≤ inBlock * blocksIn (now blocks)) × (n < length (now marks)) ⌝ }
+    ensures { λ r. ⌜ checkingSays r ≡ loadCheck (length (now (blocks .entry))) (typesAlong (keysIn (now (list .entry))) (instructionsFrom (now (blocks .entry)) 0 n)) ⌝ }
+{
+    let upto = follow(list, blocks, n, marks);
+    let at = misfit(blocks, n, upto, marks);
+    if at < n {
+        return refused_at(at);
+    }
+    if marks[n] == ONE_BOOL {
         return Checking::Passed;
     }
     Checking::Refused(refused::INSTRUCTION, Place::Blocks(blocks.len()))
+}
+
+// Whether the first n instructions of blocks pass the load check against a key list, or refusal 18.
+pub fn check_code(list: &[u8], blocks: &[u8], n: usize) -> Checking
+    requires { ⌜ (n ≤ inBlock * blocksIn (now blocks)) × (n ≤ inBlock * mostBlocks) ⌝ }
+    ensures { λ r. ⌜ checkingSays r ≡ loadCheck (length (now (blocks .entry))) (typesAlong (keysIn (now (list .entry))) (instructionsFrom (now (blocks .entry)) 0 n)) ⌝ }
+{
+    if n < FEW_MARKS {
+        let mut few = [0u32; FEW_MARKS];
+        return check_marking(list, blocks, n, &mut few);
+    }
+    let mut marks = [0u32; ALL_MARKS];
+    check_marking(list, blocks, n, &mut marks)
 }

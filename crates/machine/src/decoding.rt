@@ -8,6 +8,7 @@ ghost use Rattle.paper.specs.Code as paper;
 ghost use Rattle.paper.specs.Code.{instructionSize, partsAt, decode};
 ghost use Rattle.paper.specs.Loading.{instructionAt};
 ghost use Rattle.number.specs.Values.{value};
+ghost use Rattle.machine.specs.Following.{overIn};
 ghost use Rattle.machine.specs.Decoded.{opMeant, partsMeant, instructionMeant};
 use crate::instruction::Instruction;
 use crate::instruction::Op;
@@ -22,6 +23,11 @@ use paper::operations;
 use values::connectives;
 
 const MOST_WIDTH: usize = KeyRecord::WIDEST as usize;
+
+// A constant whose first byte is 1, and whose others are 0.
+const FIRST_BYTE: Magnitude = Magnitude {
+    limbs: [0, 0, 0, 0x0100_0000],
+};
 
 struct Parts {
     operation: u8,
@@ -50,8 +56,9 @@ fn only(right: bool, op: Op) -> Op
     if right { op } else { Op::Wrong }
 }
 
-fn op_of(p: Parts) -> Op
-    ensures { λ r. ⌜ opMeant r (value (p .constant)) ≡ decode (partsMeant p) ⌝ }
+// What the parts spell, where so many instructions are left after it.
+fn op_of(p: Parts, left: usize) -> Op
+    ensures { λ r. ⌜ opMeant r (value (p .constant)) ≡ decode left (partsMeant p) ⌝ }
 {
     let operation = p.operation;
     let detail = p.detail;
@@ -85,6 +92,13 @@ fn op_of(p: Parts) -> Op
         operations::AND => only(bare, Op::Connect(connectives::BOTH)),
         operations::OR => only(bare, Op::Connect(connectives::EITHER)),
         operations::IMPLIES => only(bare, Op::Connect(connectives::IF_THEN)),
+        operations::SKIP => {
+            let to = p.constant.equal(FIRST_BYTE);
+            only(
+                (1 <= operand) & (operand <= left) & ((detail <= 1) & (to | no_constant)),
+                Op::Skip(detail == 1, to, operand),
+            )
+        }
         _ => Op::Wrong,
     }
 }
@@ -99,15 +113,71 @@ pub(crate) fn place_of(i: usize) -> usize
         + Block::INSTRUCTION * (i % Block::INSTRUCTIONS)
 }
 
-// The instruction number i of blocks.
-pub(crate) fn instruction_at(blocks: &[u8], i: usize) -> Instruction
+// How many instructions the one of number i passes over, if it is an instruction.
+pub(crate) fn over_at(blocks: &[u8], i: usize) -> usize
     requires { ⌜ instructionAt i + instructionSize ≤ length (now blocks) ⌝ }
-    ensures { λ r. ⌜ instructionMeant r ≡ decode (partsAt (now (blocks .entry)) (instructionAt i)) ⌝ }
+    ensures { λ r. ⌜ (r ≡ overIn (partsAt (now (blocks .entry)) (instructionAt i))) × (r < 2 ^ 16) ⌝ }
+{
+    let at = place_of(i);
+    if blocks[at] == operations::SKIP {
+        return two_bytes(blocks, at + 2);
+    }
+    0
+}
+
+// The instruction number i of blocks, where so many are left after it.
+pub(crate) fn instruction_at(blocks: &[u8], i: usize, left: usize) -> Instruction
+    requires { ⌜ instructionAt i + instructionSize ≤ length (now blocks) ⌝ }
+    ensures { λ r. ⌜ instructionMeant r ≡ decode left (partsAt (now (blocks .entry)) (instructionAt i)) ⌝ }
 {
     let parts = parts_at(blocks, place_of(i));
     let constant = parts.constant;
     Instruction {
-        op: op_of(parts),
+        op: op_of(parts, left),
         constant: constant,
+    }
+}
+
+// An instruction that uses no constant.
+fn without_constant(op: Op) -> Instruction
+    ensures { λ r. ⌜ instructionMeant r ≡ opMeant op 0 ⌝ }
+{
+    Instruction {
+        op: op,
+        constant: Magnitude::zero(),
+    }
+}
+
+// The instruction number i of blocks that load. What stands there is an instruction, so no part is tested, and the constant is read only
+// where it is used.
+pub(crate) fn loaded_at(blocks: &[u8], i: usize) -> Instruction
+    requires { ⌜ instructionAt i + instructionSize ≤ length (now blocks) ⌝ }
+    ensures { λ r. ⌜ ((left : ℕ) (x : paper.Instruction) → decode left (partsAt (now (blocks .entry)) (instructionAt i)) ≡ some x → instructionMeant r ≡ some x) ⌝ }
+{
+    let at = place_of(i);
+    let operation = blocks[at];
+    let detail = blocks[at + 1];
+    let operand = two_bytes(blocks, at + 2);
+    match operation {
+        operations::PUSH_BOOL => without_constant(Op::PushBool(operand == 1)),
+        operations::PUSH_INT => Instruction {
+            op: Op::PushInt,
+            constant: Magnitude::from_bytes(blocks, at + 4),
+        },
+        operations::PUSH_KEY => without_constant(Op::PushKey(operand)),
+        operations::PUSH_FIELD => without_constant(Op::PushField(detail, operand)),
+        operations::PUSH_PRIORITY => without_constant(Op::PushPriority),
+        operations::NOT => without_constant(Op::Not),
+        operations::NEGATE => without_constant(Op::Negate),
+        operations::CONVERT => without_constant(Op::Convert(detail, (operand % 256) as u8)),
+        operations::COMPARE => without_constant(Op::Compare(detail)),
+        operations::AND => without_constant(Op::Connect(connectives::BOTH)),
+        operations::OR => without_constant(Op::Connect(connectives::EITHER)),
+        operations::IMPLIES => without_constant(Op::Connect(connectives::IF_THEN)),
+        operations::SKIP => {
+            let to = Magnitude::from_bytes(blocks, at + 4).equal(FIRST_BYTE);
+            without_constant(Op::Skip(detail == 1, to, operand))
+        }
+        _ => without_constant(Op::Wrong),
     }
 }

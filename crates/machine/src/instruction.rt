@@ -24,6 +24,8 @@ pub enum Op {
     Compare(u8),
     // By its number in crate values.
     Connect(u8),
+    // On which bool it is taken, which bool it then leaves, and how many instructions it passes over.
+    Skip(bool, bool, usize),
     // Bytes that are no instruction.
     Wrong,
 }
@@ -49,6 +51,7 @@ pub(crate) fn takes(instruction: Instruction) -> usize
         Op::Convert(_, _) => 1,
         Op::Compare(_) => 2,
         Op::Connect(_) => 2,
+        Op::Skip(_, _, _) => 1,
         Op::Wrong => 0,
     }
 }

@@ -8,7 +8,8 @@ use Rattle.machine.proofs.decoding.instruction_at.Tie as tie
 returns : tie.Need-returns
 returns c =
     let a = c .before .before .before .before .before .args in
-    c .op-of .ensures ∙ ap decode (c .before .before .parts-at .ensures ∙ ap (partsAt (a .blocks .now)) (c .before .before .before .place-of .ensures))
+    let parts = c .before .before .parts-at .ensures ∙ ap (partsAt (a .blocks .now)) (c .before .before .before .place-of .ensures) in
+    c .op-of .ensures ∙ ap (decode (a .left)) parts
 
 pub instruction-at-spec : {M : Type 1} → statement M
 instruction-at-spec =

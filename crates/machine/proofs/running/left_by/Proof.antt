@@ -53,6 +53,8 @@ left-by-spec =
     (λ c. search needs)
     (λ c κs. search needs)
     (λ c. search needs)
+    (λ c κs. search needs)
+    (λ c. search needs)
     (λ c. rw (c .before .before .op .given .1) (c .truth .ensures))
     (λ c. rw (c .before .enum-told .given .1) (c .whole .ensures))
     (λ c. rw (c .before .before .op2 .given .1) (c .bare-cell .ensures))
@@ -63,4 +65,5 @@ left-by-spec =
     is-converted
     (λ c. rw (c .before .before .op5 .given .1) (c .compared .ensures))
     (λ c. rw (c .before .before .op6 .given .1) (c .connected .ensures))
+    (λ c. rw (c .before .before .op7 .given .1) (c .skipped .ensures _))
     (λ c. rw (c .enum-told5 .given .1) tt))

@@ -1,7 +1,7 @@
 -- Each arm of the match gives the type that the rule of its operation gives (`values`, `operands`).
 use borrow.Author.Needs.{needs}
-use Rattle.machine.proofs.checking.typed.Statement.{statement}
-use Rattle.machine.proofs.checking.typed.Tie as tie
+use Rattle.machine.proofs.following.typed.Statement.{statement}
+use Rattle.machine.proofs.following.typed.Tie as tie
 
 pub typed-spec : {M : Type 1} → statement M
 typed-spec =
@@ -26,6 +26,8 @@ typed-spec =
     (λ c. search needs)
     (λ c κs. search needs)
     (λ c. search needs)
+    (λ c κs. search needs)
+    (λ c. search needs)
     (λ c. rw (c .enum-told .given .1))
     (λ c. rw (c .enum-told2 .given .1))
     (λ c. rw (c .before .before .op .given .1) (c .bare-type .ensures))
@@ -36,4 +38,5 @@ typed-spec =
     (λ c. rw (c .before .before .before .op3 .given .1, ← c .before .narrow .ensures .0) (c .convert-type .ensures))
     (λ c. rw (c .before .before .op4 .given .1) (c .compare-type .ensures))
     (λ c. rw (c .before .enum-told6 .given .1) (c .join-type .ensures))
+    (λ c. rw (c .before .enum-told7 .given .1) (c .not-type2 .ensures))
     (λ c. search needs))

@@ -1,11 +1,11 @@
 -- Instructions written one after the other.
-use Prim.Native.Nat.{ℕ, suc, _+_, _*_, _/_, _%_, _^_}
+use Prim.Native.Nat.{ℕ, suc, _+_, _*_, _/_, _%_, _^_, _≤_, _<_}
 use native.Mathlib.Nat.{add-zero}
 use native.Mathlib.Omega.{arith}
 use mathlib.Core.Path.{_≡_, refl, sym, _∙_, ap, subst}
 use mathlib.Core.List.{List, [], _∷_, _++_, append-assoc}
 use lib.ListN.{length, set, length-append}
-use lib.Seq.{sets}
+use lib.Seq.{set-comm, sets}
 use Rattle.paper.specs.Numbers.{bigEndian}
 use Rattle.paper.specs.Code.{Instruction, Parts, partsOf, instructionSize, encode}
 use Rattle.paper.specs.Blocks.{encodeAll}
@@ -32,6 +32,32 @@ wrote-on {s} {t} {u} {i} {j} {k} {xs} {ys} a b =
           b .stored
           ∙ rw (a .stored, behind, all-append xs ys)
           (sym (sets-append s (instructionSize * i) (encodeAll xs) (encodeAll ys)));
+    }
+
+-- what is stored in front of other stores may come before or after them
+
+store-swap : (l : List ℕ) (i j a : ℕ) (ys : List ℕ) → i < j → set (sets l j ys) i a ≡ sets (set l i a) j ys
+store-swap l i j a [] h = refl
+store-swap l i j a (y ∷ ys) h =
+    store-swap (set l j y) i (suc j) a ys (omega arith) ∙ ap (λ (t : List ℕ). sets t (suc j) ys) (set-comm l j i y a (λ e. omega arith))
+
+stores-swap : (l : List ℕ) (i j : ℕ) (xs ys : List ℕ) → i + length xs ≤ j → sets (sets l j ys) i xs ≡ sets (sets l i xs) j ys
+stores-swap l i j [] ys h = refl
+stores-swap l i j (x ∷ xs) ys h =
+    ap (λ (t : List ℕ). sets t (suc i) xs) (store-swap l i j x ys (omega arith)) ∙ stores-swap (set l i x) (suc i) j xs ys (omega arith)
+
+-- instructions for which a place was left before others are written when those stand
+pub wrote-before : {s t u : List ℕ} {i j k m : ℕ} {xs ys : List Instruction} → j ≡ i + length xs → Wrote s j ys t k → Wrote t i xs u m
+    → Wrote s i (xs ++ ys) u k
+wrote-before {s} {t} {u} {i} {j} {k} {m} {xs} {ys} e after before =
+    let there : instructionSize * j ≡ instructionSize * i + length (encodeAll xs) = omega (arith, e, row-length xs) in
+    record {
+      next = omega (arith, e, after .next, length-append xs ys);
+      stored =
+          before .stored
+          ∙ rw (after .stored, there, all-append xs ys)
+          (stores-swap s (instructionSize * i) (instructionSize * i + length (encodeAll xs)) (encodeAll xs) (encodeAll ys) (omega arith)
+          ∙ sym (sets-append s (instructionSize * i) (encodeAll xs) (encodeAll ys)));
     }
 
 -- one instruction, by its parts

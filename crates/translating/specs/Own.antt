@@ -1,9 +1,9 @@
--- The code of a node itself, without that of its operands.
+-- The code of a node itself, without that of its operands: the instruction after them, and a join's skip, which stands between them.
 use Prim.Native.Nat.{ℕ}
 use mathlib.Core.List.{List, [], _∷_}
-use Rattle.paper.specs.Meaning.{connective}
-use Rattle.paper.specs.Code.{Instruction, pushBool, pushInt, pushKey, pushField, pushPriority, connects, compare, fieldOf}
-use Rattle.paper.specs.Translating.{operation}
+use Rattle.paper.specs.Meaning.{Connective, connective}
+use Rattle.paper.specs.Code.{Instruction, pushBool, pushInt, pushKey, pushField, pushPriority, connects, compare, Skip, skip, fieldOf}
+use Rattle.paper.specs.Translating.{operation, settledBy, settledTo}
 use Rattle.number.specs.Values.{nested}
 use Rattle.trees.specs.declared.marks.Operand.{Operand}
 use Rattle.trees.specs.declared.marks.Operand.the-variants.{Truth, Number, Key, Field, Attribute, UnknownKey, UnknownField}
@@ -35,3 +35,19 @@ ownCode (Between o left) x = operator o ∷ []
 
 abbrev pub ownAt : List ℕ → ℕ → List Instruction
 ownAt nodes i = ownCode (nodeAt nodes i) (operandAt nodes i)
+
+-- where the left operand settles the join, over so many instructions
+abbrev pub settled : Connective → ℕ → Skip
+settled o over = record { on = settledBy o; to = settledTo o; over = over }
+
+abbrev pub operatorSkips : Operator → ℕ → List Instruction
+operatorSkips (Joins o) over = skip (settled (connective (joinMeant o)) over) ∷ []
+operatorSkips (Compares c) over = []
+
+abbrev pub nodeSkips : Node → ℕ → List Instruction
+nodeSkips Without over = []
+nodeSkips (Before o) over = []
+nodeSkips (Between o left) over = operatorSkips o over
+
+abbrev pub skipsAt : List ℕ → ℕ → ℕ → List Instruction
+skipsAt nodes i over = nodeSkips (nodeAt nodes i) over

@@ -1,7 +1,7 @@
 // The instructions of operators.
 ghost use mathlib.Core.Path.{_≡_};
 ghost use Rattle.paper.specs.Meaning.{connective};
-ghost use Rattle.paper.specs.Code.{partsOf, connects};
+ghost use Rattle.paper.specs.Code.{partsOf, connects, skip};
 ghost use Rattle.paper.specs.Translating.{operation};
 ghost use Rattle.trees.specs.Standing.{prefixMeant, joinMeant};
 ghost use Rattle.translating.specs.Own as spec;
@@ -31,6 +31,18 @@ fn join_parts(o: Join) -> Parts
         Join::And => put::plain(operations::AND, 0, 0),
         Join::Or => put::plain(operations::OR, 0, 0),
         Join::Implies => put::plain(operations::IMPLIES, 0, 0),
+    }
+}
+
+// "and" is settled by a left operand that is false, "or" by one that is true, "implies" by one that is false, and is then true.
+pub(crate) fn skip_parts(o: Join, over: usize) -> Parts
+    ensures { λ r. ⌜ partsMeant r ≡ partsOf (skip (spec.settled (connective (joinMeant o)) over)) ⌝ }
+{
+    match o {
+        Join::Sequel => put::skip(false, false, over),
+        Join::And => put::skip(false, false, over),
+        Join::Or => put::skip(true, true, over),
+        Join::Implies => put::skip(false, true, over),
     }
 }
 

@@ -1,4 +1,5 @@
-// The walk: the left operand's code, its conversion, the right one's, its conversion, the node's own.
+// The walk: the left operand's code, its conversion, the right one's, its conversion, the node's own. A join has no conversions, but a skip
+// after the left operand, whose place is left free until it is known how far the skip reaches.
 ghost use mathlib.Core.List.{List};
 ghost use Prim.Native.Nat.{ℕ, _+_, _*_, _≤_};
 ghost use lib.ListN.{length};
@@ -8,6 +9,7 @@ ghost use Rattle.trees.specs.Standing.{treeAt};
 ghost use Rattle.translating.specs.Writing.{Writes, Wrote};
 use crate::change;
 use crate::own;
+use crate::skip;
 use trees::Node;
 
 // Writes the code of the tree at node `at` from instruction number `i` on, and gives the number after it. The tree must have a type, by
@@ -28,12 +30,15 @@ pub fn write_code(list: &[u8], nodes: &[u32], at: usize, i: usize, code: &mut [u
             let after_left = write_code(list, nodes, left, i, code);
             let changes = change::changes_at(list, nodes, left, at - 1);
             let change_left = changes.left;
-            let before_right = change::write_change(change_left, after_left, code);
+            let start = after_left + skip::slots(nodes, at);
+            let before_right = change::write_change(change_left, start, code);
             let after_right = write_code(list, nodes, at - 1, before_right, code);
             let again = change::changes_at(list, nodes, left, at - 1);
             let change_right = again.right;
             let before_own = change::write_change(change_right, after_right, code);
-            own::write_own(nodes, at, before_own, code)
+            let end = own::write_own(nodes, at, before_own, code);
+            skip::write_skip(nodes, at, before_own - after_left, after_left, code);
+            end
         }
     }
 }

@@ -31,8 +31,11 @@ mod grown;
 // No text is longer: document 01's refusal 1, which is given before a text comes here.
 pub const MOST_TEXT: usize = 4096;
 
-// The words of a text's nodes: a tree has at most one node for each token.
-pub const NODE_WORDS: usize = Node::WORDS * MOST_TOKENS;
+// A tree has at most one node for each token.
+pub const MOST_NODES: usize = MOST_TOKENS;
+
+// The words of a text's nodes.
+pub const NODE_WORDS: usize = Node::WORDS * MOST_NODES;
 
 // A text of at most so many bytes is short. It has no more tokens than bytes, so that small scratch is enough for it.
 pub const SHORT_TEXT: usize = 256;

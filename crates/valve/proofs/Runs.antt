@@ -1,23 +1,28 @@
 -- The stages of a run: its answer from theirs.
 use Prim.Native.Nat.{ℕ}
 use mathlib.Core.Path.{_≡_, sym, ap, subst, _∙_}
-use mathlib.Core.Bool.{Bool}
 use mathlib.Core.List.{List}
-use Rattle.paper.specs.Answers.{Answer, ok, refused, _>>=_, Input}
+use Rattle.paper.specs.Answers.{Answer, ok, refused, _>>=_, Input, Ran}
 use Rattle.paper.specs.Keys.{Key, keys}
 use Rattle.paper.specs.Entry.{Entry, entryOf}
-use Rattle.paper.specs.Loading.{program, loaded, valuesAlong, leftTrue}
-use Rattle.paper.specs.Calls.{loadAnswer, runAnswer}
+use Rattle.paper.specs.Loading.{program, loaded, Run, runAlong}
+use Rattle.paper.specs.Calls.{loadAnswer, ranTo, runAnswer}
 use Rattle.paper.proofs.Stages.{bind-ok}
 use Rattle.keys.specs.Says.{keysIn, conforms}
 use Rattle.keys.proofs.Checked.{are-keys}
 use Rattle.keys.proofs.Conforming.{entered, not-entered}
 use Rattle.operands.specs.Conforming.{entryIn, Conforming}
+use Rattle.machine.specs.Running.{Tells}
+use Rattle.machine.specs.declared.running.Ran as M
+
+-- what the machine tells of a run, in the paper's terms
+abbrev inPaper : M.Ran → Ran
+inPaper r = record { accepted = r .accepted; steps = r .steps }
 
 module _ (list blocks entry : List ℕ) where
   -- after the load, for the list's keys
-  abbrev judged : List Key → Answer Bool
-  judged ks = entryOf ks entry >>= λ e. ok (leftTrue (valuesAlong ks e (program blocks)))
+  abbrev judged : List Key → Answer Ran
+  judged ks = entryOf ks entry >>= λ e. ok (ranTo (runAlong ks e (program blocks)))
 
   load-first : (a : Answer (List Key)) {k : ℕ} {i : Input} {at : ℕ} → (a >>= λ ks. loaded ks blocks) ≡ refused k i at
       → (a >>= λ ks. loaded ks blocks >>= λ _. judged ks) ≡ refused k i at
@@ -49,14 +54,17 @@ module _ (list blocks entry : List ℕ) where
     entry-refused f =
         sym
         (behind
-        ∙ ap (λ (x : Answer Entry). x >>= λ m. ok (leftTrue (valuesAlong (keysIn list) m (program blocks)))) (not-entered (keysIn list) entry f))
+        ∙ ap (λ (x : Answer Entry). x >>= λ m. ok (ranTo (runAlong (keysIn list) m (program blocks)))) (not-entered (keysIn list) entry f))
 
     module _ (f : conforms (keysIn list) entry ≡ ok tt) where
       pub conforming : Conforming list entry
       conforming = record { listed = both .0; entered = entered (keysIn list) entry f }
 
-      pub ran : ok (leftTrue (valuesAlong (keysIn list) (entryIn list entry) (program blocks))) ≡ runAnswer list blocks entry
-      ran =
-          sym
-          (behind
-          ∙ ap (λ (x : Answer Entry). x >>= λ m. ok (leftTrue (valuesAlong (keysIn list) m (program blocks)))) (conforming .entered))
+      abbrev run : Run
+      run = runAlong (keysIn list) (entryIn list entry) (program blocks)
+
+      pub ran : (r : M.Ran) → Tells r run → ok (inPaper r) ≡ runAnswer list blocks entry
+      ran r tells =
+          let same : inPaper r ≡ ranTo run = λ k. record { accepted = tells .0 k; steps = tells .1 k } in
+          ap ok same
+          ∙ sym (behind ∙ ap (λ (x : Answer Entry). x >>= λ m. ok (ranTo (runAlong (keysIn list) m (program blocks)))) (conforming .entered))

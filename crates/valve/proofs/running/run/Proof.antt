@@ -1,5 +1,5 @@
--- `valve::run` meets its contract: the refusal of `load` (`load-refused`), the refusal of the entry (`entry-refused`), or what the loaded blocks
--- leave on an entry that conforms (`ran`).
+-- `valve::run` meets its contract: the refusal of `load` (`load-refused`), the refusal of the entry (`entry-refused`), or what the run of the
+-- loaded blocks on an entry that conforms comes to (`ran`).
 use mathlib.Core.Path.{_≡_, sym, _∙_, ap}
 use borrow.Author.Needs.{needs}
 use Rattle.paper.specs.Answers.{ok, loadingSays, checkingSays}
@@ -59,9 +59,8 @@ runs c =
     let told : tie.After-enum-told = c .before .before in
     let at-count = counted (looked told) in
     let a = start (loaded at-count) .args in
-    c .verdict .ensures
-    ∙ ap ok (c .before .run-loaded .ensures)
-    ∙ ran (a .list .now) (a .blocks .now) (a .entry .now) (loaded-there at-count) (entered-there told)
+    let r = c .before .run-loaded in
+    c .told .ensures ∙ ran (a .list .now) (a .blocks .now) (a .entry .now) (loaded-there at-count) (entered-there told) (r .result) (r .ensures)
 
 pub run-spec : {M : Type 1} → statement M
 run-spec =

@@ -61,7 +61,7 @@ extern "C" {
 #define POLLUX_BLOCK_SIZE 512
 #define POLLUX_BLOCK_INSTRUCTIONS 25
 #define POLLUX_INSTRUCTION_SIZE 20
-#define POLLUX_MAX_BLOCKS 82
+#define POLLUX_MAX_BLOCKS 123
 #define POLLUX_MAX_BLOCKS_SIZE (POLLUX_MAX_BLOCKS * POLLUX_BLOCK_SIZE) /* bytes */
 #define POLLUX_MAX_VALUES 384                                          /* values that a run holds at one time */
 
@@ -104,9 +104,10 @@ enum pollux_refusal {
     POLLUX_OPERAND_TYPES = 13,  /* at the operator */
     POLLUX_NOT_BOOL = 14,       /* at the root of the text's tree */
     POLLUX_BUFFER_SHORT = 15,   /* at the buffer's length */
-    POLLUX_BLOCKS_LENGTH = 16,  /* 0, not a multiple of 512, or over 82 blocks; at the length */
+    POLLUX_BLOCKS_LENGTH = 16,  /* 0, not a multiple of 512, or over 123 blocks; at the length */
     POLLUX_BLOCK_LAYOUT = 17,   /* at the block */
-    POLLUX_INSTRUCTION = 18,    /* at the instruction, or at the blocks' length if what is left at the end is not one bool */
+    POLLUX_INSTRUCTION = 18,    /* at the instruction, a skip whose landing does not fit included, or at the blocks' length if what is
+                                   left at the end is not one bool */
     POLLUX_ENTRY_LENGTH = 19,   /* at its length */
     POLLUX_ENTRY_RULE = 20,     /* at the priority (0) or at the key's record */
     POLLUX_PRINT_LONG = 21      /* over 4,096 bytes, or over the buffer; at the buffer's length */
@@ -116,7 +117,7 @@ enum pollux_refusal {
  * An answer of any call but pollux_explain, pollux_summarize and pollux_recheck, which have more to tell.
  *
  *   refused               says POLLUX_REFUSED, number and input as above, value the byte offset in that input
- *   accepted, violated    the other three are 0
+ *   accepted, violated    number and input are 0; value is the steps that pollux_run took, and 0 of any other call
  *   done                  number and input are 0; value is the count that the call gives, or 0
  */
 struct pollux_answer {
@@ -152,8 +153,10 @@ struct pollux_answer pollux_load(const uint8_t *list, size_t list_length,
                                  const uint8_t *blocks, size_t blocks_length);
 
 /*
- * Runs blocks on one entry: accepted, violated or refused. It checks list and blocks itself, every time, and trusts no earlier
- * load: blocks of which a byte has changed since are refused. Where pollux_load passes, only the entry can be refused (19, 20).
+ * Runs blocks on one entry: accepted, violated or refused. Accepted or violated: value is the steps taken, one for each instruction
+ * that was carried out, without those that a skip passed over; never more than pollux_load counts. It checks list and blocks itself,
+ * every time, and trusts no earlier load: blocks of which a byte has changed since are refused. Where pollux_load passes, only the
+ * entry can be refused (19, 20).
  */
 struct pollux_answer pollux_run(const uint8_t *list, size_t list_length,
                                 const uint8_t *blocks, size_t blocks_length,
@@ -238,7 +241,7 @@ struct pollux_rechecked {
  * Rechecks an entry after an edit, given the entry before it and what pollux_judge answered then. If that was the old entry's
  * judgement, the result is the new entry's. Four numbers that are no answer of a judgement (says above 2; accepted or violated with
  * another number than 0 beside it; refused with a number above 255, or in none of the five inputs) count as refused with 20 at byte 0
- * of the entry.
+ * of the entry. So what pollux_run answered is handed in without its steps, with value 0.
  */
 struct pollux_rechecked pollux_recheck(const uint8_t *text, size_t text_length,
                                        const uint8_t *list, size_t list_length,

@@ -4,7 +4,7 @@
  *   switch KEYS BLOCKS ENTRIES     the key list, the blocks, and entries end to end, each a file of bytes
  *   switch                         a small table that is built in
  *
- * For each entry a line: accepted, violated, or refused with the number, the input and the byte offset in it.
+ * For each entry a line: accepted or violated with the steps of the run, or refused with the number, the input and the byte offset in it.
  * Status: 0 the entries were judged, 2 the table does not load, 3 wrong usage or a file that cannot be read.
  */
 #include <inttypes.h>
@@ -22,13 +22,19 @@ struct table {
     size_t entry_size;
 };
 
-static void print_answer(struct pollux_answer answer)
+static void print_refusal(struct pollux_answer answer)
 {
     static const char *const inputs[] = { "nowhere", "text", "list", "entry", "blocks", "buffer" };
+    printf("refused %" PRIu64 " %s %" PRIu64 "\n", answer.number, inputs[answer.input], answer.value);
+}
+
+static void print_answer(struct pollux_answer answer)
+{
     if (answer.says == POLLUX_REFUSED)
-        printf("refused %" PRIu64 " %s %" PRIu64 "\n", answer.number, inputs[answer.input], answer.value);
+        print_refusal(answer);
     else
-        printf("%s\n", answer.says == POLLUX_ACCEPTED ? "accepted" : "violated");
+        printf("%s in %" PRIu64 " %s\n", answer.says == POLLUX_ACCEPTED ? "accepted" : "violated", answer.value,
+               answer.value == 1 ? "step" : "steps");
 }
 
 /* Once, when the table is set up. A table that does not load must not be used. */
@@ -64,7 +70,7 @@ static int run_table(struct bytes list, struct bytes blocks, struct bytes entrie
     struct pollux_answer loaded = open_table(&table, list, blocks);
     if (loaded.says == POLLUX_REFUSED) {
         printf("the table does not load: ");
-        print_answer(loaded);
+        print_refusal(loaded);
         return 2;
     }
     judge_all(&table, entries);

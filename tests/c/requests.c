@@ -217,11 +217,21 @@ static bool fits_call(unsigned call, struct told answer)
     switch (answer.says) {
     case POLLUX_REFUSED: return answer.number >= 1 && answer.input >= POLLUX_TEXT && answer.input <= POLLUX_BUFFER;
     case POLLUX_ACCEPTED:
-    case POLLUX_VIOLATED: return judges && answer.number == 0 && answer.input == 0 && answer.value == 0;
+    case POLLUX_VIOLATED: return judges && answer.number == 0 && answer.input == 0 && (call == RUN || answer.value == 0);
     case POLLUX_DONE:
         return !judges && answer.number == 0 && answer.input == 0 && ((call != CHECK && call != SUMMARIZE) || answer.value == 0);
     default: return false;
     }
+}
+
+/* A run takes a step at least, and never more than there are instructions, of which each block tells the number. */
+static bool fits_steps(const struct request *request, struct told answer)
+{
+    enum { TOTAL_AT = 504 };
+    if (request->call != RUN || answer.says == POLLUX_REFUSED)
+        return true;
+    const uint8_t *total = request->inputs[1].at + TOTAL_AT;
+    return answer.value >= 1 && answer.value <= ((uint64_t)total[0] << 8 | total[1]);
 }
 
 /* What an explanation must show: a part of the text for a violated entry, a key for one refused with 20 at a record, else nothing. */
@@ -279,6 +289,8 @@ static void add_answer(char line[LINE_SIZE], unsigned call, struct told answer)
         ADD(line, "%s %" PRIu64, counted[call], answer.value);
     else
         ADD(line, "%s", answer.says == POLLUX_DONE ? "passed" : answer.says == POLLUX_ACCEPTED ? "accepted" : "violated");
+    if (call == RUN && answer.says != POLLUX_REFUSED)
+        ADD(line, " %" PRIu64, answer.value);
 }
 
 static void add_piece(char line[LINE_SIZE], struct told answer, struct input input)
@@ -316,7 +328,7 @@ static void add_odd(char line[LINE_SIZE], struct told answer)
 void answer_line(char line[LINE_SIZE], const struct request *request, struct told answer)
 {
     line[0] = '\0';
-    if (!fits_call(request->call, answer) || !fits_shown(request, answer) || !fits_named(request, answer))
+    if (!fits_call(request->call, answer) || !fits_steps(request, answer) || !fits_shown(request, answer) || !fits_named(request, answer))
         add_odd(line, answer);
     else if (request->call == EXPLAIN)
         add_explanation(line, request, answer);

@@ -3,8 +3,9 @@
  *
  * A request is a byte for the call and three inputs, each a length of 4 bytes, big-endian, and its bytes; a call that has fewer
  * inputs finds the rest empty. The third input of a recheck is made of a byte for the earlier answer, the old entry's length in 4
- * bytes, the old entry and the new one, which are two inputs here. The line of a translation or a print ends in the Adler-32 sum of
- * the buffer as it stands after the call, and that of an explanation in the sum of the piece that is shown.
+ * bytes, the old entry and the new one, which are two inputs here. The line of a verdict by blocks ends in the steps of the run, that of a
+ * translation or a print in the Adler-32 sum of the buffer as it stands after the call, and that of an explanation in the sum of the
+ * piece that is shown.
  */
 #ifndef REQUESTS_H
 #define REQUESTS_H

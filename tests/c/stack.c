@@ -75,9 +75,23 @@ static size_t repeat(uint8_t *text, const char *piece, size_t times)
     return times * length;
 }
 
+static uint8_t entry[POLLUX_PRIORITY_SIZE], buffer[POLLUX_MAX_BLOCKS_SIZE];
+
+/* The blocks of a translation, if that passes. */
+static void measure_blocks(const struct request *translation)
+{
+    struct told written = make_call(&pollux_calls, translation);
+    if (written.says != POLLUX_DONE)
+        return;
+    struct input blocks = { buffer, POLLUX_BLOCKS_SIZE(written.value) };
+    struct request request = { .call = LOAD, .inputs = { { entry, 0 }, blocks, { entry, sizeof entry }, { entry, 0 } } };
+    measure(&request);
+    request.call = RUN;
+    measure(&request);
+}
+
 static void measure_text(uint8_t *text, size_t length)
 {
-    static uint8_t entry[POLLUX_PRIORITY_SIZE], buffer[POLLUX_MAX_BLOCKS_SIZE];
     struct request request = { .inputs = { { text, length }, { entry, 0 }, { entry, sizeof entry }, { entry, 0 } } };
     for (request.call = READ; request.call <= JUDGE; request.call++)
         measure(&request);
@@ -93,6 +107,7 @@ static void measure_text(uint8_t *text, size_t length)
     request.inputs[2] = (struct input){ buffer, sizeof buffer };
     request.call = TRANSLATE;
     measure(&request);
+    measure_blocks(&request);
     request.call = PRINT;
     measure(&request);
 }

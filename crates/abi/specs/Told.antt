@@ -1,5 +1,5 @@
 -- An answer of the paper as four numbers: what it says (0 refused, 1 accepted, 2 violated, 3 passed, read, written, loaded or printed), the
--- refusal's number or 0, its input (0 none, 1 text, 2 list, 3 entry, 4 blocks, 5 buffer), and the offset, or the count, or 0.
+-- refusal's number or 0, its input (0 none, 1 text, 2 list, 3 entry, 4 blocks, 5 buffer), and the offset, or the count, or the steps, or 0.
 --
 -- A reason as eight: the four of the judgement, and the number of the part that is shown, or 0; the place of its root in the text, or of the
 -- key's record in the entry; and the start and length of its stretch of the text, or of the name in the list. Where nothing is shown these are 0.
@@ -13,7 +13,7 @@ use mathlib.Core.Bool.{Bool, true, false, cond}
 use lib.Count.{ones}
 use lib.Dec.{eqb}
 use mathlib.Core.List.{List}
-use Rattle.paper.specs.Answers.{Answer, ok, refused, Input, inText, inList, inEntry, inBlocks, inBuffer, readingSays, checkingSays, judgementSays, translationSays, loadingSays, printingSays}
+use Rattle.paper.specs.Answers.{Answer, ok, refused, Input, inText, inList, inEntry, inBlocks, inBuffer, Ran, readingSays, checkingSays, judgementSays, translationSays, loadingSays, runningSays, printingSays}
 use Rattle.paper.specs.Code.{bit}
 use Rattle.paper.specs.Explained.{Reason, inPart, atKey, nothingToShow, keyIndex, stretchFrom, explanationSays}
 use Rattle.paper.specs.ExplainedRight.{judgementOf}
@@ -53,12 +53,17 @@ counted = told done
 abbrev pub passed : Answer (Unit {0}) → PolluxAnswer
 passed = told (λ _. done 0)
 
-abbrev pub verdict : Bool → PolluxAnswer
-verdict true = record { says = 1; number = 0; input = 0; value = 0 }
-verdict false = record { says = 2; number = 0; input = 0; value = 0 }
+-- a verdict, after so many steps
+abbrev pub verdictAfter : ℕ → Bool → PolluxAnswer
+verdictAfter steps true = record { says = 1; number = 0; input = 0; value = steps }
+verdictAfter steps false = record { says = 2; number = 0; input = 0; value = steps }
 
+-- a judgement from the text takes none
 abbrev pub judged : Answer Bool → PolluxAnswer
-judged = told verdict
+judged = told (verdictAfter 0)
+
+abbrev pub ran : Answer Ran → PolluxAnswer
+ran = told (λ r. verdictAfter (r .steps) (r .accepted))
 
 -- what is shown, beside the judgement
 
@@ -131,7 +136,7 @@ abbrev pub LoadTold : List ℕ → List ℕ → PolluxAnswer → Type 0
 LoadTold list blocks = Tells (LoadPromised list blocks) (λ r. counted (loadingSays r))
 
 abbrev pub RunTold : List ℕ → List ℕ → List ℕ → PolluxAnswer → Type 0
-RunTold list blocks entry = Tells (RunPromised list blocks entry) (λ r. judged (judgementSays r))
+RunTold list blocks entry = Tells (RunPromised list blocks entry) (λ r. ran (runningSays r))
 
 -- with what the buffer holds at exit
 abbrev pub PrintTold : List ℕ → List ℕ → List ℕ → PolluxAnswer → Type 0
@@ -173,6 +178,12 @@ heard means p = cond (eqb (p .says) 0) (refused (p .number) (inputFrom (p .input
 abbrev pub heardJudged : PolluxAnswer → Answer Bool
 heardJudged = heard (λ p. eqb (p .says) 1)
 
+abbrev pub ranIn : PolluxAnswer → Ran
+ranIn p = record { accepted = eqb (p .says) 1; steps = p .value }
+
+abbrev pub heardRan : PolluxAnswer → Answer Ran
+heardRan = heard ranIn
+
 abbrev pub answerIn : PolluxReason → PolluxAnswer
 answerIn p = record { says = p .says; number = p .number; input = p .input; value = p .value }
 
@@ -203,6 +214,7 @@ pub record TellsAll : Type 0 where
   pub counts : (x : Answer ℕ) → heard (λ p. p .value) (counted x) ≡ x
   pub passes : (x : Answer (Unit {0})) → heard (λ _. tt) (passed x) ≡ x
   pub verdicts : (x : Answer Bool) → heardJudged (judged x) ≡ x
+  pub runs : (x : Answer Ran) → heardRan (ran x) ≡ x
   pub reasons : (text list entry : List ℕ) (r : Explanation) → ExplainPromised text list entry r
       → heardReason (reasoned (explanationSays r)) ≡ explanationSays r
   pub summaries : (x : Answer Summary) → heardSummary (summarized x) ≡ x

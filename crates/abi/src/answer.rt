@@ -1,13 +1,14 @@
 // An answer as four numbers.
 ghost use mathlib.Core.Path.{_≡_};
-ghost use Rattle.paper.specs.Answers.{inputOf, offsetOf, readingSays, checkingSays, judgementSays, translationSays, loadingSays, printingSays};
-ghost use Rattle.abi.specs.Told.{turnedAway, counted, passed, judged};
+ghost use Rattle.paper.specs.Answers.{inputOf, offsetOf, readingSays, checkingSays, judgementSays, translationSays, loadingSays, runningSays, printingSays};
+ghost use Rattle.abi.specs.Told.{turnedAway, counted, passed, judged, ran};
 use paper::Checking;
 use paper::Judgement;
 use paper::Loading;
 use paper::Place;
 use paper::Printing;
 use paper::Reading;
+use paper::Running;
 use paper::Translation;
 
 #[repr(C)]
@@ -95,6 +96,16 @@ pub(crate) fn of_loading(r: Loading) -> PolluxAnswer
     match r {
         Loading::Loaded(n) => answer(3, n),
         Loading::Refused(number, place) => refusal(number, place),
+    }
+}
+
+pub(crate) fn of_running(r: Running) -> PolluxAnswer
+    ensures { λ a. ⌜ a ≡ ran (runningSays r) ⌝ }
+{
+    match r {
+        Running::Accepted(steps) => answer(1, steps),
+        Running::Violated(steps) => answer(2, steps),
+        Running::Refused(number, place) => refusal(number, place),
     }
 }
 

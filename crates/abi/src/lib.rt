@@ -55,12 +55,12 @@ pub extern "C" fn pollux_load(list: &[u8], blocks: &[u8]) -> PolluxAnswer
     answer::of_loading(valve::load(list, blocks))
 }
 
-// What the blocks say of an entry.
+// What the blocks say of an entry, and how many instructions were carried out.
 #[no_mangle]
 pub extern "C" fn pollux_run(list: &[u8], blocks: &[u8], entry: &[u8]) -> PolluxAnswer
     ensures { λ r. ⌜ RunTold (now (list .entry)) (now (blocks .entry)) (now (entry .entry)) r ⌝ }
 {
-    answer::of_judgement(valve::run(list, blocks, entry))
+    answer::of_running(valve::run(list, blocks, entry))
 }
 
 // How many bytes the text's print has, which stands in the buffer.

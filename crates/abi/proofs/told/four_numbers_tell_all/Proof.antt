@@ -7,7 +7,7 @@ use mathlib.Core.Bool.{Bool, true, false}
 use mathlib.Core.List.{List}
 use lib.Dec.{eqb}
 use borrow.Author.Tests.{ne-eqb}
-use Rattle.paper.specs.Answers.{Answer, ok, refused, Input, inText, inList, inEntry, inBlocks, inBuffer, judgementSays}
+use Rattle.paper.specs.Answers.{Answer, ok, refused, Input, inText, inList, inEntry, inBlocks, inBuffer, Ran, judgementSays}
 use Rattle.paper.specs.declared.Explanation.{Explanation}
 use Rattle.paper.specs.declared.Explanation.the-variants as X
 use Rattle.paper.specs.Parts.{Stretch}
@@ -20,7 +20,7 @@ use Rattle.paper.specs.Rechecking.{Rechecked, reused}
 use Rattle.paper.specs.Promised.{ExplainPromised}
 use Rattle.paper.proofs.ExplainedRight.{explained-is-right, pieces-in-inputs}
 use Rattle.abi.specs.declared.answer.PolluxAnswer.{PolluxAnswer}
-use Rattle.abi.specs.Told.{turnedAway, told, judged, reasoned, summarized, rechecked, verdict, done, heard, heardJudged, heardReason, heardSummary, heardRecheck, TellsAll}
+use Rattle.abi.specs.Told.{turnedAway, told, judged, ran, reasoned, summarized, rechecked, verdictAfter, done, heard, heardJudged, ranIn, heardRan, heardReason, heardSummary, heardRecheck, TellsAll}
 use Rattle.abi.proofs.told.four_numbers_tell_all.Statement.{statement}
 use Rattle.abi.proofs.told.four_numbers_tell_all.Tie as tie
 
@@ -38,12 +38,20 @@ all-heard : {A : Type 0} (means : PolluxAnswer → A) (say : A → PolluxAnswer)
 all-heard means say good (ok a) = good a
 all-heard means say good (refused n i at) = refusal-heard means n i at
 
-verdict-heard : (b : Bool) → heardJudged (verdict b) ≡ ok b
-verdict-heard true = refl
-verdict-heard false = refl
+-- a verdict, whatever steps it took, and these with it
+verdict-heard : (steps : ℕ) (b : Bool) → heardJudged (verdictAfter steps b) ≡ ok b
+verdict-heard steps true = refl
+verdict-heard steps false = refl
 
 judged-heard : (x : Answer Bool) → heardJudged (judged x) ≡ x
-judged-heard = all-heard (λ p. eqb (p .says) 1) verdict verdict-heard
+judged-heard = all-heard (λ p. eqb (p .says) 1) (verdictAfter 0) (verdict-heard 0)
+
+steps-heard : (steps : ℕ) (b : Bool) → heardRan (verdictAfter steps b) ≡ ok (record { accepted = b; steps = steps })
+steps-heard steps true = refl
+steps-heard steps false = refl
+
+run-heard : (x : Answer Ran) → heardRan (ran x) ≡ x
+run-heard = all-heard ranIn (λ r. verdictAfter (r .steps) (r .accepted)) (λ r. steps-heard (r .steps) (r .accepted))
 
 -- a reason
 
@@ -86,6 +94,7 @@ tells-all =
       counts = all-heard (λ p. p .value) done (λ _. refl);
       passes = all-heard (λ _. tt) (λ _. done 0) (λ _. refl);
       verdicts = judged-heard;
+      runs = run-heard;
       reasons = reason-heard;
       summaries = summary-heard;
       rechecks = recheck-heard;

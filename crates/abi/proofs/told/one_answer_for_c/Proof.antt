@@ -2,7 +2,7 @@
 use mathlib.Core.Path.{_≡_, refl, sym, ap, _∙_}
 use mathlib.Core.List.{List}
 use Prim.Native.Nat.{ℕ}
-use Rattle.paper.specs.Answers.{readingSays, checkingSays, judgementSays, translationSays, loadingSays, printingSays}
+use Rattle.paper.specs.Answers.{readingSays, checkingSays, judgementSays, translationSays, loadingSays, runningSays, printingSays}
 use Rattle.paper.specs.Explained.{explanationSays}
 use Rattle.paper.specs.Named.{summarizingSays}
 use Rattle.paper.specs.Rechecking.{recheckingSays}
@@ -10,7 +10,7 @@ use Rattle.paper.specs.Promised.{TranslateResult, TranslatePromised, PrintResul
 use Rattle.paper.proofs.Promised.{no-second-result}
 use Rattle.abi.specs.declared.answer.PolluxAnswer.{PolluxAnswer}
 use Rattle.abi.specs.Heard.{heardAs}
-use Rattle.abi.specs.Told.{counted, passed, judged, reasoned, summarized, rechecked, Tells, OneAnswerForC}
+use Rattle.abi.specs.Told.{counted, passed, judged, ran, reasoned, summarized, rechecked, Tells, OneAnswerForC}
 use Rattle.abi.proofs.told.one_answer_for_c.Statement.{statement}
 use Rattle.abi.proofs.told.one_answer_for_c.Tie as tie
 
@@ -46,7 +46,7 @@ one-answer =
           told-with-buffer (λ r s. record { answer = r; buffer = s }) (λ (r : TranslateResult). r .answer) (λ (r : TranslateResult). r .buffer) (λ r s. refl) (λ r s. refl)
           (TranslatePromised text list buffer) (λ r. counted (translationSays r)) (one .translate text list buffer);
       load = λ list blocks. told-once _ (λ r. counted (loadingSays r)) (one .load list blocks);
-      run = λ list blocks entry. told-once _ (λ r. judged (judgementSays r)) (one .run list blocks entry);
+      run = λ list blocks entry. told-once _ (λ r. ran (runningSays r)) (one .run list blocks entry);
       print = λ text buffer.
           told-with-buffer (λ r s. record { answer = r; buffer = s }) (λ (r : PrintResult). r .answer) (λ (r : PrintResult). r .buffer) (λ r s. refl) (λ r s. refl)
           (PrintPromised text buffer) (λ r. counted (printingSays r)) (one .print text buffer);

@@ -63,7 +63,7 @@ fn reading_call(call: u8, first: &[u8], second: &[u8], third: &[u8]) {
         CHECK => lines::say_checking(valve::check(first, second)),
         JUDGE => lines::say_judgement(valve::judge(first, second, third)),
         LOAD => lines::say_loading(valve::load(first, second)),
-        RUN => lines::say_judgement(valve::run(first, second, third)),
+        RUN => lines::say_running(valve::run(first, second, third)),
         EXPLAIN => explain(first, second, third),
         SUMMARIZE => summarize(first, second),
         RECHECK => changes::recheck(first, second, third),

@@ -1,7 +1,8 @@
 // What the calls answer, in the words of a line on standard output: `read N`, `passed`, `accepted`, `violated`, `translated N`,
-// `loaded N`, `printed N`, or `refused NUMBER INPUT OFFSET` with INPUT one of text, list, entry, blocks, buffer. What broke for an entry is
-// `part NUMBER at OFFSET START LENGTH`, `key at OFFSET START LENGTH`, or `nothing ` and what was judged. What a text names is
-// `summary BITS MARK`, and a recheck `reused ` or `judged ` and what was judged. The programs share these words.
+// `loaded N`, `printed N`, or `refused NUMBER INPUT OFFSET` with INPUT one of text, list, entry, blocks, buffer. A run tells
+// its steps too, `accepted STEPS` or `violated STEPS`. What broke for an entry is `part NUMBER at OFFSET START LENGTH`,
+// `key at OFFSET START LENGTH`, or `nothing ` and what was judged. What a text names is `summary BITS MARK`, and a recheck `reused ` or
+// `judged ` and what was judged. The programs share these words.
 //
 // These only write, and a line's end is written by the caller. `start` is for programs that fill a room and use as much of it as they
 // filled.
@@ -17,6 +18,7 @@ use paper::Place;
 use paper::Printing;
 use paper::Reading;
 use paper::Rechecking;
+use paper::Running;
 use paper::Summarizing;
 use paper::Translation;
 
@@ -63,7 +65,7 @@ pub fn say_checking(checking: Checking) {
     }
 }
 
-// Writes what `judge` or `run` answered.
+// Writes what `judge` answered.
 pub fn say_judgement(judgement: Judgement) {
     match judgement {
         Judgement::Accepted => say(b"accepted"),
@@ -85,6 +87,15 @@ pub fn say_loading(loading: Loading) {
     match loading {
         Loading::Loaded(n) => say_count(b"loaded ", n),
         Loading::Refused(number, place) => say_refused(number, place),
+    }
+}
+
+// Writes what `run` answered, with the steps that it took.
+pub fn say_running(running: Running) {
+    match running {
+        Running::Accepted(steps) => say_count(b"accepted ", steps),
+        Running::Violated(steps) => say_count(b"violated ", steps),
+        Running::Refused(number, place) => say_refused(number, place),
     }
 }
 

@@ -1,10 +1,14 @@
 // Entries that stand end to end in a file: each is judged as it comes, through one buffer.
 ghost use Prim.Native.Nat.{_+_, _≤_, _<_};
+ghost use mathlib.Core.Path.{_≡_};
 ghost use lib.ListN.{length};
-ghost use Rattle.pollux.specs.Tallies.{total, mostCounted};
+ghost use Rattle.paper.specs.Answers.{judgementSays};
+ghost use Rattle.pollux.specs.Tallies.{total, mostCounted, judgementTold};
 use crate::broken::judged_as;
 use crate::broken::say_judged;
 use crate::files::at_end;
+use crate::ran::judged_by;
+use crate::ran::say_ran;
 use crate::say::cannot_read;
 use crate::sizes::entry_end;
 use crate::sizes::entry_size;
@@ -12,6 +16,8 @@ use crate::sizes::whole_entries;
 use crate::tally::Tally;
 use crate::tally::say_tally;
 use paper::Explanation;
+use paper::Judgement;
+use paper::Running;
 
 // How entries are judged: by a text, without a word of what broke or with one, or by blocks.
 pub enum Way {
@@ -20,12 +26,34 @@ pub enum Way {
     Run,
 }
 
-// What is said of an entry, by a text or blocks.
-fn answered(way: Way, rule: &[u8], list: &[u8], entry: &[u8]) -> Explanation {
+// What is told of an entry: by a text, with what broke if that is asked for, or by blocks, with the steps of the run.
+pub enum Told {
+    Why(Explanation),
+    Ran(Running),
+}
+
+fn answered(way: Way, rule: &[u8], list: &[u8], entry: &[u8]) -> Told {
     match way {
-        Way::Judge => Explanation::Nothing(valve::judge(rule, list, entry)),
-        Way::Explain => valve::reason(rule, list, entry),
-        Way::Run => Explanation::Nothing(valve::run(list, rule, entry)),
+        Way::Judge => Told::Why(Explanation::Nothing(valve::judge(rule, list, entry))),
+        Way::Explain => Told::Why(valve::reason(rule, list, entry)),
+        Way::Run => Told::Ran(valve::run(list, rule, entry)),
+    }
+}
+
+fn judgement_in(told: Told) -> Judgement
+    ensures { λ r. ⌜ judgementSays r ≡ judgementTold told ⌝ }
+{
+    match told {
+        Told::Why(why) => judged_as(why),
+        Told::Ran(running) => judged_by(running),
+    }
+}
+
+// Entry n, in words.
+fn say_told(n: usize, told: Told, rule: &[u8], list: &[u8]) {
+    match told {
+        Told::Why(why) => say_judged(n, why, rule, list),
+        Told::Ran(running) => say_ran(n, running),
     }
 }
 
@@ -40,9 +68,9 @@ fn judge_held(way: Way, rule: &[u8], list: &[u8], part: &[u8], got: usize, befor
     let mut at = 0;
     while at < got {
         let to = entry_end(at, size, got);
-        let why = answered(way, rule, list, &part[at..to]);
-        tally = tally.count(judged_as(why));
-        say_judged(tally.entries(), why, rule, list);
+        let told = answered(way, rule, list, &part[at..to]);
+        tally = tally.count(judgement_in(told));
+        say_told(tally.entries(), told, rule, list);
         at = to;
     }
     tally

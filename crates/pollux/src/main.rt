@@ -3,15 +3,16 @@
 //
 // Each answer is a line on standard output whose first word is passed, translated, loaded, printed, named, accepted, violated, refused,
 // cannot or usage; the script `pollux` at the root makes an exit status of it. A refusal of a text is followed by the line and a caret under
-// the place, what broke for an entry by the line and carets under the part, or by the key's name. Files may have any length: a place that
-// is a length is the file's true length, and entries stream through one buffer. No output file is touched unless the whole call passes, and
-// it is written whole or not at all.
+// the place, what broke for an entry by the line and carets under the part, or by the key's name. A run tells how many steps each entry took.
+// Files may have any length: a place that is a length is the file's true length, and entries stream through one buffer. No output file is
+// touched unless the whole call passes, and it is written whole or not at all.
 mod broken;
 mod calls;
 mod caret;
 mod entries;
 mod files;
 mod named;
+mod ran;
 mod reasons;
 mod rechecks;
 mod refusals;

@@ -56,9 +56,9 @@ a field that a key of this kind does not have, or an unknown attribute
 an operator with operands of the wrong types
 the text as a whole is not a bool
 the buffer is too small for the blocks
-the blocks' length is 0, not a multiple of 512, or over 82 blocks
+the blocks' length is 0, not a multiple of 512, or over 123 blocks
 a block that breaks its layout
-an instruction that fails the load check
+an instruction that fails the load check, or a skip whose landing does not fit
 the entry's length is not that of an entry for the key list
 a priority of 2^31 or more
 the print has more than 4,096 bytes

@@ -1,4 +1,4 @@
--- Up to 82 blocks are the bytes that they take; what is more is all of the buffer.
+-- Up to 123 blocks are the bytes that they take; what is more is all of the buffer.
 use mathlib.Core.Path.{_∙_}
 use borrow.Author.Needs.{needs}
 use borrow.Author.Tests.{le-leb, lt-leb}

@@ -121,7 +121,7 @@ fn answer(call: usize, text: &[u8], list: &[u8], entry: &[u8], room: &[u8]) {
         EXPLAIN => explain(text, list, entry),
         SUMMARIZE => summarize(text, list),
         LOAD => lines::say_loading(valve::load(list, room)),
-        _ => lines::say_judgement(valve::run(list, room, entry)),
+        _ => lines::say_running(valve::run(list, room, entry)),
     }
 }
 

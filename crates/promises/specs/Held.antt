@@ -7,8 +7,11 @@ use Rattle.paper.specs.declared.Judgement.{Judgement}
 use Rattle.paper.specs.declared.Translation.{Translation}
 use Rattle.paper.specs.declared.Translation.the-variants as T
 use Rattle.paper.specs.declared.Loading.{Loading}
+use Rattle.paper.specs.declared.Running.{Running}
 use Rattle.paper.specs.declared.Printing.{Printing}
-use Rattle.paper.specs.Promised.{JudgePromised, TranslateResult, TranslatePromised, LoadPromised, RunPromised, PrintResult}
+use Rattle.paper.specs.Answers.{runningSays}
+use Rattle.paper.specs.TranslationCorrect.{judgedInSteps}
+use Rattle.paper.specs.Promised.{judgementOfRun, JudgePromised, TranslateResult, TranslatePromised, LoadPromised, RunPromised, PrintResult}
 use Rattle.paper.specs.Demands.{TranslateAnswered, blocksWritten, Carried}
 use Rattle.promises.specs.declared.calls.Carrying.{Carrying}
 use Rattle.promises.specs.declared.calls.Carrying.the-variants as W
@@ -21,14 +24,16 @@ gave r exit = record { answer = r; buffer = exit }
 abbrev pub lent : Printing → List ℕ → PrintResult
 lent r exit = record { answer = r; buffer = exit }
 
--- each answer keeps its call's promise; the blocks load with the number returned, and say of the entry what the text says
-pub record Held (text list entry buffer exit : List ℕ) (n : ℕ) (loaded : Loading) (ran judged : Judgement) : Type 0 where
+-- each answer keeps its call's promise; the blocks load with the number returned, and say of the entry what the text says, in the steps that
+-- are counted over its tree
+pub record Held (text list entry buffer exit : List ℕ) (n : ℕ) (loaded : Loading) (ran : Running) (judged : Judgement) : Type 0 where
   pub translate : TranslatePromised text list buffer (gave (T.Written n) exit)
   pub load : LoadPromised list (blocksWritten n exit) loaded
   pub run : RunPromised list (blocksWritten n exit) entry ran
   pub judge : JudgePromised text list entry judged
   pub carried : Carried buffer exit n loaded
-  pub alike : ran ≡ judged
+  pub alike : judgementOfRun ran ≡ judged
+  pub steps : runningSays ran ≡ judgedInSteps text list entry
 
 abbrev pub Carries : List ℕ → List ℕ → List ℕ → List ℕ → List ℕ → Carrying → Type 0
 Carries text list entry buffer exit (W.Refused n at) = TranslateAnswered text list buffer (gave (T.Refused n at) exit)

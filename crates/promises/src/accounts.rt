@@ -1,6 +1,7 @@
 // The promises of the public calls, held to account.
 ghost use Rattle.paper.specs.Promised.{NoSecondResult, CanBeKept};
 ghost use Rattle.paper.specs.WrongPrints.{WrongPrintsFail};
+ghost use Rattle.paper.specs.WrongRunners.{WrongRunnersFail};
 ghost use Rattle.paper.specs.WrongPrograms.{WrongProgramsExist, WrongProgramsFail, NoWrongProgram, PaddingSeen};
 
 // For all inputs one result keeps the promise of a call, and no second; of `translate` and `print`, one answer with one buffer at exit.
@@ -18,11 +19,12 @@ pub fn wrong_programs_exist()
     ensures { λ _. ⌜ WrongProgramsExist ⌝ }
 {}
 
-// A judge that refuses or accepts everything, a translator that writes nothing or only the first part, that wants 82 blocks or invents its
+// A judge that refuses or accepts everything, a translator that writes nothing or only the first part, that wants all blocks or invents its
 // count, a loader that passes nothing or all that is laid out well, a printer that copies the text, leaves out or puts in all parentheses,
 // writes "&&" for ";", every numeral in decimal or addresses in hex, an explainer that names the last false part, follows the tree's left spine
 // or shows a key for a bad priority, a recheck that never reuses, always does, asks for equal entries, forgets the priority or compares readings,
-// a summary that counts ::priority or misses the key of a field: each fails a demand, or refusal 18.
+// a summary that counts ::priority or misses the key of a field, a run that reports the code's instructions as its steps or whose skips leave the
+// old bool, a load check that compares the heights of landings: each fails a demand, or refusal 18.
 pub fn wrong_programs_fail()
     ensures { λ _. ⌜ WrongProgramsFail ⌝ }
 {}
@@ -41,4 +43,10 @@ pub fn padding_is_seen()
 // writes every numeral in decimal, one that writes addresses in hex: each fails what is asked of a print.
 pub fn wrong_printers_fail()
     ensures { λ _. ⌜ WrongPrintsFail ⌝ }
+{}
+
+// A run that reports the code's instructions as its steps, one whose skips leave the old bool, a load check that compares the heights of landings:
+// each fails what is asked of a run or a load.
+pub fn wrong_runners_fail()
+    ensures { λ _. ⌜ WrongRunnersFail ⌝ }
 {}

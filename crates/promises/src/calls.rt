@@ -11,6 +11,7 @@ use paper::Place;
 use paper::Printing;
 use paper::Reading;
 use paper::Rechecking;
+use paper::Running;
 use paper::Summarizing;
 use paper::Translation;
 
@@ -54,7 +55,7 @@ pub fn load(list: &[u8], blocks: &[u8]) -> Loading
 }
 
 // Demands 1 and 2 of `run`.
-pub fn run(list: &[u8], blocks: &[u8], entry: &[u8]) -> Judgement
+pub fn run(list: &[u8], blocks: &[u8], entry: &[u8]) -> Running
     ensures { λ r. ⌜ RunAnswered (now (list .entry)) (now (blocks .entry)) (now (entry .entry)) r ⌝ }
     ensures { λ r. ⌜ RanRight (now (list .entry)) (now (blocks .entry)) (now (entry .entry)) r ⌝ }
 {
@@ -98,7 +99,7 @@ pub enum Carrying {
     // No blocks were written: the refusal.
     Refused(u8, Place),
     // So many instructions; what loading the blocks answers, what running them answers, and what judging the text answers.
-    Written(usize, Loading, Judgement, Judgement),
+    Written(usize, Loading, Running, Judgement),
 }
 
 // Demand 3: a text is translated into the buffer, its blocks are loaded from there and run on an entry, and the text is judged on it.

@@ -15,6 +15,7 @@ ghost use Rattle.paper.specs.MeaningExamples.{MeaningExamples};
 ghost use Rattle.paper.specs.BlockExamples.{BlockExamples};
 ghost use Rattle.paper.specs.InstructionExamples.{InstructionExamples};
 ghost use Rattle.paper.specs.TranslationExamples.{TranslationExamples};
+ghost use Rattle.paper.specs.SkipExamples.{SkipExamples};
 ghost use Rattle.paper.specs.PrintExamples.{PrintExamples};
 ghost use Rattle.paper.specs.PartExamples.{PartExamples};
 ghost use Rattle.paper.specs.SummaryExamples.{SummaryExamples};
@@ -111,9 +112,14 @@ pub fn examples_of_instructions()
     ensures { λ _. ⌜ InstructionExamples ⌝ }
 {}
 
-// Texts with their instructions, every instruction byte for byte, and what a buffer holds afterwards.
+// Texts with their instructions and steps, every instruction byte for byte, and what a buffer holds afterwards.
 pub fn examples_of_translations()
     ensures { λ _. ⌜ TranslationExamples ⌝ }
+{}
+
+// The bytes of skips and what can be read as one, landings that fit and that do not, and runs with their steps.
+pub fn examples_of_skips()
+    ensures { λ _. ⌜ SkipExamples ⌝ }
 {}
 
 // Texts with their prints, every operator on each side of every other, numerals in each base, and what is lent.

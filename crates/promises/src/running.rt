@@ -1,14 +1,20 @@
 // Running what loads.
-ghost use Rattle.paper.specs.LoadedBlocksRun.{CheckIsRun, LoadedRuns};
+ghost use Rattle.paper.specs.LoadedBlocksRun.{CheckIsRun, OlderCode, LoadedRuns};
 ghost use Rattle.paper.specs.TranslationCorrect.{LoadedAnswers};
 ghost use Rattle.paper.specs.TypeSoundness.{ValuesHaveTypes, Judged};
 
-// The load check is the run seen through types: it refuses nothing that would run well-typed.
+// Where nothing is passed over, following the types is the run seen through types: they fail nothing that would run well-typed.
 pub fn load_check_is_the_run()
     ensures { λ _. ⌜ CheckIsRun ⌝ }
 {}
 
-// Blocks that load run on every conforming entry to accepted or violated, each instruction once, never missing an operand, never holding more than 384 values.
+// Code without skips is checked and run as document 01 has it: each instruction once, so in as many steps as there are instructions.
+pub fn older_code_runs_as_before()
+    ensures { λ _. ⌜ OlderCode ⌝ }
+{}
+
+// Blocks that load run on every conforming entry to accepted or violated, whatever is skipped: each instruction at most once, never missing an
+// operand, never holding more than 384 values, in no more steps than there are instructions.
 pub fn loaded_blocks_run()
     ensures { λ _. ⌜ LoadedRuns ⌝ }
 {}

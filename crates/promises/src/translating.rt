@@ -1,9 +1,9 @@
 // Translating a text, and what its blocks say.
-ghost use Rattle.paper.specs.CodeCorrect.{CodeCounted, MeetsByConverting, ComparesWhereMet, CodeFits, FewHeld};
+ghost use Rattle.paper.specs.CodeCorrect.{CodeCounted, FewBesideNodes, MeetsByConverting, ComparesWhereMet, CodeFits, CodePushesType, CodePushesValue, FewHeld};
 ghost use Rattle.paper.specs.BlocksRoundTrip.{BlocksBack, PartsAgain, BytesAgain};
 ghost use Rattle.paper.specs.TranslationCorrect.{TranslationCarries, CheckedTranslates, RefusedUnchanged};
 
-// The instructions are the nodes of the tree plus the conversions.
+// The instructions are the nodes of the tree plus the conversions plus the joins.
 pub fn instructions_counted()
     ensures { λ _. ⌜ CodeCounted ⌝ }
 {}
@@ -18,9 +18,24 @@ pub fn comparisons_take_what_meets()
     ensures { λ _. ⌜ ComparesWhereMet ⌝ }
 {}
 
-// The instructions fit 82 blocks.
+// A node has at most one instruction beside its own: a conversion, or a skip.
+pub fn one_instruction_beside_a_node()
+    ensures { λ _. ⌜ FewBesideNodes ⌝ }
+{}
+
+// They are at most 2,048, so 82 blocks are room enough.
 pub fn translation_fits()
     ensures { λ _. ⌜ CodeFits ⌝ }
+{}
+
+// The code of a tree passes the load check wherever it stands, and leaves the tree's type on top of what is held.
+pub fn code_pushes_a_type()
+    ensures { λ _. ⌜ CodePushesType ⌝ }
+{}
+
+// And in a run the tree's value, in as many steps as are counted over the tree.
+pub fn code_pushes_a_value()
+    ensures { λ _. ⌜ CodePushesValue ⌝ }
 {}
 
 // A translation holds at most 326 values.
@@ -43,7 +58,8 @@ pub fn instructions_have_one_spelling()
     ensures { λ _. ⌜ BytesAgain ⌝ }
 {}
 
-// The blocks written load with the list, and running them on any entry gives the judgement of the text, refusals included.
+// The blocks written load with the list, and running them on any entry gives the judgement of the text, refusals included, in the steps that
+// are counted over its tree.
 pub fn translation_carries_the_judgement()
     ensures { λ _. ⌜ TranslationCarries ⌝ }
 {}

@@ -1,7 +1,7 @@
 -- By what is promised of the call's result.
 use borrow.Author.Needs.{needs}
 use Rattle.paper.proofs.DemandOne.{run-answered}
-use Rattle.paper.proofs.DemandTwo.{ran-right}
+use Rattle.paper.proofs.RunsRight.{ran-right}
 use Rattle.promises.proofs.calls.run.Statement.{statement}
 use Rattle.promises.proofs.calls.run.Tie as tie
 

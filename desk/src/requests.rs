@@ -2,12 +2,12 @@
 //!
 //! A request is one byte for the call (1 read, 2 check, 3 judge, 4 translate,
 //! 5 load, 6 run, 7 print, 8 explain, 9 summarize, 10 recheck) and three inputs,
-//! each a 4-byte big-endian length and its bytes. Each request gets one line. For
-//! a call that is lent a buffer, the third input is what the buffer holds before,
-//! and the line ends in the sum of what it holds after. The line of an explanation
-//! ends in the sum of the piece that it shows. The third input of a recheck is a
-//! change, the earlier answer with both entries; one that is too short for that is
-//! `malformed`.
+//! each a 4-byte big-endian length and its bytes. Each request gets one line. The
+//! line of a run ends in the steps that it took. For a call that is lent a buffer,
+//! the third input is what the buffer holds before, and the line ends in the sum of
+//! what it holds after. The line of an explanation ends in the sum of the piece that
+//! it shows. The third input of a recheck is a change, the earlier answer with both
+//! entries; one that is too short for that is `malformed`.
 
 use std::io::{self, Read, Write};
 

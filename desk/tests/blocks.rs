@@ -2,61 +2,15 @@
 
 mod common;
 
+use common::code::*;
 use common::*;
-use desk::reference::blocks::{blocks_of, check_bytes};
+use desk::reference::blocks::{blocks_of, check_bytes, BLOCK, MOST_BLOCKS};
 use desk::reference::code::Parts;
 use desk::reference::{translate, Answer};
-
-/// An instruction from its four parts.
-fn op(operation: u8, detail: u8, operand: u16, constant: u128) -> Parts {
-    Parts {
-        operation,
-        detail,
-        operand,
-        constant,
-    }
-}
-
-fn push_bool(truth: u16) -> Parts {
-    op(1, 0, truth, 0)
-}
-
-fn push_int(number: u128) -> Parts {
-    op(2, 0, 0, number)
-}
-
-fn convert(kind: u8, width: u16) -> Parts {
-    op(8, kind, width, 0)
-}
-
-const AND: u8 = 10;
-
-fn plain(operation: u8) -> Parts {
-    op(operation, 0, 0, 0)
-}
-
-/// The answer for this code against document 01's list.
-fn load_code(code: &[Parts]) -> String {
-    loading(&list(), &blocks_of(code, 5))
-}
 
 fn set_word(blocks: &mut [u8], block: usize, place: usize, number: u16) {
     let start = block * 512 + place;
     blocks[start..start + 2].copy_from_slice(&number.to_be_bytes());
-}
-
-fn repair(blocks: &mut [u8]) {
-    for block in blocks.chunks_mut(512) {
-        let check = check_bytes(block);
-        block[508..].copy_from_slice(&check);
-    }
-}
-
-/// So many instructions that load: a bool, and "not" again and again.
-fn nots(count: usize) -> Vec<Parts> {
-    let mut code = vec![plain(6); count];
-    code[0] = push_bool(1);
-    code
 }
 
 #[test]
@@ -119,13 +73,19 @@ fn conversions_stand_directly_after_the_operand() {
 
 #[test]
 fn every_operation() {
-    assert_eq!(heads("true; false"), [(1, 0, 1), (1, 0, 0), (10, 0, 0)]);
+    assert_eq!(
+        heads("true; false"),
+        [(1, 0, 1), (13, 0, 2), (1, 0, 0), (10, 0, 0)]
+    );
     assert_eq!(heads("true && false"), heads("true; false"));
     assert_eq!(
         heads("true || !false"),
-        [(1, 0, 1), (1, 0, 0), (6, 0, 0), (11, 0, 0)]
+        [(1, 0, 1), (13, 1, 3), (1, 0, 0), (6, 0, 0), (11, 0, 0)]
     );
-    assert_eq!(heads("true -> false"), [(1, 0, 1), (1, 0, 0), (12, 0, 0)]);
+    assert_eq!(
+        heads("true -> false"),
+        [(1, 0, 1), (13, 0, 2), (1, 0, 0), (12, 0, 0)]
+    );
     for (operator, detail) in [
         ("==", 0),
         ("!=", 1),
@@ -151,16 +111,16 @@ fn every_operation() {
 
 #[test]
 fn lengths_of_blocks() {
-    let full = blocks_of(&nots(2050), 5);
-    assert_eq!(full.len(), 82 * 512);
-    assert_eq!(loading(&list(), &full), "loaded 2050");
-    let over = blocks_of(&nots(2051), 5);
-    assert_eq!(loading(&list(), &over), "16 blocks 42496");
+    let full = blocks_of(&nots(3_075), 5);
+    assert_eq!(full.len(), 123 * 512);
+    assert_eq!(loading(&list(), &full), "loaded 3075");
+    let over = blocks_of(&nots(3_076), 5);
+    assert_eq!(loading(&list(), &over), "16 blocks 63488");
+    assert_eq!(loading(&list(), &vec![0; 124 * 512]), "16 blocks 63488");
+    assert_eq!(loading(&list(), &vec![0; 123 * 512]), "17 blocks 0");
     assert_eq!(loading(&list(), &[]), "16 blocks 0");
     assert_eq!(loading(&list(), &full[..511]), "16 blocks 511");
     assert_eq!(loading(&list(), &full[..513]), "16 blocks 513");
-    // 123 blocks are one too many too, as long as 82 is the limit.
-    assert_eq!(loading(&list(), &vec![0; 123 * 512]), "16 blocks 62976");
 }
 
 #[test]
@@ -276,7 +236,7 @@ fn layout_before_instructions() {
 fn fields_out_of_range() {
     let bad = [
         plain(0),
-        plain(13),
+        plain(14),
         plain(255),
         op(1, 0, 2, 0),
         op(1, 1, 0, 0),
@@ -350,7 +310,7 @@ fn fields_of_each_kind() {
 
 #[test]
 fn operands_missing_or_of_wrong_type() {
-    for operation in 6..=12 {
+    for operation in 6..=13 {
         assert_eq!(load_code(&[plain(operation)]), "18 blocks 4");
     }
     for operation in 9..=12 {
@@ -471,7 +431,7 @@ fn code_that_no_translator_makes() {
     // -(bit<8> of 256 - 32) is 32, d's value.
     let value = op(4, 0, 1, 0);
     let code = [push_int(224), convert(0, 8), plain(7), value, plain(9)];
-    assert_eq!(run_code(&code), "A");
+    assert_eq!(run_code(&code), "A 5");
     // Two constants meet as matches: equal modulo 2^3.
     let code = [
         push_int(1),
@@ -480,11 +440,11 @@ fn code_that_no_translator_makes() {
         convert(3, 3),
         plain(9),
     ];
-    assert_eq!(run_code(&code), "A");
+    assert_eq!(run_code(&code), "A 5");
     // The right operand is the uppermost.
-    assert_eq!(run_code(&[push_int(1), push_int(2), op(9, 4, 0, 0)]), "A");
-    assert_eq!(run_code(&[push_bool(1), push_bool(0), plain(12)]), "V");
-    assert_eq!(run_code(&[push_bool(0), push_bool(1), plain(12)]), "A");
+    assert_eq!(run_code(&[push_int(1), push_int(2), op(9, 4, 0, 0)]), "A 3");
+    assert_eq!(run_code(&[push_bool(1), push_bool(0), plain(12)]), "V 3");
+    assert_eq!(run_code(&[push_bool(0), push_bool(1), plain(12)]), "A 3");
 }
 
 #[test]
@@ -492,15 +452,15 @@ fn no_keys() {
     let blocks = translated("1 < 2", &[]);
     assert_eq!(blocks[506..508], [0, 0]);
     assert_eq!(loading(&[], &blocks), "loaded 3");
-    assert_eq!(running(&[], &blocks, &[0; 4]), "A");
+    assert_eq!(running(&[], &blocks, &[0; 4]), "A 3");
     assert_eq!(running(&[], &blocks, &[0; 40]), "19 entry 40");
 }
 
 #[test]
 fn the_largest_translation_fits() {
-    // 256 comparisons of four instructions, 255 joins.
+    // 256 comparisons of four instructions, 255 joins and the skip of each.
     let text = vec!["v==1"; 256].join(";");
-    let mut buffer = vec![0; 82 * 512];
+    let mut buffer = vec![0; MOST_BLOCKS * BLOCK];
     let answer = translate(text.as_bytes(), &list(), &mut buffer);
-    assert_eq!(answer, Answer::Translated(256 * 4 + 255));
+    assert_eq!(answer, Answer::Translated(256 * 4 + 2 * 255));
 }

@@ -5,10 +5,12 @@ mod common;
 use std::collections::BTreeMap;
 
 use desk::generate::explanations::MOST_PARTS;
-use desk::generate::{cases, entries, lists, programs, request, rng::Rng, snippets, SHARES};
+use desk::generate::{cases, entries, lists, programs, request, skips, snippets};
+use desk::generate::{rng::Rng, SHARES};
 use desk::lists::{list_bytes, NamedKey};
-use desk::reference::blocks::{blocks_of, bytes_needed};
+use desk::reference::blocks::{all_parts, blocks_of, bytes_needed, BLOCK, MOST_BLOCKS};
 use desk::reference::calls::{text_tree, LONGEST_TEXT};
+use desk::reference::code::Parts;
 use desk::reference::entries::Entry;
 use desk::reference::keys::{key_list, Key, Kind};
 use desk::reference::parts::{parts, Piece};
@@ -352,7 +354,8 @@ fn rechecks_reach_their_limits() {
     }
 }
 
-/// Whatever is judged from the text is judged alike from its blocks.
+/// Whatever is judged from the text is judged alike from its blocks, and from those
+/// that were made of it before there were skips, which run to their end.
 #[test]
 fn translations_mean_what_their_texts_mean() {
     let mut settled = 0;
@@ -360,13 +363,20 @@ fn translations_mean_what_their_texts_mean() {
         let case = cases::case(4, index);
         let [text, list, entry] = &case.inputs;
         let from_text = judge(text, list, entry);
-        let mut buffer = vec![0; bytes_needed(1_300)];
+        let mut buffer = vec![0; MOST_BLOCKS * BLOCK];
         let Answer::Translated(count) = translate(text, list, &mut buffer) else {
             continue;
         };
         let blocks = &buffer[..bytes_needed(count)];
         assert_eq!(load(list, blocks), Answer::Loaded(count));
-        assert_eq!(run(list, blocks, entry), from_text);
+        assert_eq!(common::without_steps(run(list, blocks, entry)), from_text);
+        let code: Vec<Parts> = all_parts(blocks, count).collect();
+        let older = skips::without(&code);
+        let answer = run(list, &blocks_of(&older, list.len() / Key::SIZE), entry);
+        assert_eq!(common::without_steps(answer), from_text);
+        if let Answer::Ran(outcome) = answer {
+            assert_eq!(outcome.steps, older.len());
+        }
         settled += 1;
     }
     assert!(settled > 1_500, "{settled}");

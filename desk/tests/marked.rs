@@ -28,19 +28,20 @@ fn sixteen_judgements() {
     all(judging, cases.to_vec());
 }
 
-/// What is accepted or violated from the text is so from its blocks.
+/// What is accepted or violated from the text is so from its blocks, in as many
+/// steps as there are instructions, for no text has a join.
 #[test]
 fn judgements_of_the_translations() {
     for (text, wanted) in [
-        ("true;", "A"),
-        ("v == 1", "A"),
-        ("d == 0x20", "V"),
-        ("d::mask == -16", "A"),
-        ("-1 < v::value", "V"),
-        ("p::prefix_length <= 64", "A"),
-        ("o::mask == 0", "A"),
-        ("::priority < 10", "V"),
-        ("-v == 1", "A"),
+        ("true;", "A 1"),
+        ("v == 1", "A 4"),
+        ("d == 0x20", "V 4"),
+        ("d::mask == -16", "A 5"),
+        ("-1 < v::value", "V 5"),
+        ("p::prefix_length <= 64", "A 3"),
+        ("o::mask == 0", "A 4"),
+        ("::priority < 10", "V 3"),
+        ("-v == 1", "A 5"),
     ] {
         let blocks = translated(text, &list());
         assert_eq!(running(&list(), &blocks, &entry()), wanted, "{text}");

@@ -55,6 +55,7 @@ fn answer_lines() {
     let text = |text: &str| text.as_bytes().to_vec();
     let none = Vec::new;
     let block = translated("v == 1", &list());
+    let joined = translated("false && true", &list());
     let change = |earlier| {
         let (old, new) = (entry(), entry());
         Change { earlier, old, new }.to_bytes()
@@ -69,6 +70,7 @@ fn answer_lines() {
         Request::new(Call::Translate, text("v == 1"), list(), vec![1; 3]),
         Request::new(Call::Load, list(), block.clone(), none()),
         Request::new(Call::Run, list(), block.clone(), entry()),
+        Request::new(Call::Run, list(), joined, entry()),
         Request::new(Call::Read, text("@"), none(), none()),
         Request::new(Call::Load, vec![0; 3], none(), none()),
         Request::new(Call::Run, list(), block.clone(), none()),
@@ -96,7 +98,7 @@ fn answer_lines() {
     let key_sum = adler32(b"v");
     let wanted = format!(
         "read 3\npassed\naccepted\nviolated\ntranslated 4 {sum}\nrefused 15 buffer 3 589828\n\
-         loaded 4\naccepted\nrefused 5 text 0\nrefused 2 list 3\nrefused 19 entry 0\n\
+         loaded 4\naccepted 4\nviolated 2\nrefused 5 text 0\nrefused 2 list 3\nrefused 19 entry 0\n\
          refused 16 blocks 0\nprinted 5 {print_sum}\nrefused 21 buffer 3 589828\n\
          refused 5 text 0 589828\npart 2 at 6 5 7 {part_sum}\nkey at 4 16 1 {key_sum}\n\
          nothing accepted\nnothing refused 5 text 0\nsummary 16 1 1\nrefused 13 text 2\n\
@@ -330,6 +332,19 @@ fn a_wrong_recheck_is_made_small() {
                   new entry, 4 bytes: priority 0\n  \
                   reference: reused refused 20 entry 0\n  \
                   program:   Reused refused 20 entry 0\n";
+    assert!(smallest.starts_with(wanted), "{smallest}");
+}
+
+/// Code, key list and entry become small together.
+#[test]
+fn a_wrong_run_is_made_small() {
+    let found = compare_with_sed("s/^violated [0-9]/&0/");
+    let (_, smallest) = found.split_once("the smallest found:\n").expect("one");
+    let wanted = "run\n  key list, 0 bytes:\n  blocks, 512 bytes:\n    \
+                  number 0, count 1, total 1, keys 0, check fcff0102 (good)\n      \
+                  01000000 00000000000000000000000000000000 PushBool(false)\n  \
+                  entry, 4 bytes: priority 0\n  \
+                  reference: violated 1\n  program:   violated 10\n";
     assert!(smallest.starts_with(wanted), "{smallest}");
 }
 

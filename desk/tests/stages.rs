@@ -77,7 +77,7 @@ fn load_and_run() {
     let blocks = translated("true", &list());
     assert_eq!(short(run(&list(), &blocks, &[])), "19 entry 0");
     assert_eq!(short(run(&list(), &blocks, &[0xff; 184])), "20 entry 0");
-    assert_eq!(short(run(&list(), &blocks, &entry())), "A");
+    assert_eq!(short(run(&list(), &blocks, &entry())), "A 1");
 }
 
 /// Load and run take the list that they are given; nothing is remembered.

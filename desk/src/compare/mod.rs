@@ -4,7 +4,7 @@
 //! for each, as the program `answers` does.
 
 mod peer;
-mod pieces;
+pub mod pieces;
 mod shrink;
 
 use std::io;

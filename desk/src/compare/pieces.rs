@@ -3,7 +3,7 @@
 use std::ops::Range;
 
 use crate::reference::blocks::{all_parts, blocks_of, checked_layout, BLOCK};
-use crate::reference::code::{Instruction, Parts};
+use crate::reference::code::{landing, Instruction, Parts};
 use crate::reference::entries::Entry;
 use crate::reference::keys::Key;
 use crate::reference::tokens::tokens;
@@ -17,7 +17,8 @@ pub enum Division {
     Keys,
     /// Tokens of the text, each with the blanks after it.
     Tokens,
-    /// Instructions of blocks of good layout; totals and checks are made again.
+    /// Instructions of blocks of good layout; totals and checks are made again,
+    /// and skips land where they did.
     Instructions,
     /// Whole blocks as they stand.
     Blocks,
@@ -119,8 +120,7 @@ impl Division {
             }
             Division::Instructions => {
                 if let Some((input, code, keys)) = code(request) {
-                    let filling = deed.instruction().map(Instruction::parts);
-                    let code = changed(code, deed, stretch, filling);
+                    let code = changed_code(&code, deed, stretch);
                     simpler.inputs[input] = blocks_of(&code, keys);
                 }
             }
@@ -153,6 +153,30 @@ fn changed<T>(mut pieces: Vec<T>, deed: Deed, stretch: Range<usize>, filling: Op
         pieces.splice(stretch, filling);
     }
     pieces
+}
+
+/// The code after the deed. Each skip that is left lands at the instruction that it
+/// landed at before, or at the next one that is left.
+fn changed_code(code: &[Parts], deed: Deed, stretch: Range<usize>) -> Vec<Parts> {
+    // Each instruction with the number that it has before the deed.
+    let numbered = (0..).zip(code.iter().copied()).collect();
+    let filling = deed
+        .instruction()
+        .map(|filling| (stretch.start, filling.parts()));
+    let left = changed(numbered, deed, stretch, filling);
+    let numbers: Vec<usize> = left.iter().map(|&(number, _)| number).collect();
+    let mut code_left: Vec<Parts> = left.into_iter().map(|(_, parts)| parts).collect();
+    for (index, parts) in code_left.iter_mut().enumerate() {
+        let before = landing(numbers[index], parts.operand);
+        // A landing beyond the end stays there by itself.
+        if parts.operation == Parts::SKIP && before <= code.len() {
+            let passed = numbers[index + 1..]
+                .iter()
+                .filter(|&&number| number < before);
+            parts.operand = passed.count() as u16;
+        }
+    }
+    code_left
 }
 
 fn non_zeros(bytes: &[u8]) -> impl Iterator<Item = usize> + '_ {

@@ -13,6 +13,7 @@ pub mod programs;
 pub mod rechecks;
 pub mod rng;
 pub mod scenes;
+pub mod skips;
 pub mod snippets;
 pub mod spelling;
 pub mod texts;

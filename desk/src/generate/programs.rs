@@ -3,6 +3,7 @@
 
 use super::entries::value;
 use super::rng::Rng;
+use super::skips;
 use crate::lists::NamedKey;
 use crate::reference::blocks::{INSTRUCTIONS_IN_BLOCK, MOST_BLOCKS};
 use crate::reference::code::{Instruction, Parts};
@@ -13,7 +14,7 @@ use crate::reference::loading::MOST_HELD;
 use crate::reference::tree::{Comparison, Join};
 use crate::reference::types::Type;
 
-const JOINS: [Join; 3] = [Join::And, Join::Or, Join::Implies];
+pub const JOINS: [Join; 3] = [Join::And, Join::Or, Join::Implies];
 
 /// A sequence that loads against these keys, with about so many joins.
 pub fn good(rng: &mut Rng, keys: &[NamedKey], entry: &Entry, joins: usize) -> Vec<Parts> {
@@ -206,13 +207,17 @@ pub fn many_held(rng: &mut Rng) -> Vec<Parts> {
         ]),
         _ => code.push(Instruction::PushBool(true)),
     }
+    // A skip may pass over this one while all are held.
+    if rng.one_in(2) {
+        code.push(Instruction::Not);
+    }
     for _ in 1..count {
         code.push(Instruction::Join(rng.pick(&JOINS)));
     }
     parts(&code)
 }
 
-/// A sequence that fills about 82 blocks.
+/// A sequence that fills about 123 blocks, most often with skips in it.
 pub fn many_blocks(rng: &mut Rng) -> Vec<Parts> {
     let most = MOST_BLOCKS * INSTRUCTIONS_IN_BLOCK;
     let count = match rng.below(6) {
@@ -221,7 +226,9 @@ pub fn many_blocks(rng: &mut Rng) -> Vec<Parts> {
         3 | 4 => most + 1,
         _ => most + rng.below(30),
     };
-    bool_chain(rng, count)
+    let skips = rng.pick(&[0, 1, 20, 300]);
+    let chain = bool_chain(rng, count - skips);
+    skips::insert(rng, &chain, &[], skips)
 }
 
 /// So many instructions, each of which leaves a bool that ends a program: so
@@ -288,13 +295,14 @@ fn spoil_used_part(rng: &mut Rng, parts: &mut Parts) {
             parts.operand = rng.pick(&[&near[..], &[0, 129, 256]].concat());
         }
         9 => parts.detail = rng.between(0, 6) as u8,
+        Parts::SKIP if rng.one_in(2) => parts.detail = rng.between(0, 2) as u8,
         _ => parts.operand = operand.wrapping_add(1),
     }
 }
 
 fn any_instruction(rng: &mut Rng) -> Parts {
     let mut parts = Parts {
-        operation: rng.between(1, 12) as u8,
+        operation: rng.between(1, usize::from(Parts::SKIP)) as u8,
         detail: 0,
         operand: 0,
         constant: 0,
@@ -312,6 +320,10 @@ fn any_instruction(rng: &mut Rng) -> Parts {
             parts.detail = rng.below(5) as u8;
         }
         9 => parts.detail = rng.below(6) as u8,
+        Parts::SKIP => {
+            parts.operand = rng.between(1, 6) as u16;
+            parts.detail = rng.below(2) as u8;
+        }
         _ => {}
     }
     parts

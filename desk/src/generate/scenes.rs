@@ -3,11 +3,11 @@
 use super::rng::Rng;
 use super::{
     blocks, buffers, damage, entries, explanations, limits, lists, prints, programs, rechecks,
-    snippets, spelling, texts,
+    skips, snippets, spelling, texts,
 };
 use crate::lists::{list_bytes, NamedKey};
 use crate::reference;
-use crate::reference::blocks::{blocks_of, bytes_needed};
+use crate::reference::blocks::{all_parts, blocks_of, bytes_needed};
 use crate::reference::code::Parts;
 use crate::reference::entries::Entry;
 use crate::reference::Answer;
@@ -87,8 +87,8 @@ impl Scene {
 
     fn run(&self, rng: &mut Rng) -> Request {
         let (list, blocks, entry) = if rng.one_in(7) {
-            let (list, blocks) = (list_bytes(&self.keys), self.translated(rng));
-            (list, blocks, self.damaged_entry(rng))
+            let blocks = blocks_of(&self.translation(rng), self.keys.len());
+            (list_bytes(&self.keys), blocks, self.damaged_entry(rng))
         } else {
             (self.list(rng), self.blocks(rng), self.entry(rng))
         };
@@ -249,35 +249,64 @@ impl Scene {
     }
 
     fn blocks(&self, rng: &mut Rng) -> Vec<u8> {
-        let mut blocks = match rng.below(5) {
-            0 | 1 => self.translated(rng),
-            _ => blocks_of(&self.program(rng), self.keys.len()),
+        let code = match rng.below(10) {
+            0..=2 => self.translation(rng),
+            // As it was made before there were skips.
+            3 => skips::without(&self.translation(rng)),
+            _ => self.program(rng),
         };
+        let mut blocks = blocks_of(&code, self.keys.len());
         if rng.one_in(4) {
             blocks::damage(rng, &mut blocks);
         }
         blocks
     }
 
-    /// The blocks of a text that translates.
-    fn translated(&self, rng: &mut Rng) -> Vec<u8> {
-        let text = self.good_text(rng);
+    /// The code of a text that translates.
+    fn translation(&self, rng: &mut Rng) -> Vec<Parts> {
+        let text = if rng.one_in(40) {
+            limits::many_tokens(rng, &self.keys, &self.entry)
+        } else {
+            self.good_text(rng)
+        };
         let mut buffer = vec![0; bytes_needed(2 * text.len() + 1)];
         match reference::translate(&text, &list_bytes(&self.keys), &mut buffer) {
-            Answer::Translated(count) => buffer.truncate(bytes_needed(count)),
-            _ => return blocks_of(&programs::bool_chain(rng, 3), self.keys.len()),
+            Answer::Translated(count) => all_parts(&buffer, count).collect(),
+            _ => programs::bool_chain(rng, 3),
         }
-        buffer
     }
 
     fn program(&self, rng: &mut Rng) -> Vec<Parts> {
         let mut code = match rng.below(100) {
             0 => programs::many_blocks(rng),
-            1 | 2 => programs::many_held(rng),
-            3..=12 => {
+            1 | 2 => skips::refilled(rng),
+            3..=40 => self.good_program(rng),
+            _ => {
+                let (code, count) = (self.good_program(rng), rng.between(1, 6));
+                skips::insert(rng, &code, &self.keys, count)
+            }
+        };
+        match rng.below(6) {
+            0 => programs::spoil(rng, &mut code),
+            1 => skips::spoil(rng, &mut code, &self.keys),
+            2 => {
+                skips::spoil(rng, &mut code, &self.keys);
+                skips::spoil(rng, &mut code, &self.keys);
+            }
+            _ => {}
+        }
+        code
+    }
+
+    /// Code that loads, or holds just too many values.
+    fn good_program(&self, rng: &mut Rng) -> Vec<Parts> {
+        match rng.below(100) {
+            0..=3 => programs::many_held(rng),
+            4..=11 => {
                 let count = rng.between(1, 80);
                 programs::bool_chain(rng, count)
             }
+            12..=21 => self.translation(rng),
             _ => {
                 let joins = if rng.one_in(6) {
                     rng.below(40)
@@ -286,10 +315,6 @@ impl Scene {
                 };
                 programs::good(rng, &self.keys, &self.entry, joins)
             }
-        };
-        if rng.one_in(3) {
-            programs::spoil(rng, &mut code);
         }
-        code
     }
 }

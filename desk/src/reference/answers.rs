@@ -3,6 +3,7 @@
 
 use std::fmt;
 
+use super::running::Outcome;
 use super::summaries::Summary;
 
 /// The input that a refusal's place lies in.
@@ -30,8 +31,11 @@ pub enum Answer {
     Read(usize),
     /// The text has good types.
     Passed,
+    /// The entry is accepted, or violated, by a judgement.
     Accepted,
     Violated,
+    /// The blocks ran: the entry is accepted or violated, after so many steps.
+    Ran(Outcome),
     /// The text was translated into this many instructions.
     Translated(usize),
     /// The blocks load; they hold this many instructions.
@@ -98,6 +102,7 @@ impl fmt::Display for Answer {
             Answer::Passed => out.write_str("passed"),
             Answer::Accepted => out.write_str("accepted"),
             Answer::Violated => out.write_str("violated"),
+            Answer::Ran(outcome) => write!(out, "{outcome}"),
             Answer::Translated(count) => write!(out, "translated {count}"),
             Answer::Loaded(count) => write!(out, "loaded {count}"),
             Answer::Printed(length) => write!(out, "printed {length}"),

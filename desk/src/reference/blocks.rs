@@ -4,14 +4,15 @@
 //! counts in all the blocks given; 506, 507 the number of keys, as in the list
 //! given; 508 to 511 the check. The check runs over the 254 big-endian 16-bit
 //! words before it: two sums from 0, the first adds each word, the second adds
-//! the first sum, both modulo 65,535. Second sum, then first." Refusals 16, 17.
+//! the first sum, both modulo 65,535. Second sum, then first." Document 02, request
+//! g: "the limit becomes 123 blocks in number 16." Refusals 16, 17.
 
 use super::answers::{Input, Refusal};
 use super::code::Parts;
 use super::keys::all_zero;
 
 pub const BLOCK: usize = 512;
-pub const MOST_BLOCKS: usize = 82;
+pub const MOST_BLOCKS: usize = 123;
 pub const INSTRUCTIONS_IN_BLOCK: usize = 25;
 const CODE_START: usize = 4;
 const CODE_END: usize = 504;

@@ -15,7 +15,7 @@ use super::loading::checked_code;
 use super::meaning::holds;
 use super::printing::print_of;
 use super::rechecking::{reuses, Rechecked};
-use super::running::accepts;
+use super::running::outcome;
 use super::summaries::Summary;
 use super::tokens::tokens;
 use super::translating::instructions;
@@ -72,12 +72,12 @@ pub fn load(list: &[u8], blocks: &[u8]) -> Answer {
         .into()
 }
 
-/// Loads blocks and runs them on an entry.
+/// Loads blocks and runs them on an entry; the answer tells the steps too.
 pub fn run(list: &[u8], blocks: &[u8], entry: &[u8]) -> Answer {
     let running = || {
         let (code, keys) = loaded(list, blocks)?;
         let entry = Entry::from_bytes(entry, &keys)?;
-        Ok(verdict(accepts(&code, &keys, &entry)))
+        Ok(Answer::Ran(outcome(&code, &keys, &entry)))
     };
     running().into()
 }

@@ -5,6 +5,10 @@
 //! prefix_length, 3 low, 4 high), 5 push priority, 6 not, 7 negate, 8 convert
 //! the top (detail: 0 for bit, else the kind; operand W, 1 to 128), 9 compare
 //! (detail 0 ==, 1 !=, 2 >, 3 >=, 4 <, 5 <=), 10 and, 11 or, 12 implies."
+//!
+//! Document 02, request g: "Add operation 13: if the top bool equals the detail
+//! byte (0 or 1), replace it by the bool in the constant's first byte (0 or 1) and
+//! pass over as many instructions as the operand says, at least one".
 
 use super::fields::Field;
 use super::keys::{Key, Kind};
@@ -26,6 +30,29 @@ pub enum Instruction {
     Compare(Comparison),
     /// And, or, implies; never a sequence, which is an "and" here.
     Join(Join),
+    Skip(Skip),
+}
+
+/// A skip: taken where the top bool is `when`, which then becomes `becomes`.
+#[derive(Clone, Copy, PartialEq, Eq, Debug)]
+pub struct Skip {
+    pub when: bool,
+    pub becomes: bool,
+    /// The number of instructions passed over.
+    pub over: u16,
+}
+
+impl Skip {
+    /// The index of the instruction that the skip of this index lands at, or the
+    /// number of all of them where it lands at their end.
+    pub fn landing(self, index: usize) -> usize {
+        landing(index, self.over)
+    }
+}
+
+/// Where a skip of this index lands that passes over so many instructions.
+pub fn landing(index: usize, over: u16) -> usize {
+    index + 1 + usize::from(over)
 }
 
 /// The four parts of an instruction as they stand in its bytes.
@@ -39,6 +66,10 @@ pub struct Parts {
 
 impl Parts {
     pub const SIZE: usize = 20;
+    /// The operation of a skip.
+    pub const SKIP: u8 = 13;
+    /// How far the constant's first byte stands above its last.
+    pub const FIRST_CONSTANT_BYTE: u32 = 120;
 
     pub fn from_bytes(bytes: &[u8]) -> Parts {
         Parts {
@@ -77,6 +108,10 @@ impl Instruction {
             Instruction::Join(Join::Sequence | Join::And) => (10, 0, 0, 0),
             Instruction::Join(Join::Or) => (11, 0, 0, 0),
             Instruction::Join(Join::Implies) => (12, 0, 0, 0),
+            Instruction::Skip(skip) => {
+                let becomes = u128::from(skip.becomes) << Parts::FIRST_CONSTANT_BYTE;
+                (Parts::SKIP, u8::from(skip.when), skip.over, becomes)
+            }
         };
         Parts {
             operation,
@@ -102,12 +137,24 @@ impl Instruction {
             10 => Instruction::Join(Join::And),
             11 => Instruction::Join(Join::Or),
             12 => Instruction::Join(Join::Implies),
+            Parts::SKIP => Instruction::Skip(skip_of(parts)?),
             _ => return None,
         };
         // What was read above is all there may be: writing the instruction
         // again shows whether an unused part is not zero.
         (instruction.parts() == parts).then_some(instruction)
     }
+}
+
+/// The skip of these parts. Whatever is read as false here and is not 0 shows
+/// when the instruction is written again.
+fn skip_of(parts: Parts) -> Option<Skip> {
+    let skip = Skip {
+        when: parts.detail == 1,
+        becomes: parts.constant >> Parts::FIRST_CONSTANT_BYTE == 1,
+        over: parts.operand,
+    };
+    (skip.over >= 1).then_some(skip)
 }
 
 fn convert_target(to: Type) -> (u8, u8) {

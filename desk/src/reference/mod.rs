@@ -4,8 +4,8 @@
 //! "Wanted: reading a restriction, checking its types against a key list,
 //! judging one entry directly from the text, translating a text into blocks,
 //! loading blocks, running loaded blocks on an entry." And document 02's "Print
-//! a restriction in house style", "Tell me on site what broke" and "A summary
-//! beside each rule".
+//! a restriction in house style", "Tell me on site what broke", "A summary beside
+//! each rule" and "Stop early, and count".
 //!
 //! The files follow the documents' sections. Plainness comes before speed:
 //! what stands here is meant to be held against the paper, line by line.
@@ -40,4 +40,5 @@ pub use answers::{Answer, Input};
 pub use calls::{check, explain, judge, load, print, read, recheck, run, summarize, translate};
 pub use explaining::Explanation;
 pub use rechecking::Rechecked;
+pub use running::Outcome;
 pub use summaries::Summary;

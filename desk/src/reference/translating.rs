@@ -1,11 +1,17 @@
 //! Document 01, "Blocks": "Translation is postfix, left before right; an
 //! operand that must change type is converted directly after its own code,
 //! once; compare then needs equal types. ";" and "&&" both give 10."
+//!
+//! Document 02, request g: "Translation places one directly after the left operand
+//! of every "and", "or" and "implies", landing after the join. The count of
+//! instructions grows by one for each join".
 
-use super::code::Instruction;
+use super::code::{Instruction, Skip};
+use super::tree::Join;
 use super::types::Typed;
 
-/// The instructions of a typed tree: one for each node and each conversion.
+/// The instructions of a typed tree: one for each node, each conversion and each
+/// skip.
 pub fn instructions(tree: &Typed) -> Vec<Instruction> {
     let mut code = Vec::new();
     append(tree, &mut code);
@@ -37,12 +43,29 @@ fn append(tree: &Typed, code: &mut Vec<Instruction>) {
             Instruction::Compare(*comparison)
         }
         Typed::Join(join, left, right) => {
+            let of_right = instructions(right);
             append(left, code);
-            append(right, code);
+            code.push(Instruction::Skip(skip_of(*join, of_right.len())));
+            code.extend(of_right);
             Instruction::Join(*join)
         }
     };
     code.push(last);
+}
+
+/// The skip over a right operand of so many instructions, and over the join.
+fn skip_of(join: Join, of_right: usize) -> Skip {
+    // A left operand that settles the join, and what the join then gives.
+    let (when, becomes) = match join {
+        Join::Sequence | Join::And => (false, false),
+        Join::Or => (true, true),
+        Join::Implies => (false, true),
+    };
+    Skip {
+        when,
+        becomes,
+        over: u16::try_from(of_right + 1).expect("a text has at most 1,024 tokens"),
+    }
 }
 
 fn operand(index: usize) -> u16 {

@@ -2,15 +2,18 @@
 
 #![allow(dead_code)]
 
+pub mod code;
+
 use desk::generate::{rng::Rng, scenes::Scene};
 use desk::lists::list_bytes;
 use desk::pack::entries::Rules;
 use desk::pack::{entries_from_text, keys_from_text};
+use desk::reference::blocks::{bytes_needed, BLOCK, MOST_BLOCKS};
 use desk::reference::calls::LONGEST_TEXT;
 use desk::reference::{
     check, explain, judge, load, print, read, recheck, run, summarize, translate,
 };
-use desk::reference::{Answer, Explanation, Input, Rechecked};
+use desk::reference::{Answer, Explanation, Input, Outcome, Rechecked};
 use desk::requests::{Call, Request};
 
 pub const KEYS: &str = "v exact 1\nd ternary 8\np lpm 8\nr range 16\no optional 4\n";
@@ -37,12 +40,15 @@ pub fn entry() -> Vec<u8> {
     entry_of(KEYS, ENTRY)
 }
 
-/// "A", "V", "passed", "8@5" for a refusal in the text, "19 entry 5" for
-/// another, and counts as they are.
+/// "A", "V", "A 4" for a run of 4 steps, "passed", "8@5" for a refusal in the
+/// text, "19 entry 5" for another, and counts as they are.
 pub fn short(answer: Answer) -> String {
     match answer {
         Answer::Accepted => "A".to_string(),
         Answer::Violated => "V".to_string(),
+        Answer::Ran(Outcome { steps, .. }) => {
+            format!("{} {steps}", short(without_steps(answer)))
+        }
         Answer::Refused {
             number,
             input: Input::Text,
@@ -54,6 +60,15 @@ pub fn short(answer: Answer) -> String {
             offset,
         } => format!("{number} {input} {offset}"),
         counted => counted.to_string(),
+    }
+}
+
+/// The judgement that a run comes to; any other answer as it is.
+pub fn without_steps(answer: Answer) -> Answer {
+    match answer {
+        Answer::Ran(outcome) if outcome.accepted => Answer::Accepted,
+        Answer::Ran(_) => Answer::Violated,
+        other => other,
     }
 }
 
@@ -88,9 +103,9 @@ pub fn running(list: &[u8], blocks: &[u8], entry: &[u8]) -> String {
 
 /// The blocks of a text.
 pub fn translated(text: &str, list: &[u8]) -> Vec<u8> {
-    let mut buffer = vec![0; 82 * 512];
+    let mut buffer = vec![0; MOST_BLOCKS * BLOCK];
     match translate(text.as_bytes(), list, &mut buffer) {
-        Answer::Translated(count) => buffer.truncate(count.div_ceil(25) * 512),
+        Answer::Translated(count) => buffer.truncate(bytes_needed(count)),
         refused => panic!("{text}: {refused}"),
     }
     buffer

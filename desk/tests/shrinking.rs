@@ -1,0 +1,31 @@
+//! What is left of a request when the comparison makes it smaller.
+
+mod common;
+
+use common::code::*;
+use common::list;
+use desk::compare::pieces::{Deed, Division};
+use desk::reference::blocks::{all_parts, blocks_of};
+use desk::reference::code::Parts;
+use desk::requests::{Call, Request};
+
+/// Each skip lands where it did, or at the next instruction that is left.
+#[test]
+fn smaller_code_keeps_its_landings() {
+    let t = push_bool(1);
+    let and = plain(AND);
+    let code = [t, skip(4), t, skip(2), t, and, and, skip(9)];
+    let request = Request::new(Call::Load, list(), blocks_of(&code, 5), Vec::new());
+    let left = |deed, stretch| {
+        let smaller = Division::Instructions.simpler(&request, deed, stretch);
+        let blocks = &smaller.inputs[1];
+        all_parts(blocks, usize::from(blocks[3])).collect::<Vec<Parts>>()
+    };
+    let dropped = [t, skip(2), t, and, and, skip(9)];
+    assert_eq!(left(Deed::Drop, 3..5), dropped);
+    let replaced = [t, skip(2), push_bool(0), and, and, skip(9)];
+    assert_eq!(left(Deed::False, 2..5), replaced);
+    // The landing itself is left out.
+    let without_landing = [t, skip(3), t, skip(1), t, skip(9)];
+    assert_eq!(left(Deed::Drop, 5..7), without_landing);
+}

@@ -32,11 +32,13 @@ static void each_request(const struct table *table, with_request *use)
     use(&(struct request){ .call = PRINT, .inputs = { table->text, nothing, whole } }, table);
     use(&(struct request){ .call = CHECK, .inputs = { table->text, table->list, nothing } }, table);
     use(&(struct request){ .call = TRANSLATE, .inputs = { table->text, table->list, whole } }, table);
-    use(&(struct request){ .call = LOAD, .inputs = { table->list, table->blocks, nothing } }, table);
+    use(&(struct request){ .call = LOAD, .inputs = { table->list, table->code.blocks, nothing } }, table);
+    use(&(struct request){ .call = LOAD, .inputs = { table->list, table->unskipped.blocks, nothing } }, table);
     for (size_t i = 0; i < entry_count(table); i++) {
         use(&(struct request){ .call = JUDGE, .inputs = { table->text, table->list, entry_of(table, i) } }, table);
         use(&(struct request){ .call = EXPLAIN, .inputs = { table->text, table->list, entry_of(table, i) } }, table);
-        use(&(struct request){ .call = RUN, .inputs = { table->list, table->blocks, entry_of(table, i) } }, table);
+        use(&(struct request){ .call = RUN, .inputs = { table->list, table->code.blocks, entry_of(table, i) } }, table);
+        use(&(struct request){ .call = RUN, .inputs = { table->list, table->unskipped.blocks, entry_of(table, i) } }, table);
     }
 }
 
@@ -97,18 +99,20 @@ static void hold(struct request *request, const struct table *table, const char 
         memset(request->inputs[2].at, 0, request->inputs[2].length);
 }
 
-static void hold_unchecked(struct request *request, const struct table *table, const char *line)
+static void hold_unchecked(struct request *request, const struct table *table, const char line[LINE_SIZE])
 {
     const uint8_t *entry = request->inputs[2].at;
-    const char *verdicts[] = { "violated", "accepted" };
-    if (strcmp(line, verdicts[0]) != 0 && strcmp(line, verdicts[1]) != 0)
+    const struct code *code = request->inputs[1].at == table->code.blocks.at ? &table->code : &table->unskipped;
+    const char *const verdicts[] = { "violated", "accepted" };
+    if (memcmp(line, "refused", strlen("refused")) == 0)
         return;
-    const char *run = verdicts[plain_accepts(table->list.at, table->blocks.at, table->instructions, entry)];
-    if (strcmp(run, line) != 0)
-        differs(request, table, "the unchecked interpreter", run, line);
-    const char *by_hand = table->by_hand == NULL ? line : verdicts[table->by_hand(entry)];
-    if (strcmp(by_hand, line) != 0)
-        differs(request, table, "the restriction by hand", by_hand, line);
+    struct plain_ran ran = plain_unchecked(table->list.at, code->blocks.at, code->instructions, entry);
+    char got[LINE_SIZE];
+    snprintf(got, sizeof got, "%s %zu", verdicts[ran.accepted], ran.steps);
+    if (strcmp(got, line) != 0)
+        differs(request, table, "the unchecked interpreter", got, line);
+    if (table->by_hand != NULL && table->by_hand(entry) != ran.accepted)
+        differs(request, table, "the restriction by hand", verdicts[!ran.accepted], line);
 }
 
 static void hold_all(struct request *request, const struct table *table)
@@ -125,7 +129,7 @@ static void hold_all(struct request *request, const struct table *table)
         hold_unchecked(request, table, line);
 }
 
-/* ---- What is measured: one piece of work on one of the entries that conform. */
+/* ---- What is measured: one piece of work on one of the entries that conform, or on one of those that are accepted or violated. */
 
 static uint8_t scratch[POLLUX_MAX_BLOCKS_SIZE];
 
@@ -133,7 +137,8 @@ typedef uint64_t work(const struct table *table, const uint8_t *entry);
 
 #define TEXT table->text.at, table->text.length
 #define LIST table->list.at, table->list.length
-#define BLOCKS table->blocks.at, table->blocks.length
+#define BLOCKS table->code.blocks.at, table->code.blocks.length
+#define UNSKIPPED table->unskipped.blocks.at, table->unskipped.blocks.length
 #define ENTRY entry, table->entry_size
 #define WORK(name, value)                                                  \
     static uint64_t name(const struct table *table, const uint8_t *entry)  \
@@ -144,14 +149,20 @@ typedef uint64_t work(const struct table *table, const uint8_t *entry);
 
 WORK(run_pollux, pollux_run(LIST, BLOCKS, ENTRY).says)
 WORK(run_plain, plain_run(LIST, BLOCKS, ENTRY).says)
-WORK(run_unchecked, plain_accepts(table->list.at, table->blocks.at, table->instructions, entry))
+WORK(run_unchecked, plain_unchecked(table->list.at, table->code.blocks.at, table->code.instructions, entry).accepted)
 WORK(run_by_hand, table->by_hand(entry))
+WORK(run_unskipped_pollux, pollux_run(LIST, UNSKIPPED, ENTRY).says)
+WORK(run_unskipped_plain, plain_run(LIST, UNSKIPPED, ENTRY).says)
+WORK(run_unskipped_unchecked,
+     plain_unchecked(table->list.at, table->unskipped.blocks.at, table->unskipped.instructions, entry).accepted)
 WORK(judge_pollux, pollux_judge(TEXT, LIST, ENTRY).says)
 WORK(judge_plain, plain_judge(TEXT, LIST, ENTRY).says)
 WORK(explain_pollux, pollux_explain(TEXT, LIST, ENTRY).start)
 WORK(explain_plain, plain_explain(TEXT, LIST, ENTRY).start)
 WORK(load_pollux, pollux_load(LIST, BLOCKS).value)
 WORK(load_plain, plain_load(LIST, BLOCKS).value)
+WORK(load_unskipped_pollux, pollux_load(LIST, UNSKIPPED).value)
+WORK(load_unskipped_plain, plain_load(LIST, UNSKIPPED).value)
 WORK(translate_pollux, pollux_translate(TEXT, LIST, scratch, sizeof scratch).value)
 WORK(translate_plain, plain_translate(TEXT, LIST, scratch, sizeof scratch).value)
 WORK(read_pollux, pollux_read(TEXT).value)
@@ -160,19 +171,42 @@ WORK(print_pollux, pollux_print(TEXT, scratch, sizeof scratch).value)
 WORK(print_plain, plain_print(TEXT, scratch, sizeof scratch).value)
 
 enum { POLLUX, PLAIN, UNCHECKED, BY_HAND, VERSIONS };
+enum entries { CONFORMING, ACCEPTED, VIOLATED };
+enum blocks { TRANSLATED, WITHOUT_SKIPS };
 
 static const struct measured {
     const char *name;
+    enum entries entries;
+    enum blocks blocks;
     work *versions[VERSIONS];
 } all_measured[] = {
-    { "run", { run_pollux, run_plain, run_unchecked, run_by_hand } },
-    { "judge", { judge_pollux, judge_plain, NULL, NULL } },
-    { "explain", { explain_pollux, explain_plain, NULL, NULL } },
-    { "load", { load_pollux, load_plain, NULL, NULL } },
-    { "translate", { translate_pollux, translate_plain, NULL, NULL } },
-    { "read", { read_pollux, read_plain, NULL, NULL } },
-    { "print", { print_pollux, print_plain, NULL, NULL } },
+    { "run-accepted", ACCEPTED, TRANSLATED, { run_pollux, run_plain, run_unchecked, run_by_hand } },
+    { "run-violated", VIOLATED, TRANSLATED, { run_pollux, run_plain, run_unchecked, run_by_hand } },
+    { "run-unskipped", CONFORMING, WITHOUT_SKIPS, { run_unskipped_pollux, run_unskipped_plain, run_unskipped_unchecked, run_by_hand } },
+    { "judge", CONFORMING, TRANSLATED, { judge_pollux, judge_plain, NULL, NULL } },
+    { "explain", CONFORMING, TRANSLATED, { explain_pollux, explain_plain, NULL, NULL } },
+    { "load", CONFORMING, TRANSLATED, { load_pollux, load_plain, NULL, NULL } },
+    { "load-unskipped", CONFORMING, WITHOUT_SKIPS, { load_unskipped_pollux, load_unskipped_plain, NULL, NULL } },
+    { "translate", CONFORMING, TRANSLATED, { translate_pollux, translate_plain, NULL, NULL } },
+    { "read", CONFORMING, TRANSLATED, { read_pollux, read_plain, NULL, NULL } },
+    { "print", CONFORMING, TRANSLATED, { print_pollux, print_plain, NULL, NULL } },
 };
+
+static struct input measured_entries(const struct measured *measured, const struct table *table)
+{
+    switch (measured->entries) {
+    case ACCEPTED: return table->accepted;
+    case VIOLATED: return table->violated;
+    default: return table->conforming;
+    }
+}
+
+/* No row where there is no such entry, or no skip to leave out. */
+static bool has_row(const struct measured *measured, const struct table *table)
+{
+    bool skips = table->unskipped.instructions < table->code.instructions;
+    return measured_entries(measured, table).length > 0 && (measured->blocks == TRANSLATED || skips);
+}
 
 /* Two calls of Polluxvalve that take turns as two versions do: one that has more to do, and what it has to do at least. */
 enum { MORE, LESS };
@@ -180,8 +214,8 @@ static const struct beside {
     const char *more, *less;
     struct measured calls;
 } all_beside[] = {
-    { "print", "read", { "print", { [MORE] = print_pollux, [LESS] = read_pollux } } },
-    { "explain", "judge", { "explain", { [MORE] = explain_pollux, [LESS] = judge_pollux } } },
+    { "print", "read", { "print", CONFORMING, TRANSLATED, { [MORE] = print_pollux, [LESS] = read_pollux } } },
+    { "explain", "judge", { "explain", CONFORMING, TRANSLATED, { [MORE] = explain_pollux, [LESS] = judge_pollux } } },
 };
 
 /* ---- Time. */
@@ -200,14 +234,14 @@ static double seconds(void)
 }
 
 /* How often the work is done in a second, over one turn. */
-static double rate(work *work, const struct table *table)
+static double rate(work *work, const struct table *table, struct input entries)
 {
     uint64_t done = 0, sum = 0;
     double start = seconds(), took;
     do {
         for (int times = 0; times < 4; times++)
-            for (size_t at = 0; at < table->conforming.length; at += table->entry_size, done++)
-                sum += work(table, table->conforming.at + at);
+            for (size_t at = 0; at < entries.length; at += table->entry_size, done++)
+                sum += work(table, entries.at + at);
         took = seconds() - start;
     } while (took < TURN * 1e-3);
     sink += sum;
@@ -222,7 +256,7 @@ static void measure(const struct measured *measured, const struct table *table, 
             work *work = measured->versions[version];
             if (work == NULL || (version == BY_HAND && table->by_hand == NULL))
                 continue;
-            double now = rate(work, table);
+            double now = rate(work, table, measured_entries(measured, table));
             if (now > best[version])
                 best[version] = now;
         }
@@ -230,7 +264,7 @@ static void measure(const struct measured *measured, const struct table *table, 
 
 static void print_row(const struct measured *measured, const struct table *table, const double best[VERSIONS])
 {
-    printf("%-13s %-10s %12.0f", table->name, measured->name, best[POLLUX]);
+    printf("%-13s %-14s %12.0f", table->name, measured->name, best[POLLUX]);
     for (int version = PLAIN; version < VERSIONS; version++) {
         if (best[version] > 0)
             printf(" %12.0f %6.2f", best[version], best[version] / best[POLLUX]);
@@ -241,23 +275,45 @@ static void print_row(const struct measured *measured, const struct table *table
     fflush(stdout);
 }
 
+/* The mean of the steps of some entries, or a dash. */
+static void print_steps(const struct table *table, struct input entries)
+{
+    size_t steps = 0;
+    for (size_t at = 0; at < entries.length; at += table->entry_size)
+        steps += plain_unchecked(table->list.at, table->code.blocks.at, table->code.instructions, entries.at + at).steps;
+    if (entries.length == 0)
+        printf(" %10s", "-");
+    else
+        printf(" %10.1f", (double)steps * (double)table->entry_size / (double)entries.length);
+}
+
 static void print_sizes(const struct table tables[TABLES])
 {
-    printf("%-13s %6s %6s %14s %8s\n", "restriction", "bytes", "keys", "instructions", "blocks");
-    for (int i = 0; i < TABLES; i++)
-        printf("%-13s %6zu %6zu %14zu %8zu\n", tables[i].name, tables[i].text.length, tables[i].list.length / POLLUX_KEY_SIZE,
-               tables[i].instructions, tables[i].blocks.length / POLLUX_BLOCK_SIZE);
+    printf("%-13s %6s %6s %14s %8s %8s %10s %10s\n", "restriction", "bytes", "keys", "instructions", "skips", "blocks", "accepted",
+           "violated");
+    for (int i = 0; i < TABLES; i++) {
+        const struct table *table = &tables[i];
+        printf("%-13s %6zu %6zu %14zu %8zu %8zu", table->name, table->text.length, table->list.length / POLLUX_KEY_SIZE,
+               table->code.instructions, table->code.instructions - table->unskipped.instructions,
+               table->code.blocks.length / POLLUX_BLOCK_SIZE);
+        print_steps(table, table->accepted);
+        print_steps(table, table->violated);
+        printf("\n");
+    }
+    printf("\nThe last two are steps: the mean over the entries that are accepted, and over those that are violated.\n");
 }
 
 static void measure_all(const struct table tables[TABLES])
 {
     print_sizes(tables);
     printf("\nTimes a second. Each ratio is how many times longer Polluxvalve takes.\n\n");
-    printf("%-13s %-10s %12s %12s %6s %12s %6s %12s %6s\n", "restriction", "call", "Polluxvalve", "plain C", "ratio", "unchecked C",
+    printf("%-13s %-14s %12s %12s %6s %12s %6s %12s %6s\n", "restriction", "call", "Polluxvalve", "plain C", "ratio", "unchecked C",
            "ratio", "by hand", "ratio");
     for (int i = 0; i < TABLES; i++)
         for (size_t j = 0; j < sizeof all_measured / sizeof all_measured[0]; j++) {
             double best[VERSIONS] = { 0 };
+            if (!has_row(&all_measured[j], &tables[i]))
+                continue;
             measure(&all_measured[j], &tables[i], best);
             print_row(&all_measured[j], &tables[i], best);
         }
@@ -328,11 +384,11 @@ static void measure_edits(void)
 
 /* ---- One call, again and again. */
 
-static work *find_work(const char *call)
+static const struct measured *find_measured(const char *call)
 {
     for (size_t i = 0; i < sizeof all_measured / sizeof all_measured[0]; i++)
         if (strcmp(all_measured[i].name, call) == 0)
-            return all_measured[i].versions[POLLUX];
+            return &all_measured[i];
     return NULL;
 }
 
@@ -347,14 +403,14 @@ static const struct table *find_table(const struct table tables[TABLES], const c
 static int repeat(const struct table tables[TABLES], const char *name, const char *call, unsigned long for_seconds)
 {
     const struct table *table = find_table(tables, name);
-    work *work = find_work(call);
-    if (table == NULL || work == NULL) {
-        fprintf(stderr, "there is no table %s, or no call %s\n", name, call);
+    const struct measured *measured = find_measured(call);
+    if (table == NULL || measured == NULL || !has_row(measured, table)) {
+        fprintf(stderr, "there is no table %s, or no call %s on it\n", name, call);
         return 3;
     }
     double start = seconds(), best = 0;
     while (seconds() - start < (double)for_seconds) {
-        double now = rate(work, table);
+        double now = rate(measured->versions[POLLUX], table, measured_entries(measured, table));
         if (now > best)
             best = now;
     }

@@ -45,7 +45,12 @@ struct pollux_rechecked plain_recheck(const uint8_t *text, size_t text_length,
                                       struct pollux_answer earlier,
                                       const uint8_t *new_entry, size_t new_length);
 
+struct plain_ran {
+    bool accepted;
+    size_t steps;
+};
+
 /* Runs blocks that load on an entry that conforms, and checks nothing. */
-bool plain_accepts(const uint8_t *list, const uint8_t *blocks, size_t instructions, const uint8_t *entry);
+struct plain_ran plain_unchecked(const uint8_t *list, const uint8_t *blocks, size_t instructions, const uint8_t *entry);
 
 #endif

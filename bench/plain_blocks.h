@@ -5,8 +5,10 @@
 #include "plain_parts.h"
 
 enum operation {
-    PUSH_BOOL = 1, PUSH_INT, PUSH_KEY, PUSH_FIELD, PUSH_PRIORITY, TURN, NEGATE, CONVERT, COMPARE, JOIN_AND, JOIN_OR, JOIN_IMPLIES
+    PUSH_BOOL = 1, PUSH_INT, PUSH_KEY, PUSH_FIELD, PUSH_PRIORITY, TURN, NEGATE, CONVERT, COMPARE, JOIN_AND, JOIN_OR, JOIN_IMPLIES, SKIP
 };
+
+enum { MOST_INSTRUCTIONS = POLLUX_MAX_BLOCKS * POLLUX_BLOCK_INSTRUCTIONS };
 
 enum { CODE_AT = 4, TOTAL_AT = 504, KEYS_AT = 506, CHECK_AT = 508 };
 
@@ -21,6 +23,9 @@ struct sums {
 };
 
 struct sums block_sums(const uint8_t *block);
+
+/* Writes what stands around the instructions of a block. */
+void seal_block(uint8_t *block, size_t index, size_t total, size_t keys);
 
 /* Stages 2 to 4 and 16 to 18; gives the number of instructions. */
 bool check_blocks(const uint8_t *list, size_t list_length, const uint8_t *blocks, size_t length, size_t *total,

@@ -89,5 +89,5 @@ struct pollux_answer plain_judge(const uint8_t *text, size_t text_length, const 
     if (!checked_tree(text, text_length, list, list_length, &tokens, &tree, &answer) ||
         !check_entry(list, list_length, entry, entry_length, &answer))
         return answer;
-    return verdict(holds_at(&tree, list, entry, tree.count - 1));
+    return verdict(holds_at(&tree, list, entry, tree.count - 1), 0);
 }

@@ -37,10 +37,11 @@ static bool check_layout(const uint8_t *blocks, size_t length, size_t keys, size
     return true;
 }
 
-/* The types held while the code is followed, the last one uppermost. */
+/* The types held while the code is followed, the last one uppermost, and the floor of each: how many lie below the bools that end in it. */
 struct held {
     size_t count;
     struct type at[POLLUX_MAX_VALUES];
+    uint16_t floor[POLLUX_MAX_VALUES];
 };
 
 static bool push(struct held *held, unsigned kind, unsigned width)
@@ -89,22 +90,34 @@ static bool join_top(struct held *held, bool comparing, unsigned comparison)
     return push(held, BOOL, 0);
 }
 
+static bool bool_on_top(const struct held *held)
+{
+    return held->count >= 1 && held->at[held->count - 1].kind == BOOL;
+}
+
+/* Lands inside the code or exactly at its end: so many instructions are left after it. */
+static bool good_skip(const struct held *held, const uint8_t *code, size_t left)
+{
+    unsigned over = short_at(code + 2);
+    return code[1] <= 1 && over >= 1 && over <= left && code[4] <= 1 && all_zero(code + 5, 15) && bool_on_top(held);
+}
+
 /* Parts that an operation does not use are zero. */
 static bool unused_zero(const uint8_t *code)
 {
     static const struct { bool detail, operand, constant; } used[] = {
         [PUSH_BOOL] = { false, true, false }, [PUSH_INT] = { false, false, true }, [PUSH_KEY] = { false, true, false },
         [PUSH_FIELD] = { true, true, false }, [CONVERT] = { true, true, false }, [COMPARE] = { true, false, false },
-        [JOIN_IMPLIES] = { false, false, false },
+        [SKIP] = { true, true, true },
     };
     unsigned operation = code[0];
-    if (operation < PUSH_BOOL || operation > JOIN_IMPLIES)
+    if (operation < PUSH_BOOL || operation > SKIP)
         return false;
     return (used[operation].detail || code[1] == 0) && (used[operation].operand || short_at(code + 2) == 0) &&
            (used[operation].constant || number_at(code + 4) == 0);
 }
 
-static bool step(struct held *held, const uint8_t *list, size_t keys, const uint8_t *code)
+static bool step(struct held *held, const uint8_t *list, size_t keys, const uint8_t *code, size_t left)
 {
     if (!unused_zero(code))
         return false;
@@ -114,26 +127,78 @@ static bool step(struct held *held, const uint8_t *list, size_t keys, const uint
     case PUSH_PRIORITY: return push(held, INT, 0);
     case PUSH_KEY:
     case PUSH_FIELD: return push_key(held, list, keys, code);
-    case TURN: return held->count >= 1 && held->at[held->count - 1].kind == BOOL;
+    case TURN: return bool_on_top(held);
     case NEGATE: return held->count >= 1 && can_negate(held->at[held->count - 1]);
     case CONVERT: return convert_top(held, code[1], short_at(code + 2));
     case COMPARE: return code[1] <= 5 && join_top(held, true, code[1]);
+    case SKIP: return good_skip(held, code, left);
     default: return join_top(held, false, 0);
     }
+}
+
+/*
+ * The mark of what is held: how many values, and the floor of the uppermost. The types at a skip and at its landing are the same where
+ * their marks are: a bool lies uppermost at the skip, and whatever takes a bool away leaves one. So below the skip's height only bools
+ * can have come and gone, and of these the floor tells how many there are.
+ */
+static uint32_t take_mark(struct held *held)
+{
+    size_t top = held->count - 1;
+    size_t under = top == 0 ? 0 : held->floor[top - 1];
+    held->floor[top] = (uint16_t)(held->at[top].kind == BOOL ? under : held->count);
+    return (uint32_t)held->count << 16 | held->floor[top];
+}
+
+/* What is known of code that was followed up to an index: the types there, the mark after each number of instructions, and the skips. */
+struct followed {
+    size_t upto;
+    struct held held;
+    uint32_t marks[MOST_INSTRUCTIONS + 1];
+    size_t skips;
+    struct { uint16_t at, landing; } skip[MOST_INSTRUCTIONS];
+};
+
+/* Follows the types up to an instruction that fails by itself, or to the end. */
+static void follow(struct followed *it, const uint8_t *list, size_t keys, const uint8_t *blocks, size_t total)
+{
+    it->held.count = 0;
+    it->skips = 0;
+    for (it->upto = 0; it->upto < total; it->upto++) {
+        size_t i = it->upto;
+        const uint8_t *code = blocks + instruction_place(i);
+        if (!step(&it->held, list, keys, code, total - i - 1))
+            return;
+        it->marks[i + 1] = take_mark(&it->held);
+        if (code[0] == SKIP) {
+            it->skip[it->skips].at = (uint16_t)i;
+            it->skip[it->skips++].landing = (uint16_t)(i + 1 + short_at(code + 2));
+        }
+    }
+}
+
+/* The first skip whose landing does not fit, or else the end of what was followed. A landing past that is not compared. */
+static size_t first_misfit(const struct followed *it)
+{
+    for (size_t i = 0; i < it->skips; i++) {
+        size_t at = it->skip[i].at, landing = it->skip[i].landing;
+        if (landing <= it->upto && it->marks[landing] != it->marks[at + 1])
+            return at;
+    }
+    return it->upto;
 }
 
 bool check_blocks(const uint8_t *list, size_t list_length, const uint8_t *blocks, size_t length, size_t *total,
                   struct pollux_answer *answer)
 {
     size_t keys = list_length / POLLUX_KEY_SIZE;
-    struct held held;
+    struct followed followed;
     if (!check_list(list, list_length, answer) || !check_layout(blocks, length, keys, total, answer))
         return false;
-    held.count = 0;
-    for (size_t i = 0; i < *total; i++)
-        if (!step(&held, list, keys, blocks + instruction_place(i)))
-            return refuse(answer, POLLUX_INSTRUCTION, POLLUX_BLOCKS, instruction_place(i));
-    if (held.count != 1 || held.at[0].kind != BOOL)
+    follow(&followed, list, keys, blocks, *total);
+    size_t failing = first_misfit(&followed);
+    if (failing < *total)
+        return refuse(answer, POLLUX_INSTRUCTION, POLLUX_BLOCKS, instruction_place(failing));
+    if (followed.held.count != 1 || !bool_on_top(&followed.held))
         return refuse(answer, POLLUX_INSTRUCTION, POLLUX_BLOCKS, length);
     return true;
 }

@@ -21,9 +21,10 @@ static inline struct pollux_answer done(size_t count)
     return (struct pollux_answer){ POLLUX_DONE, 0, 0, count };
 }
 
-static inline struct pollux_answer verdict(bool accepted)
+/* A judgement from the text takes no steps. */
+static inline struct pollux_answer verdict(bool accepted, size_t steps)
 {
-    return (struct pollux_answer){ accepted ? POLLUX_ACCEPTED : POLLUX_VIOLATED, 0, 0, 0 };
+    return (struct pollux_answer){ accepted ? POLLUX_ACCEPTED : POLLUX_VIOLATED, 0, 0, steps };
 }
 
 /* ---- Bytes, big-endian. */
@@ -141,6 +142,7 @@ struct node {
     uint8_t what;
     uint8_t comparison;     /* 0 ==, 1 !=, 2 >, 3 >=, 4 <, 5 <= */
     uint8_t base;           /* in which a numeral or an address is printed */
+    uint8_t above;          /* the operator that it is the left or only operand of, or 0 */
     uint8_t key, field;     /* found by the type check */
     struct type type;
     struct type converted;  /* what it becomes before its comparison; width 0 if it stays */

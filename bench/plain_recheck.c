@@ -73,5 +73,5 @@ struct pollux_rechecked plain_recheck(const uint8_t *text, size_t text_length, c
         return tell(answer, false);
     if (check_entry(list, list_length, old, old_length, &unused) && same_in(named_in(&tree), old, new))
         return tell(heard(earlier), true);
-    return tell(verdict(holds_at(&tree, list, new, tree.count - 1)), false);
+    return tell(verdict(holds_at(&tree, list, new, tree.count - 1), 0), false);
 }

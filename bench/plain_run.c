@@ -21,18 +21,33 @@ static struct value *step(struct value *top, const uint8_t *code, const uint8_t 
     }
 }
 
-bool plain_accepts(const uint8_t *list, const uint8_t *blocks, size_t instructions, const uint8_t *entry)
+/* Carries out a skip; gives how many instructions are passed over. */
+static size_t skip(struct value *top, const uint8_t *code)
+{
+    if (top[-1].first != code[1])
+        return 0;
+    top[-1].first = code[4];
+    return short_at(code + 2);
+}
+
+struct plain_ran plain_unchecked(const uint8_t *list, const uint8_t *blocks, size_t instructions, const uint8_t *entry)
 {
     struct value held[POLLUX_MAX_VALUES];
     struct value *top = held;
-    while (instructions > 0) {
-        size_t here = instructions < POLLUX_BLOCK_INSTRUCTIONS ? instructions : POLLUX_BLOCK_INSTRUCTIONS;
-        for (size_t i = 0; i < here; i++)
-            top = step(top, blocks + CODE_AT + i * POLLUX_INSTRUCTION_SIZE, list, entry);
-        blocks += POLLUX_BLOCK_SIZE;
-        instructions -= here;
+    size_t steps = 0, in_block = 0;
+    for (size_t left = instructions, passed; left > 0; left -= passed, in_block += passed, steps++) {
+        if (in_block >= POLLUX_BLOCK_INSTRUCTIONS) {
+            blocks += in_block / POLLUX_BLOCK_INSTRUCTIONS * POLLUX_BLOCK_SIZE;
+            in_block %= POLLUX_BLOCK_INSTRUCTIONS;
+        }
+        const uint8_t *code = blocks + CODE_AT + in_block * POLLUX_INSTRUCTION_SIZE;
+        passed = 1;
+        if (code[0] == SKIP)
+            passed += skip(top, code);
+        else
+            top = step(top, code, list, entry);
     }
-    return held[0].first != 0;
+    return (struct plain_ran){ held[0].first != 0, steps };
 }
 
 struct pollux_answer plain_run(const uint8_t *list, size_t list_length, const uint8_t *blocks, size_t blocks_length,
@@ -43,5 +58,6 @@ struct pollux_answer plain_run(const uint8_t *list, size_t list_length, const ui
     if (!check_blocks(list, list_length, blocks, blocks_length, &total, &answer) ||
         !check_entry(list, list_length, entry, entry_length, &answer))
         return answer;
-    return verdict(plain_accepts(list, blocks, total, entry));
+    struct plain_ran ran = plain_unchecked(list, blocks, total, entry);
+    return verdict(ran.accepted, ran.steps);
 }

@@ -3,7 +3,8 @@
 
 struct writer {
     uint8_t *blocks;
-    size_t count; /* instructions written */
+    size_t count;                     /* instructions written */
+    uint16_t skip[POLLUX_MAX_TOKENS]; /* the skip after each node that is the left operand of a join */
 };
 
 static void write_instruction(struct writer *writer, unsigned operation, unsigned detail, unsigned operand, number constant)
@@ -15,6 +16,7 @@ static void write_instruction(struct writer *writer, unsigned operation, unsigne
     set_number(at + 4, constant);
 }
 
+/* The instruction of a node, and a conversion if it has one. */
 static void write_node(struct writer *writer, const struct node *node)
 {
     switch (node->what) {
@@ -33,15 +35,47 @@ static void write_node(struct writer *writer, const struct node *node)
         write_instruction(writer, CONVERT, node->converted.kind, node->converted.width, 0);
 }
 
+static bool joins(unsigned what)
+{
+    return what >= SEQUENCE;
+}
+
+/* Where the left operand settles a join, a skip leaves what the join would. How many instructions it passes over, up to the join and with
+ * it, is known when the right operand is written. */
+static void write_skip(struct writer *writer, size_t left, unsigned join)
+{
+    unsigned on = join == EITHER, to = join == EITHER || join == IMPLIES;
+    writer->skip[left] = (uint16_t)writer->count;
+    write_instruction(writer, SKIP, on, 0, (number)to << 120);
+}
+
+static void set_landing(struct writer *writer, size_t left)
+{
+    size_t skip = writer->skip[left];
+    set_short(writer->blocks + instruction_place(skip) + 2, (unsigned)(writer->count - skip));
+}
+
+static void write_nodes(struct writer *writer, const struct tree *tree)
+{
+    for (size_t i = 0; i < tree->count; i++) {
+        const struct node *node = &tree->at[i];
+        if (joins(node->what))
+            set_landing(writer, node->left);
+        write_node(writer, node);
+        if (joins(node->above))
+            write_skip(writer, i, node->above);
+    }
+}
+
 static size_t instructions_of(const struct tree *tree)
 {
     size_t count = tree->count;
     for (size_t i = 0; i < tree->count; i++)
-        count += tree->at[i].converted.width != 0;
+        count += (tree->at[i].converted.width != 0) + joins(tree->at[i].what);
     return count;
 }
 
-static void seal(uint8_t *block, size_t index, size_t total, size_t keys)
+void seal_block(uint8_t *block, size_t index, size_t total, size_t keys)
 {
     size_t left = total - index * POLLUX_BLOCK_INSTRUCTIONS;
     set_short(block, (unsigned)index);
@@ -68,10 +102,11 @@ struct pollux_answer plain_translate(const uint8_t *text, size_t text_length, co
         return answer;
     }
     memset(buffer, 0, needed);
-    struct writer writer = { buffer, 0 };
-    for (size_t i = 0; i < tree.count; i++)
-        write_node(&writer, &tree.at[i]);
+    struct writer writer;
+    writer.blocks = buffer;
+    writer.count = 0;
+    write_nodes(&writer, &tree);
     for (size_t index = 0; index < needed / POLLUX_BLOCK_SIZE; index++)
-        seal(buffer + index * POLLUX_BLOCK_SIZE, index, total, list_length / POLLUX_KEY_SIZE);
+        seal_block(buffer + index * POLLUX_BLOCK_SIZE, index, total, list_length / POLLUX_KEY_SIZE);
     return done(total);
 }

@@ -34,6 +34,7 @@ static int add(struct parser *parser, struct node node)
 
 static int add_join(struct parser *parser, enum what what, size_t place, int left, int right)
 {
+    parser->tree->at[left].above = (uint8_t)what;
     return add(parser, (struct node){ .what = what, .place = (uint16_t)place, .left = (uint16_t)left, .right = (uint16_t)right });
 }
 

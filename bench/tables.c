@@ -5,9 +5,7 @@
 
 #include "../examples/switch/files.h"
 #include "by_hand.h"
-#include "plain.h"
-
-enum { EXACT, TERNARY, LPM, RANGE, OPTIONAL };
+#include "plain_blocks.h"
 
 static struct input room(size_t length)
 {
@@ -122,19 +120,20 @@ static void set_limit_record(uint8_t *record, size_t key, uint32_t value)
     }
 }
 
-/* The first entry is accepted; the second is violated by the last comparison. */
+/* The first entry is accepted; the second is violated by the last comparison, the third by the first one. */
 static void make_limit(struct table *table)
 {
     *table = (struct table){ .name = "limit", .entry_size = POLLUX_ENTRY_SIZE(POLLUX_MAX_KEYS) };
     make_limit_text(table);
     table->list = room(POLLUX_MAX_LIST);
-    table->entries = room(2 * table->entry_size);
+    table->entries = room(3 * table->entry_size);
     for (size_t key = 0; key < POLLUX_MAX_KEYS; key++) {
         uint8_t *record = table->entries.at + POLLUX_ENTRY_SIZE(key);
         set_wide_key(&table->list, key, key % 5);
         set_limit_record(record, key, (uint32_t)key + 1);
         bool last = key + 1 == POLLUX_MAX_KEYS;
         set_limit_record(record + table->entry_size, key, last ? FIRST_NUMERAL + COMPARISONS - 1 : (uint32_t)key + 1);
+        set_limit_record(record + 2 * table->entry_size, key, key == 0 ? FIRST_NUMERAL : (uint32_t)key + 1);
     }
 }
 
@@ -159,31 +158,52 @@ static void make_example(struct table *table, const char *folder, const char *na
 
 /* ---- What is made from text, list and entries. */
 
-static void add_blocks(struct table *table)
+static void add_code(struct table *table)
 {
-    table->blocks = room(POLLUX_MAX_BLOCKS_SIZE);
-    struct pollux_answer answer = plain_translate(table->text.at, table->text.length, table->list.at, table->list.length,
-                                                  table->blocks.at, table->blocks.length);
+    struct input blocks = room(POLLUX_MAX_BLOCKS_SIZE);
+    struct pollux_answer answer =
+        plain_translate(table->text.at, table->text.length, table->list.at, table->list.length, blocks.at, blocks.length);
     if (answer.says != POLLUX_DONE) {
         fprintf(stderr, "%s: its restriction does not pass\n", table->name);
         exit(3);
     }
-    table->instructions = answer.value;
-    table->blocks.length = POLLUX_BLOCKS_SIZE(answer.value);
+    blocks.length = POLLUX_BLOCKS_SIZE(answer.value);
+    table->code = (struct code){ blocks, answer.value };
+}
+
+static void add_unskipped(struct table *table)
+{
+    struct code all = table->code, *kept = &table->unskipped;
+    *kept = (struct code){ room(all.blocks.length), 0 };
+    for (size_t i = 0; i < all.instructions; i++) {
+        const uint8_t *instruction = all.blocks.at + instruction_place(i);
+        if (instruction[0] != SKIP)
+            memcpy(kept->blocks.at + instruction_place(kept->instructions++), instruction, POLLUX_INSTRUCTION_SIZE);
+    }
+    kept->blocks.length = POLLUX_BLOCKS_SIZE(kept->instructions);
+    for (size_t index = 0; index < kept->blocks.length / POLLUX_BLOCK_SIZE; index++)
+        seal_block(kept->blocks.at + index * POLLUX_BLOCK_SIZE, index, kept->instructions, table->list.length / POLLUX_KEY_SIZE);
+}
+
+static void add_entry(struct input *entries, struct input entry)
+{
+    memcpy(entries->at + entries->length, entry.at, entry.length);
+    entries->length += entry.length;
 }
 
 static void add_conforming(struct table *table)
 {
-    table->conforming = room(table->entries.length);
-    table->conforming.length = 0;
+    table->conforming = (struct input){ room(table->entries.length).at, 0 };
+    table->accepted = (struct input){ room(table->entries.length).at, 0 };
+    table->violated = (struct input){ room(table->entries.length).at, 0 };
     for (size_t i = 0; i < entry_count(table); i++) {
         struct input entry = entry_of(table, i);
         struct pollux_answer answer = plain_judge(table->text.at, table->text.length, table->list.at, table->list.length,
                                                   entry.at, entry.length);
         if (answer.says == POLLUX_REFUSED)
             continue;
-        memcpy(table->conforming.at + table->conforming.length, entry.at, entry.length);
-        table->conforming.length += entry.length;
+        add_entry(&table->conforming, entry);
+        add_entry(answer.says == POLLUX_ACCEPTED ? &table->accepted : &table->violated, entry);
     }
 }
 
@@ -196,7 +216,8 @@ void make_tables(struct table tables[TABLES], const char *folder)
     make_prefixes(&tables[4]);
     make_limit(&tables[5]);
     for (int i = 0; i < TABLES; i++) {
-        add_blocks(&tables[i]);
+        add_code(&tables[i]);
+        add_unskipped(&tables[i]);
         add_conforming(&tables[i]);
     }
 }

@@ -4,15 +4,20 @@
 
 #include "../tests/c/requests.h"
 
+struct code {
+    struct input blocks;
+    size_t instructions;
+};
+
 struct table {
     const char *name;
     struct input text, list, entries;
     size_t entry_size;
     bool (*by_hand)(const uint8_t *entry); /* or NULL */
     /* Made from the above: */
-    struct input blocks;
-    size_t instructions;
-    struct input conforming; /* the entries that are not refused, end to end */
+    struct code code;                            /* its translation */
+    struct code unskipped;                       /* the same without its skips: what was made before there were any */
+    struct input conforming, accepted, violated; /* the entries that are not refused, end to end, and these by what is said of them */
 };
 
 enum { TABLES = 6 };

@@ -15,7 +15,7 @@ use Rattle.paper.specs.Addresses.{Scheme, ipv4, ipv6, mac, parts, every,
 use Rattle.paper.specs.BlocksRoundTrip.{All}
 use Rattle.paper.proofs.Basics.{all-append, If, and-right}
 
-abbrev AllBelow : ℕ → List ℕ → Type 0
+abbrev pub AllBelow : ℕ → List ℕ → Type 0
 AllBelow m ds = All (λ d. d < m) ds
 
 below-zeros : (m n : ℕ) → 0 < m → AllBelow m (replicate n 0)
@@ -29,12 +29,12 @@ digits-below base [] n m h l = rw (pow-zero, mul-one) l
 digits-below base (d ∷ ds) n m h l =
     rw (pow-succ' base (length ds), ← mul-assoc m base (base ^ length ds)) (digits-below base ds (n * base + d) (m * base) (h .1) (digits-lt l (h .0)))
 
-number-below : (base : ℕ) (ds : List ℕ) → AllBelow base ds → inBase base ds < base ^ length ds
+pub number-below : (base : ℕ) (ds : List ℕ) → AllBelow base ds → inBase base ds < base ^ length ds
 number-below base ds h = subst (λ x. inBase base ds < x) (one-mul (base ^ length ds)) (digits-below base ds 0 1 h (omega arith))
 
 -- a run of digits
 
-run-below : (base : ℕ) (s : List ℕ) → span (λ b. ltb (digitOf b) base) s ≡ length s → AllBelow base (map digitOf s)
+pub run-below : (base : ℕ) (s : List ℕ) → span (λ b. ltb (digitOf b) base) s ≡ length s → AllBelow base (map digitOf s)
 run-below base [] h = tt
 run-below base (b ∷ s) h = go (ltb (digitOf b) base) refl h (run-below base s)
   where

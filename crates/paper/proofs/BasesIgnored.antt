@@ -3,9 +3,8 @@
 -- stages of a call together, or are refused with one number (`after`).
 use Prim.Native.Nat.{ℕ, _*_, _≤_}
 use mathlib.Core.Path.{_≡_, refl, sym, ap, ap₂, _∙_}
-use mathlib.Core.Bool.{Bool, true, false}
 use mathlib.Core.Option.{Option, none, some}
-use mathlib.Core.List.{List, [], _∷_, _++_}
+use mathlib.Core.List.{List}
 use lib.ListN.{length}
 use lib.Dec.{leb}
 use borrow.Author.Tests.{le-leb}
@@ -19,8 +18,8 @@ use Rattle.paper.specs.Meaning.{valueOf, isTrue}
 use Rattle.paper.specs.Blocks.{blockSize, blocksNeeded, blocksOf}
 use Rattle.paper.specs.Translating.{hasType, codeOf}
 use Rattle.paper.specs.Print.{bare}
-use Rattle.paper.specs.Calls.{sized, tree, Restriction, restriction, checkAnswer, judgeAnswer, roomFor, translatable, translateAnswer, filled, laid, translateBuffer}
-use Rattle.paper.specs.BasesIgnored.{withoutBases, SameTrees, placed, AnsweredAlike, BasesIgnored}
+use Rattle.paper.specs.Calls.{tree, Restriction, restriction, checkAnswer, judgeAnswer, roomFor, translatable, translateAnswer, filled, laid, translateBuffer}
+use Rattle.paper.specs.BasesIgnored.{withoutBases, placed, AnsweredAlike, BasesIgnored}
 use Rattle.paper.proofs.Stages.{never-ok, test-again}
 
 has-placed : (p : ℕ → ℕ) (x : Answer Ty) → hasType (placed p x) ≡ hasType x
@@ -33,7 +32,7 @@ laid-placed p (refused n i at) buffer = refl
 
 -- numerals in decimal, and every place through p
 module _ (p : ℕ → ℕ) where
-  abbrev moved : Tree → Tree
+  abbrev pub moved : Tree → Tree
   moved (truth at b) = truth (p at) b
   moved (number at n) = number (p at) (plain (n .value))
   moved (key at w) = key (p at) w
@@ -125,6 +124,17 @@ module _ (p : ℕ → ℕ) where
   code-moved ks (joined at o l r) = rw (code-moved ks l, code-moved ks r)
   code-moved ks (compared at c l r) = rw (code-moved ks l, code-moved ks r, type-had ks l, type-had ks r)
 
+-- two trees that are one, moved by p
+module _ (p : ℕ → ℕ) (first second : Tree) (same : moved p first ≡ moved p second) where
+  pub types-alike : (ks : List Key) → placed p (typeOf ks first) ≡ placed p (typeOf ks second)
+  types-alike ks = sym (types-moved p ks first) ∙ ap (typeOf ks) same ∙ types-moved p ks second
+
+  pub values-alike : (ks : List Key) (e : Entry) → valueOf ks e first ≡ valueOf ks e second
+  values-alike ks e = sym (values-moved p ks e first) ∙ ap (valueOf ks e) same ∙ values-moved p ks e second
+
+  pub code-alike : (ks : List Key) → codeOf ks first ≡ codeOf ks second
+  code-alike ks = sym (code-moved p ks first) ∙ ap (codeOf ks) same ∙ code-moved p ks second
+
 -- the two ways in which trees are the same
 
 stays : (t : Tree) → withoutBases t ≡ moved (λ at. at) t
@@ -212,12 +222,6 @@ module _ (p : ℕ → ℕ) (v w : List ℕ) (first second : Tree) (short-v : len
     typed-alike : (ks : List Key) → placed p (typed ks first) ≡ placed p (typed ks second)
     typed-alike ks = sym (typed-moved p ks first) ∙ ap (typed ks) same ∙ typed-moved p ks second
 
-    values-alike : (ks : List Key) (e : Entry) → valueOf ks e first ≡ valueOf ks e second
-    values-alike ks e = sym (values-moved p ks e first) ∙ ap (valueOf ks e) same ∙ values-moved p ks e second
-
-    code-alike : (ks : List Key) → codeOf ks first ≡ codeOf ks second
-    code-alike ks = sym (code-moved p ks first) ∙ ap (codeOf ks) same ∙ code-moved p ks second
-
     abbrev with : List Key → Tree → Restriction
     with ks t = record { keys = ks; root = t }
 
@@ -250,18 +254,18 @@ module _ (p : ℕ → ℕ) (v w : List ℕ) (first second : Tree) (short-v : len
       where
         go : (x : Answer Entry) → placed p (x >>= λ e. ok (isTrue (valueOf ks e first))) ≡ placed p (x >>= λ e. ok (isTrue (valueOf ks e second)))
         go (refused n i at) = refl
-        go (ok e) = ap (λ o. ok (isTrue o)) (values-alike ks e)
+        go (ok e) = ap (λ o. ok (isTrue o)) (values-alike p first second same ks e)
 
     alike : AnsweredAlike p v w
     alike =
         record {
           checked = λ list. rw (check-is v list, check-is w list) (after list (λ _. ok tt) (λ ks. refl));
           judged = λ list entry. rw (judge-is v list entry, judge-is w list entry) (after list _ (judged-alike entry));
-          translated = λ list buffer. rw (translate-is v list buffer, translate-is w list buffer) (after list (made count buffer) (λ ks. rw (code-alike ks)));
+          translated = λ list buffer. rw (translate-is v list buffer, translate-is w list buffer) (after list (made count buffer) (λ ks. rw (code-alike p first second same ks)));
           blocks = λ list buffer.
               buffer-is v list buffer
               ∙ sym (laid-placed p (restriction v list >>= made blocks buffer) buffer)
-              ∙ ap (λ (x : Answer (List ℕ)). laid x buffer) (after list (made blocks buffer) (λ ks. rw (code-alike ks)))
+              ∙ ap (λ (x : Answer (List ℕ)). laid x buffer) (after list (made blocks buffer) (λ ks. rw (code-alike p first second same ks)))
               ∙ laid-placed p (restriction w list >>= made blocks buffer) buffer
               ∙ sym (buffer-is w list buffer);
         }

@@ -20,13 +20,15 @@ use Rattle.paper.specs.ExplainedRight.{judgementOf}
 use Rattle.paper.specs.Named.{summaryAnswer, summarizingSays}
 use Rattle.paper.specs.Rechecking.{Rechecked, reused, judged}
 use Rattle.paper.specs.RecheckedRight.{Reusable, Rechecks, is-reused, is-judged}
-use Rattle.paper.specs.Table.{Clear, ByTable, Stage, sizeStages, listStages, treeStages, entryStages, blockStages, bufferStages, printingStages, checkStages, readStages, judgeStages, translateStages, loadStages, runStages, printStages}
-use Rattle.paper.specs.Promised.{ReadPromised, CheckPromised, JudgePromised, TranslateResult, TranslatePromised, LoadPromised, RunPromised, PrintResult, PrintPromised, ExplainPromised, SummarizePromised, RecheckPromised}
-use Rattle.paper.specs.Demands.{Lent, lent, Refusal, Answered, ReadAnswered, CheckAnswered, EntryAnswered, JudgeAnswered, TranslateAnswered, LoadAnswered, RunAnswered, PrintAnswered, ExplainAnswered, SummarizeAnswered, RecheckAnswered, DemandOneMet}
+use Rattle.paper.specs.Fixing.{fixAnswer, fixingSays}
+use Rattle.paper.specs.Table.{Clear, ByTable, Stage, sizeStages, listStages, treeStages, entryStages, blockStages, bufferStages, printingStages, fixingStages, checkStages, readStages, judgeStages, translateStages, loadStages, runStages, printStages, fixStages}
+use Rattle.paper.specs.Promised.{ReadPromised, CheckPromised, JudgePromised, TranslateResult, TranslatePromised, LoadPromised, RunPromised, PrintResult, PrintPromised, FixResult, FixPromised, ExplainPromised, SummarizePromised, RecheckPromised}
+use Rattle.paper.specs.Demands.{Lent, lent, Refusal, Answered, ReadAnswered, CheckAnswered, EntryAnswered, JudgeAnswered, TranslateAnswered, LoadAnswered, RunAnswered, PrintAnswered, FixAnswered, ExplainAnswered, SummarizeAnswered, RecheckAnswered, DemandOneMet}
 use Rattle.paper.proofs.TranslationCorrect.{refused-unchanged}
-use Rattle.paper.proofs.RefusalsLocated.{AllLocated, LiesIn, located-then, decided-lies, size-located, list-located, tree-located, check-located, buffer-located, block-located, entry-located, printing-located}
+use Rattle.paper.proofs.RefusalsLocated.{AllLocated, LiesIn, located-then, decided-lies, size-located, list-located, tree-located, check-located, buffer-located, block-located, entry-located, printing-located, fixing-located}
 use Rattle.paper.proofs.Table.{table-holds}
 use Rattle.paper.proofs.PrintDemands.{print-unchanged}
+use Rattle.paper.proofs.FixDemands.{fix-unchanged}
 use Rattle.paper.proofs.ExplainedRight.{explained-as-judged, judge-passes}
 use Rattle.paper.proofs.RecheckedRight.{reused-exactly}
 use Rattle.paper.proofs.Promised.{judgement-same}
@@ -136,6 +138,17 @@ print-answered text buffer r promised =
       unchanged = print-unchanged text buffer r promised;
     }
 
+pub fix-answered : (text buffer : List ℕ) (r : FixResult) → FixPromised text buffer r → FixAnswered text buffer r
+fix-answered text buffer r promised =
+    let inputs = lent inText text ∷ lent inBuffer buffer ∷ [] in
+    record {
+      says =
+          answered-by inputs (fixAnswer text buffer) (fixingSays (r .answer)) (fixStages text buffer) (table-holds .fix text buffer)
+          (located-then inputs (sizeStages text) (fixingStages text buffer) (size-located inputs text here)
+          (λ _. fixing-located inputs text buffer here second)) (promised .says);
+      unchanged = fix-unchanged text buffer r promised;
+    }
+
 pub summarize-answered : (text list : List ℕ) (r : Summarizing) → SummarizePromised text list r → SummarizeAnswered text list r
 summarize-answered text list r promised =
     let inputs = lent inText text ∷ lent inList list ∷ [] in
@@ -188,4 +201,5 @@ demand-one-met p kept =
       summarize = λ text list t l. summarize-answered text list (p .summarize text list) (kept .summarize text list t l);
       recheck = λ text list old earlier new t l o n.
           recheck-answered text list old earlier new (p .recheck text list old earlier new) (kept .recheck text list old earlier new t l o n);
+      fix = λ text buffer t b. fix-answered text buffer (p .fix text buffer) (kept .fix text buffer t b);
     }

@@ -5,7 +5,7 @@ use mathlib.Core.List.{List, [], _∷_, _++_, List·Memᴰ, List·Memᴰ·head, 
 use lib.ListN.{length}
 use native.Mathlib.Omega.{arith}
 use Rattle.paper.specs.Answers.{Answer, ok, refused, _>>=_}
-use Rattle.paper.specs.Tokens.{Token, Scan, blank, token, noToken, tooLarge, scan, onward, tokensFrom, mostTokens, tokens}
+use Rattle.paper.specs.Tokens.{Token, Scan, blank, token, octalNumeral, noToken, tooLarge, scan, onward, tokensBy, tokensFrom, mostTokens, tokens}
 use Rattle.paper.specs.Sentences.{placeFrom}
 use Rattle.paper.specs.Places.{Rising, OffsetsRise, OffsetsInText, PlacesInText, RefusalsInText}
 use Rattle.paper.proofs.Refusals.{parsed-is-right}
@@ -35,11 +35,13 @@ onward-rises : (c : Scan) (at room below : ℕ) (go : ℕ → ℕ → Answer (Li
 onward-rises (blank n) at room below go l h = sooner-of at (suc at) below (go n room) (omega arith) (h n room)
 onward-rises (token t n) at zero below go l h = tt
 onward-rises (token t n) at (suc room) below go l h = with-first (record { at = at; tok = t }) below (go n room) l (h n room)
+onward-rises (octalNumeral v n) at zero below go l h = tt
+onward-rises (octalNumeral v n) at (suc room) below go l h = tt
 onward-rises noToken at room below go l h = tt
 onward-rises tooLarge at room below go l h = tt
 
 from-rises : (s : List ℕ) (n at room below : ℕ) → at + length s ≤ below → Of (Rising at below) (tokensFrom n at room s)
-unfolding tokensFrom
+unfolding tokensBy
 from-rises [] n at room below l = tt
 from-rises (b ∷ s) (suc n) at room below l =
     sooner-of at (suc at) below (tokensFrom n (suc at) room s) (omega arith) (from-rises s n (suc at) room below (omega arith))

@@ -1,16 +1,15 @@
 -- A part's stretch lies in the text, since its tokens do, and no token takes a byte past the text's end; its root's place is the offset of
 -- one of them. And there are few parts: each has a token, and a ";" stands between two.
-use Prim.Native.Nat.{ℕ, zero, suc, _+_, _*_, _^_, _≤_, _<_, zero-le, suc-le-suc}
+use Prim.Native.Nat.{ℕ, suc, _+_, _*_, _≤_, _<_, zero-le}
 use native.Mathlib.Omega.{arith}
-use mathlib.Core.Path.{_≡_, refl, sym, ap, subst}
-use mathlib.Core.Bool.{Bool, true, false, not, cond, _&&_, _||_, true≢false}
-use mathlib.Core.Option.{Option, none, some}
+use mathlib.Core.Path.{_≡_, refl, ap, subst}
+use mathlib.Core.Bool.{Bool, true, false, cond}
+use mathlib.Core.Option.{some}
 use mathlib.Core.List.{List, [], _∷_, List·Memᴰ, List·Memᴰ·head, List·Memᴰ·tail}
-use lib.ListN.{length, take, drop, length-drop}
-use lib.Dec.{eqb, ltb}
+use lib.ListN.{length, drop, length-drop}
 use Rattle.paper.specs.Answers.{ok}
 use Rattle.paper.specs.Numbers.{byteAt}
-use Rattle.paper.specs.Tokens.{is, span, starts, isIdByte, isIdStart, isDigit, isBlank, wordMore, spelling, isNumeral, numeralValue, literalOf, oneByte, twoBytes, Sign, numeral, string, Tok, Token, Scan, blank, token, noToken, tooLarge, scanComment, scanString, scanNumeral, scanOne, scanTwo, scanSign, isSpace, isSlash, isQuote, isLetter, isFigure, isOther, scanClass, scan, tokens}
+use Rattle.paper.specs.Tokens.{Tok, Token, token, tokens}
 use Rattle.paper.specs.Grammar.{Tree, truth, number, key, field, attribute, prefixed, joined, compared, placeOf, parsed}
 use Rattle.paper.specs.Places.{Everywhere, Rising}
 use Rattle.paper.specs.BlocksRoundTrip.{All}
@@ -20,85 +19,13 @@ use Rattle.paper.specs.PartsDecide.{PartIn, PartsInText, FewParts, AtMos
 use Rattle.paper.proofs.Basics.{all-append}
 use Rattle.paper.proofs.Stages.{never-ok}
 use Rattle.paper.proofs.Nodes.{places-as-offsets}
+use Rattle.paper.proofs.ScansFit.{Fits, scan-fits}
 use Rattle.paper.proofs.Offsets.{sooner, offsets-rise}
 use Rattle.paper.proofs.TokenFaults.{tokens-are-cut}
 use Rattle.paper.proofs.TokenNumbers.{tokens-within}
 use Rattle.paper.proofs.PartsCut.{partOf, Made, no-part, a-part, parts-made}
 
--- no token takes a byte that is not there
-
-abbrev Fits : List ℕ → Scan → Type 0
-Fits s (blank n) = Unit {0}
-Fits s (token t n) = n ≤ length s
-Fits s noToken = Unit {0}
-Fits s tooLarge = Unit {0}
-
-either-fits : (s : List ℕ) (b : Bool) (x y : Scan) → (b ≡ true → Fits s x) → Fits s y → Fits s (cond b x y)
-either-fits s true x y h g = h refl
-either-fits s false x y h g = g
-
-one-more-fits : (b : Bool) {n m : ℕ} → n ≤ m → cond b (suc n) 0 ≤ suc m
-one-more-fits true h = suc-le-suc h
-one-more-fits false h = zero-le
-
-span-fits : (p : ℕ → Bool) (s : List ℕ) → span p s ≤ length s
-span-fits p [] = zero-le
-span-fits p (b ∷ s) = one-more-fits (p b) (span-fits p s)
-
-word-fits : (s : List ℕ) → wordMore s ≤ length s
-word-fits [] = zero-le
-word-fits (b ∷ s) = one-more-fits (isIdByte b || is "." b && starts isIdStart s) (word-fits s)
-
-starts-fits : (p : ℕ → Bool) (n : ℕ) (s : List ℕ) → starts p (drop n s) ≡ true → suc n ≤ length s
-starts-fits p zero [] h = absurd (true≢false (sym h))
-starts-fits p (suc n) [] h = absurd (true≢false (sym h))
-starts-fits p zero (b ∷ s) h = suc-le-suc zero-le
-starts-fits p (suc n) (b ∷ s) h = suc-le-suc (starts-fits p n s h)
-
-comment-fits : (s : List ℕ) → Fits s (scanComment s)
-comment-fits [] = tt
-comment-fits (c ∷ s) = either-fits (c ∷ s) (is "/" c) (blank _) noToken (λ _. tt) tt
-
-string-fits : (s : List ℕ) → Fits s (scanString s)
-string-fits s =
-    let n = span (λ b. not (is "'" b || eqb b 10)) s in
-    either-fits s (starts (is "'") (drop n s)) (token (string (take n s)) (suc n)) noToken (starts-fits (is "'") n s) tt
-
-numeral-fits : (b : ℕ) (s : List ℕ) → Fits s (scanNumeral b s)
-numeral-fits b s =
-    let more = span isIdByte s in
-    let n = spelling (b ∷ take more s) in
-    let small = token (numeral (literalOf n)) more in
-    either-fits s (isNumeral n) (cond (ltb (numeralValue n) (2 ^ 128)) small tooLarge) noToken
-    (λ _. either-fits s (ltb (numeralValue n) (2 ^ 128)) small tooLarge (λ _. span-fits isIdByte s) tt) tt
-
-one-fits : (s : List ℕ) (o : Option Sign) → Fits s (scanOne o)
-one-fits s none = tt
-one-fits s (some g) = zero-le
-
-two-fits : (c : ℕ) (s : List ℕ) (o : Option Sign) (b : ℕ) → Fits (c ∷ s) (scanTwo o b)
-two-fits c s none b = one-fits (c ∷ s) (oneByte b)
-two-fits c s (some g) b = suc-le-suc zero-le
-
-sign-fits : (b : ℕ) (s : List ℕ) → Fits s (scanSign b s)
-sign-fits b [] = one-fits [] (oneByte b)
-sign-fits b (c ∷ s) = two-fits c s (twoBytes b c) b
-
--- by the tests that give a byte its class, in their order
-scan-fits : (b : ℕ) (s : List ℕ) → Fits s (scan b s)
-unfolding scan
-scan-fits b s = go (isBlank b) (is "/" b) (is "'" b) (isIdStart b) (isDigit b)
-  where
-    go : (blank slash quote letter digit : Bool)
-        → Fits s (scanClass (cond blank isSpace (cond slash isSlash (cond quote isQuote (cond letter isLetter (cond digit isFigure isOther))))) b s)
-    go true slash quote letter digit = tt
-    go false true quote letter digit = comment-fits s
-    go false false true letter digit = string-fits s
-    go false false false true digit = word-fits s
-    go false false false false true = numeral-fits b s
-    go false false false false false = sign-fits b s
-
--- so each token of a text ends in it
+-- each token of a text ends in it
 
 module _ (text : List ℕ) where
   abbrev EndsIn : Token → Type 0

@@ -8,13 +8,14 @@ use lib.Dec.{leb}
 use borrow.Author.Tests.{leb-true, le-leb}
 use Rattle.paper.specs.declared.Place.{Place}
 use Rattle.paper.specs.declared.Printing.the-variants as W
-use Rattle.paper.specs.Answers.{Input, inText, Answer, ok, refused, _>>=_, inputOf, offsetOf, printingSays}
+use Rattle.paper.specs.Answers.{inText, ok, _>>=_, inputOf, offsetOf, printingSays}
 use Rattle.paper.specs.Tokens.{mostText}
 use Rattle.paper.specs.Print.{print}
 use Rattle.paper.specs.Calls.{printable, printAnswer, laid, printBuffer}
 use Rattle.paper.specs.Promised.{PrintResult, PrintPromised}
 use Rattle.paper.specs.Demands.{Printable, PrintedRight}
-use Rattle.paper.proofs.Stages.{never-ok, ok-same, bind-ok, require-ok}
+use Rattle.paper.proofs.Stages.{ok-same, bind-ok, require-ok}
+use Rattle.paper.proofs.Lending.{refused-before}
 use Rattle.paper.proofs.Promised.{printing-same}
 use Rattle.paper.proofs.WellFormed.{formed-tree, tree-formed}
 use Rattle.paper.proofs.PrintReadsBack.{printable-is, lent-has}
@@ -27,11 +28,6 @@ module _ (text buffer : List ℕ) where
   buffer-is : printBuffer text buffer ≡ laid (printable text buffer) buffer
   unfolding printBuffer
   buffer-is = refl
-
-  -- a refusal of the answer is one of the bytes that were to be lent
-  refused-before : (x : Answer (List ℕ)) (n : ℕ) (i : Input) (at : ℕ) → (x >>= λ s. ok (length s)) ≡ refused n i at → laid x buffer ≡ buffer
-  refused-before (ok s) n i at e = absurd (never-ok (sym e))
-  refused-before (refused m j to) n i at e = refl
 
   printable-bytes : (n : ℕ) (p : Printable text buffer n) → printable text buffer ≡ ok (print (p .root))
   printable-bytes n p =
@@ -62,7 +58,7 @@ module _ (text buffer : List ℕ) where
     pub print-unchanged : (n : ℕ) (at : Place) → r .answer ≡ W.Refused n at → r .buffer ≡ buffer
     print-unchanged n at e =
         promised .holds ∙ buffer-is
-        ∙ refused-before (printable text buffer) n (inputOf at) (offsetOf at) (sym answer-is ∙ sym (promised .says) ∙ ap printingSays e)
+        ∙ refused-before buffer (printable text buffer) n (inputOf at) (offsetOf at) (sym answer-is ∙ sym (promised .says) ∙ ap printingSays e)
 
     pub printed-right : PrintedRight text buffer r
     printed-right =

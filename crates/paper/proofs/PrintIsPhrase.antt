@@ -1,26 +1,26 @@
 -- The print of a clean tree is cut into tokens that are a phrase on the rung of the tree, with the same tree, places aside: by one
 -- induction on the tree, for any place in a text and any number of levels that is enough.
-use Prim.Native.Nat.{ℕ, zero, suc, _+_, _-_, _/_, _%_, _^_, _≤_, _<_, max}
-use native.Mathlib.Nat.{lt-of-lt-of-le, le-max-left, le-max-right, le-trans}
+use Prim.Native.Nat.{ℕ, zero, suc, _+_, _-_, _^_, _≤_, _<_, max}
+use native.Mathlib.Nat.{le-max-left, le-max-right, le-trans}
 use native.Mathlib.Omega.{arith}
 use mathlib.Core.Path.{_≡_, refl, sym, ap, ap₂, subst, _∙_}
-use mathlib.Core.Bool.{Bool, true, false, cond, true≢false, and-eq-true-iff}
+use mathlib.Core.Bool.{Bool, true, false, true≢false, and-eq-true-iff}
 use mathlib.Core.Option.{some}
 use mathlib.Core.List.{List, [], _∷_, _++_, map, append-assoc, append-nil}
 use lib.ListN.{length, drop, length-append}
 use lib.Dec.{eqb, ltb}
-use borrow.Author.Tests.{ltb-false, leb-true}
-use Rattle.paper.specs.Numbers.{inBase}
-use Rattle.paper.specs.Tokens.{bytes, isDigit, isIdStart, isIdByte, wordMore, isKey, Base, decimal, binary, octal, hex, radix, baseOf, Literal, literalIn, Prefix, notSign, minusSign, Join, sequel, implies, orElse, andAlso, Comparison, equal, unequal, greater, atLeast, less, atMost, join, comparison, prefix, opening, closing, colons, Tok, word, numeral, sign, Token, Scan, token, scan}
+use borrow.Author.Tests.{ltb-false}
+use Rattle.paper.specs.Tokens.{bytes, isDigit, isIdStart, isIdByte, wordMore, isKey, Base, decimal, binary, hex, radix, based, notationOf, Literal, literalIn, Prefix, notSign, minusSign, Join, sequel, implies, orElse, andAlso, Comparison, equal, unequal, greater, atLeast, less, atMost, join, comparison, prefix, opening, closing, colons, Tok, word, numeral, sign, Token, token, scan}
 use Rattle.paper.specs.Addresses.{address}
 use Rattle.paper.specs.Grammar.{Tree, truth, number, key, field, attribute, prefixed, joined, compared}
 use Rattle.paper.specs.BlocksRoundTrip.{All}
 use Rattle.paper.specs.Sentences.{Phrases, tokenAt, signAt, Operand, a-true, a-false, a-numeral, a-key, a-field, an-attribute, a-prefixed, Prefixed}
 use Rattle.paper.specs.Print.{bare, mostDigits, digitsIn, digitByte, numeralIn, literalBytes, prefixBytes, joinBytes, comparisonBytes, spaced, tightest, rung, rungOf, leftOf, rightOf, enclosed, looser, print}
 use Rattle.paper.specs.Sized.{deeper, wider, levels, count, Clean}
-use Rattle.paper.proofs.DigitsReadBack.{digits-back, digits-below}
+use Rattle.paper.proofs.DigitsReadBack.{digits-below}
 use Rattle.paper.proofs.Rungs.{Rung, looser-rung, join-rung, comparison-rung, enclosed-rung}
-use Rattle.paper.proofs.WordsScanned.{unlike, Loose, low-is-digit, counted, scan-word, scan-decimal, scan-announced}
+use Rattle.paper.proofs.WordsScanned.{unlike, Loose, low-is-digit, scan-word}
+use Rattle.paper.proofs.NumeralsScanned.{digits-some, decimal-scanned, announced-scanned}
 use Rattle.paper.proofs.PiecesCut.{Lexed, lexed-then, lexed-token, lexed-blank, after}
 
 -- signs
@@ -34,46 +34,6 @@ scan-closing : (s : List ℕ) → scan 41 s ≡ token (sign closing) 0
 unfolding scan
 scan-closing [] = refl
 scan-closing (c ∷ s) = refl
-
-digits-some : (base n : ℕ) → 0 < length (digitsIn base mostDigits n)
-digits-some base n = go (ltb n base)
-  where
-    go : (b : Bool) → 0 < length (cond b (n ∷ []) (digitsIn base 127 (n / base) ++ (n % base ∷ [])))
-    go true = omega arith
-    go false = omega (arith, length-append (digitsIn base 127 (n / base)) (n % base ∷ []))
-
-radix-two : (base : Base) → 2 ≤ radix base
-radix-two decimal = omega arith
-radix-two binary = omega arith
-radix-two octal = omega arith
-radix-two hex = omega arith
-
--- a number below 2^128 has digits enough in each base
-all-digits : (base : Base) → 2 ^ 128 ≤ radix base ^ mostDigits
-all-digits decimal = leb-true (2 ^ 128) (10 ^ mostDigits) refl
-all-digits binary = leb-true (2 ^ 128) (2 ^ mostDigits) refl
-all-digits octal = leb-true (2 ^ 128) (8 ^ mostDigits) refl
-all-digits hex = leb-true (2 ^ 128) (16 ^ mostDigits) refl
-
--- digits of a number in a base: there is one, each is of the base, and they count the number
-record DigitsOf (base : Base) (v : ℕ) (ds : List ℕ) : Type 0 where
-  pub some-digit : 0 < length ds
-  pub of-base : All (λ d. d < radix base) ds
-  pub count-it : inBase (radix base) ds ≡ v
-
-own-digits : (base : Base) (v : ℕ) → v < 2 ^ 128 → DigitsOf base v (digitsIn (radix base) mostDigits v)
-own-digits base v small =
-    let two = radix-two base in
-    record {
-      some-digit = digits-some (radix base) v;
-      of-base = digits-below (radix base) mostDigits v (omega arith);
-      count-it = digits-back (radix base) mostDigits v two (lt-of-lt-of-le small (all-digits base));
-    }
-
--- the digits of a number that is small enough, scanned to a token: to the token of the number
-own-token : (base : Base) (v : ℕ) (ds : List ℕ) (n : ℕ) (found : Scan) → v < 2 ^ 128 → inBase (radix base) ds ≡ v
-    → (inBase (radix base) ds < 2 ^ 128 → found ≡ token (numeral (counted base ds)) n) → found ≡ token (numeral (literalIn base v)) n
-own-token base v ds n found small e h = h (subst (λ x. x < 2 ^ 128) (sym e) small) ∙ ap (λ (x : ℕ). token (numeral (literalIn base x)) n) e
 
 -- an operand has no prefix of leaves that are no levels deep
 atom : (l : ℕ) (t : Tree) (ts : List Token) → ((Inner Outer : Phrases) → Operand address Inner Outer t ts) → Prefixed address l t ts
@@ -158,33 +118,22 @@ module _ (text : List ℕ) where
   -- numerals: in decimal digits alone, in any other base after a 0 and the letter that announces it
 
   decimal-reads : (p v : ℕ) → v < 2 ^ 128 → Reads tightest (numeralIn 10 v) 0 1 (number p (literalIn decimal v))
-  decimal-reads p v small l at rest lv = go (digitsIn 10 mostDigits v) (own-digits decimal v small)
-    where
-      go : (ds : List ℕ) → DigitsOf decimal v ds → drop at text ≡ map digitByte ds ++ rest → Loose rest
-          → Back at (map digitByte ds) l 5 1 (number p (literalIn decimal v))
-      go [] h here loose = absurd (omega (arith, h .some-digit))
-      go (d ∷ ds) h here loose =
-          let n = literalIn decimal v in
-          leaf (number p n) (number at n) (digitByte d) (map digitByte ds) (numeral n) l at rest refl (λ I O. a-numeral at n) here
-          (own-token decimal v (d ∷ ds) (length (map digitByte ds)) _ small (h .count-it) (λ m. scan-decimal d ds rest (h .of-base) m loose))
+  decimal-reads p v small l at rest lv here loose =
+      let n = literalIn decimal v in
+      let (b, s, digits, scanned) = decimal-scanned v small rest loose in
+      subst (λ (w : List ℕ). Back at w l 5 1 (number p n)) (sym digits)
+      (leaf (number p n) (number at n) b s (numeral n) l at rest refl (λ I O. a-numeral at n) (here ∙ ap (λ (w : List ℕ). w ++ rest) digits) scanned)
 
-  announced-reads : (letter : ℕ) (base : Base) → isIdByte letter ≡ true → baseOf letter ≡ some base → (p v : ℕ) → v < 2 ^ 128
+  announced-reads : (letter : ℕ) (base : Base) → isIdByte letter ≡ true → notationOf letter ≡ some (based base) → (p v : ℕ) → v < 2 ^ 128
       → Reads tightest (48 ∷ letter ∷ numeralIn (radix base) v) 0 1 (number p (literalIn base v))
-  announced-reads letter base id announces p v small l at rest lv = go (digitsIn (radix base) mostDigits v) (own-digits base v small)
-    where
-      go : (ds : List ℕ) → DigitsOf base v ds → drop at text ≡ (48 ∷ letter ∷ map digitByte ds) ++ rest → Loose rest
-          → Back at (48 ∷ letter ∷ map digitByte ds) l 5 1 (number p (literalIn base v))
-      go [] h here loose = absurd (omega (arith, h .some-digit))
-      go (d ∷ ds) h here loose =
-          let n = literalIn base v in
-          leaf (number p n) (number at n) 48 (letter ∷ map digitByte (d ∷ ds)) (numeral n) l at rest refl (λ I O. a-numeral at n) here
-          (own-token base v (d ∷ ds) (length (letter ∷ map digitByte (d ∷ ds))) _ small (h .count-it)
-          (λ m. scan-announced letter base id announces d ds rest (h .of-base) m loose))
+  announced-reads letter base id announces p v small l at rest lv here loose =
+      let n = literalIn base v in
+      leaf (number p n) (number at n) 48 (letter ∷ numeralIn (radix base) v) (numeral n) l at rest refl (λ I O. a-numeral at n) here
+      (announced-scanned letter base id announces v small rest loose)
 
   in-base-reads : (base : Base) (p v : ℕ) → v < 2 ^ 128 → Reads tightest (literalBytes (literalIn base v)) 0 1 (number p (literalIn base v))
   in-base-reads decimal = decimal-reads
   in-base-reads binary = announced-reads 98 binary refl refl
-  in-base-reads octal = announced-reads 111 octal refl refl
   in-base-reads hex = announced-reads 120 hex refl refl
 
   number-reads : (p : ℕ) (n : Literal) → n .value < 2 ^ 128 → Reads tightest (literalBytes n) 0 1 (number p n)
@@ -354,7 +303,6 @@ module _ (text : List ℕ) where
   literal-apart : (base : Base) (v : ℕ) → Apart (literalBytes (literalIn base v))
   literal-apart decimal v = digits-apart v
   literal-apart binary v = (refl, refl)
-  literal-apart octal v = (refl, refl)
   literal-apart hex v = (refl, refl)
 
   key-apart : (w s : List ℕ) → isKey w ≡ true → Apart (w ++ s)

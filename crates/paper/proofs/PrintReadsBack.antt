@@ -2,19 +2,20 @@
 -- and the print of such a tree is cut into tokens that are a phrase with it.
 use Prim.Native.Nat.{ℕ, _+_, _≤_}
 use native.Mathlib.Omega.{arith}
-use mathlib.Core.Path.{_≡_, refl, sym, ap, subst, _∙_}
-use mathlib.Core.Bool.{true, _&&_, and-eq-true-iff}
+use mathlib.Core.Path.{_≡_, refl, sym, ap, _∙_}
+use mathlib.Core.Bool.{true}
 use mathlib.Core.List.{List, [], append-nil}
 use lib.ListN.{length}
 use lib.Dec.{leb}
-use Rattle.paper.specs.Answers.{Answer, ok, _>>=_, require, inBuffer}
+use Rattle.paper.specs.Answers.{Answer, ok, _>>=_}
 use Rattle.paper.specs.Tokens.{Token, tokens, mostTokens, mostText}
 use Rattle.paper.specs.Addresses.{address}
 use Rattle.paper.specs.Grammar.{Tree, truth, number, key, field, attribute, prefixed, joined, compared, nodes, parsed, mostLevels}
 use Rattle.paper.specs.Sentences.{Prefixed, Whole, without}
 use Rattle.paper.specs.Faults.{Cut, at-start}
 use Rattle.paper.specs.Calls.{sized, tree, readAnswer, lends, printable}
-use Rattle.paper.proofs.Stages.{bind-ok, ok-same, require-ok}
+use Rattle.paper.proofs.Stages.{bind-ok, ok-same}
+use Rattle.paper.proofs.Lending.{lends-has}
 use Rattle.paper.proofs.TokenNumbers.{tokens-within}
 use Rattle.paper.proofs.TokenFaults.{tokens-are-cut}
 use Rattle.paper.proofs.Refusals.{read-is-valid}
@@ -188,19 +189,8 @@ pub lent-has : (text buffer s : List ℕ) → printable text buffer ≡ ok s →
 lent-has text buffer s h =
     let (u, small, more) = bind-ok (sized text) (λ _. tree text >>= λ t. lends (print t) buffer) s (sym (printable-is text buffer) ∙ h) in
     let (t, read, rest) = bind-ok (tree text) (λ t. lends (print t) buffer) s more in
-    let low = leb (length (print t)) mostText in
-    let fits = leb (length (print t)) (length buffer) in
-    let (v, passed, last) = bind-ok (require (low && fits) 21 inBuffer (length buffer)) (λ _. ok (print t)) s rest in
-    let same : print t ≡ s = ok-same (print t) s last in
-    let both : low && fits ≡ true = require-ok (low && fits) 21 inBuffer (length buffer) v passed in
-    record {
-      small = small;
-      root = t;
-      read = read;
-      lent = sym same;
-      short = subst (λ x. leb (length x) mostText ≡ true) same (and-eq-true-iff low fits .0 both .0);
-      room = subst (λ x. leb (length x) (length buffer) ≡ true) same (and-eq-true-iff low fits .0 both .1);
-    }
+    let l = lends-has (print t) buffer s rest in
+    record { small = small; root = t; read = read; lent = sym (l .same); short = l .short; room = l .room }
 
 pub lent-print-reads : LentPrintReads
 lent-print-reads text buffer s h =

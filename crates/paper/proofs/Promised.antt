@@ -20,6 +20,8 @@ use Rattle.paper.specs.declared.Running.{Running}
 use Rattle.paper.specs.declared.Running.the-variants as N
 use Rattle.paper.specs.declared.Printing.{Printing}
 use Rattle.paper.specs.declared.Printing.the-variants as W
+use Rattle.paper.specs.declared.Fixing.{Fixing}
+use Rattle.paper.specs.declared.Fixing.the-variants as F
 use Rattle.paper.specs.declared.Explanation.{Explanation}
 use Rattle.paper.specs.declared.Explanation.the-variants as X
 use Rattle.paper.specs.declared.Summarizing.{Summarizing}
@@ -33,6 +35,7 @@ use Rattle.paper.specs.Parts.{Part}
 use Rattle.paper.specs.Explained.{Reason, inPart, atKey, nothingToShow, falsePart, isRecord, keyIndex, nameStretch, reasonFor, explainAnswer, explanationSays}
 use Rattle.paper.specs.Named.{Summary, summaryAnswer, summarizingSays}
 use Rattle.paper.specs.Rechecking.{Rechecked, reused, judged, recheckAnswer, recheckingSays}
+use Rattle.paper.specs.Fixing.{fixAnswer, fixBuffer, fixingSays}
 use Rattle.paper.specs.Promised.{ExplainPromised, RecheckPromised, verdict, verdictIn, judgementOfRun, Sole, NoSecondResult, CanBeKept}
 
 -- places
@@ -168,6 +171,13 @@ printings = record { good = W.Printed; refusal = W.Refused; good-says = λ n. re
     go (W.Printed n) = is-good n
     go (W.Refused n p) = is-refusal n p
 
+fixings : Enum fixingSays
+fixings = record { good = F.Fixed; refusal = F.Refused; good-says = λ n. refl; refusal-says = λ n p. refl; either = go }
+  where
+    go : (r : Fixing) → Either F.Fixed F.Refused r
+    go (F.Fixed n) = is-good n
+    go (F.Refused n p) = is-refusal n p
+
 summaries : Enum summarizingSays
 summaries =
     record {
@@ -273,6 +283,9 @@ running-same = same-says runningSays runnings
 pub printing-same : (r s : Printing) → printingSays r ≡ printingSays s → r ≡ s
 printing-same = same-says printingSays printings
 
+pub fixing-same : (r s : Fixing) → fixingSays r ≡ fixingSays s → r ≡ s
+fixing-same = same-says fixingSays fixings
+
 pub summarizing-same : (r s : Summarizing) → summarizingSays r ≡ summarizingSays s → r ≡ s
 summarizing-same = same-says summarizingSays summaries
 
@@ -306,6 +319,13 @@ no-second-result =
       explain = one-explanation;
       summarize = λ text list. one-says summarizingSays summaries (summaryAnswer text list);
       recheck = one-recheck;
+      fix = λ text buffer.
+          let answer = one-says fixingSays fixings (fixAnswer text buffer) in
+          record {
+            result = record { answer = answer .result; buffer = fixBuffer text buffer };
+            satisfies = record { says = answer .satisfies; holds = refl };
+            no-second = λ r h i. record { answer = answer .no-second (r .answer) (h .says) i; buffer = h .holds i };
+          };
     }
 
 pub can-be-kept : CanBeKept
@@ -322,6 +342,7 @@ can-be-kept =
         explain = λ text list entry. s .explain text list entry .result;
         summarize = λ text list. s .summarize text list .result;
         recheck = λ text list old earlier new. s .recheck text list old earlier new .result;
+        fix = λ text buffer. s .fix text buffer .result;
       },
       record {
         read = λ text _. s .read text .satisfies;
@@ -334,5 +355,6 @@ can-be-kept =
         explain = λ text list entry _ _ _. s .explain text list entry .satisfies;
         summarize = λ text list _ _. s .summarize text list .satisfies;
         recheck = λ text list old earlier new _ _ _ _. s .recheck text list old earlier new .satisfies;
+        fix = λ text buffer _ _. s .fix text buffer .satisfies;
       },
     )

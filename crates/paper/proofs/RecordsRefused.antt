@@ -12,7 +12,7 @@ use Rattle.paper.specs.Keys.{Key, layoutRule, keys}
 use Rattle.paper.specs.Grammar.{Tree}
 use Rattle.paper.specs.Sentences.{Number, text-ends, no-sentence, too-deep, bad-string}
 use Rattle.paper.specs.Calls.{tree, judgeAnswer}
-use Rattle.paper.specs.Faults.{TextSize, text-over, ListSize, list-uneven, list-over, ListRecords, record-broken, name-repeated, TextTokens, no-token, numeral-large, one-more-token, TextGrammar, TreeTypes, key-unknown, key-of-field-unknown, field-unknown, attribute-unknown, prefix-wrong, join-wrong, comparison-wrong, in-operand, join-left, join-right, comparison-left, comparison-right, RootType, not-bool, EntrySize, entry-wrong, EntryRules, priority-broken, match-broken}
+use Rattle.paper.specs.Faults.{TextSize, text-over, ListSize, list-uneven, list-over, ListRecords, record-broken, name-repeated, TextTokens, no-token, numeral-large, one-more-token, one-more-octal, octal-numeral, TextGrammar, TreeTypes, key-unknown, key-of-field-unknown, field-unknown, attribute-unknown, prefix-wrong, join-wrong, comparison-wrong, in-operand, join-left, join-right, comparison-left, comparison-right, RootType, not-bool, EntrySize, entry-wrong, EntryRules, priority-broken, match-broken}
 use Rattle.paper.specs.Table.{Stage, Given, Decided, treeStages, typeStages, checkStages, entryStages}
 use Rattle.paper.specs.ExplainedRight.{recordPlace}
 use Rattle.paper.proofs.Table.{table-holds}
@@ -46,6 +46,8 @@ not-of-tokens : (text : List ℕ) (m at : ℕ) → TextTokens text m at → ¬ (
 not-of-tokens text m at (no-token cut inside s) e = omega arith
 not-of-tokens text m at (numeral-large cut inside s) e = omega arith
 not-of-tokens text m at (one-more-token k n cut full inside s) e = omega arith
+not-of-tokens text m at (one-more-octal v n cut full inside s) e = omega arith
+not-of-tokens text m at (octal-numeral v n cut inside s) e = omega arith
 
 not-of-number : (ts taken us : List Token) (m : ℕ) → Number ts taken us m → ¬ (m ≡ 20)
 not-of-number ts taken us m (text-ends h) e = omega arith

@@ -8,7 +8,7 @@ use mathlib.Core.Option.{Option, some}
 use mathlib.Core.List.{List, [], _∷_, _++_, List·Memᴰ}
 use lib.ListN.{length, length-append}
 use Rattle.paper.specs.Answers.{Input, inText, inList, inEntry, inBlocks, inBuffer, ok, inTurn}
-use Rattle.paper.specs.Tokens.{Token, tokens}
+use Rattle.paper.specs.Tokens.{Token, Scanner, scan, tokens}
 use Rattle.paper.specs.Keys.{Key, layoutRule, keys}
 use Rattle.paper.specs.Entry.{headSize, matchSize}
 use Rattle.paper.specs.Grammar.{Tree, truth, number, key, field, attribute, prefixed, joined, compared, parsed, placeOf}
@@ -19,8 +19,9 @@ use Rattle.paper.specs.Blocks.{inBlock, blocksIn, totalOf, blockTest}
 use Rattle.paper.specs.Loading.{instructionAt, program}
 use Rattle.paper.specs.Print.{print}
 use Rattle.paper.specs.Calls.{tree, restriction}
-use Rattle.paper.specs.Faults.{TextSize, text-over, ListSize, list-uneven, list-over, ListRecords, record-broken, name-repeated, TextTokens, no-token, numeral-large, one-more-token, TextGrammar, TreeTypes, key-unknown, key-of-field-unknown, field-unknown, attribute-unknown, prefix-wrong, join-wrong, comparison-wrong, in-operand, join-left, join-right, comparison-left, comparison-right, RootType, not-bool, BufferSize, buffer-short, BlocksSize, no-blocks, blocks-uneven, blocks-over, BlocksLayout, block-broken, BlocksCode, instruction-fails, skip-misfits, end-not-bool, EntrySize, entry-wrong, EntryRules, priority-broken, match-broken, LendingSize, over-limit, over-buffer}
-use Rattle.paper.specs.Table.{lastNumber, Free, Stage, Given, Decided, Clear, sizeStages, listStages, treeStages, typeStages, bufferStages, blockStages, entryStages, printingStages, checkStages}
+use Rattle.paper.specs.Fixing.{oldScan, fixed}
+use Rattle.paper.specs.Faults.{TextSize, text-over, ListSize, list-uneven, list-over, ListRecords, record-broken, name-repeated, TokenFaults, no-token, numeral-large, one-more-token, one-more-octal, octal-numeral, TextGrammar, TreeTypes, key-unknown, key-of-field-unknown, field-unknown, attribute-unknown, prefix-wrong, join-wrong, comparison-wrong, in-operand, join-left, join-right, comparison-left, comparison-right, RootType, not-bool, BufferSize, buffer-short, BlocksSize, no-blocks, blocks-uneven, blocks-over, BlocksLayout, block-broken, BlocksCode, instruction-fails, skip-misfits, end-not-bool, EntrySize, entry-wrong, EntryRules, priority-broken, match-broken, LendingSize, over-limit, over-buffer}
+use Rattle.paper.specs.Table.{lastNumber, Free, Stage, Given, Decided, Clear, sizeStages, listStages, treeStages, typeStages, bufferStages, blockStages, entryStages, printingStages, fixingStages, checkStages}
 use Rattle.paper.specs.Demands.{Lent, lent}
 use Rattle.paper.proofs.Basics.{some-below}
 use Rattle.paper.proofs.Stages.{bind-ok}
@@ -80,10 +81,12 @@ records-bounded : (list : List ℕ) (n at : ℕ) → ListRecords layoutRule list
 records-bounded list n at (record-broken k l h) = bound (omega arith) (omega arith) (omega arith)
 records-bounded list n at (name-repeated j k l m h) = bound (omega arith) (omega arith) (omega arith)
 
-tokens-bounded : (text : List ℕ) (n at : ℕ) → TextTokens text n at → Bounded text n at
-tokens-bounded text n at (no-token cut inside e) = bound (omega arith) (omega arith) (omega arith)
-tokens-bounded text n at (numeral-large cut inside e) = bound (omega arith) (omega arith) (omega arith)
-tokens-bounded text n at (one-more-token k m cut full inside e) = bound (omega arith) (omega arith) (omega arith)
+tokens-bounded : (look : Scanner) (text : List ℕ) (n at : ℕ) → TokenFaults look text n at → Bounded text n at
+tokens-bounded look text n at (no-token cut inside e) = bound (omega arith) (omega arith) (omega arith)
+tokens-bounded look text n at (numeral-large cut inside e) = bound (omega arith) (omega arith) (omega arith)
+tokens-bounded look text n at (one-more-token k m cut full inside e) = bound (omega arith) (omega arith) (omega arith)
+tokens-bounded look text n at (one-more-octal v m cut full inside e) = bound (omega arith) (omega arith) (omega arith)
+tokens-bounded look text n at (octal-numeral v m cut inside e) = bound (omega arith) (omega arith) (omega arith)
 
 number-bounded : (ts taken us : List Token) (n : ℕ) → Number ts taken us n → (1 ≤ n) × (n ≤ lastNumber)
 number-bounded ts taken us n (text-ends h) = (omega arith, omega arith)
@@ -204,12 +207,9 @@ rules-bounded list entry free n at (ks, listed, h) = go n at h
     go n at (priority-broken l) = bound (omega arith) (omega arith) (omega arith)
     go n at (match-broken k x e f) = bound (omega arith) (omega arith) (omega (arith, right, some-below ks k x e))
 
-lending-bounded : (text buffer : List ℕ) (n at : ℕ) → Given (tree text) (λ t. LendingSize (print t) buffer) n at → Bounded buffer n at
-lending-bounded text buffer n at (t, read, h) = go n at h
-  where
-    go : (n at : ℕ) → LendingSize (print t) buffer n at → Bounded buffer n at
-    go n at (over-limit l) = bound (omega arith) (omega arith) (omega arith)
-    go n at (over-buffer l) = bound (omega arith) (omega arith) (omega arith)
+lending-bounded : (new buffer : List ℕ) (n at : ℕ) → LendingSize new buffer n at → Bounded buffer n at
+lending-bounded new buffer n at (over-limit l) = bound (omega arith) (omega arith) (omega arith)
+lending-bounded new buffer n at (over-buffer l) = bound (omega arith) (omega arith) (omega arith)
 
 -- stages
 
@@ -228,7 +228,7 @@ module _ (inputs : List Lent) where
 
   pub tree-located : (text : List ℕ) → There inText text → AllLocated inputs (treeStages text)
   tree-located text m = (
-    record { bytes = text; among = m; bounded = tokens-bounded text },
+    record { bytes = text; among = m; bounded = tokens-bounded scan text },
     λ _. (record { bytes = text; among = m; bounded = grammar-bounded text }, λ _. tt),
   )
 
@@ -265,4 +265,14 @@ module _ (inputs : List Lent) where
   )
 
   pub printing-located : (text buffer : List ℕ) → There inBuffer buffer → AllLocated inputs (printingStages text buffer)
-  printing-located text buffer m = (record { bytes = buffer; among = m; bounded = lending-bounded text buffer }, λ _. tt)
+  printing-located text buffer m =
+      let bounded : (n at : ℕ) → Given (tree text) (λ t. LendingSize (print t) buffer) n at → Bounded buffer n at =
+      λ n at (t, read, h). lending-bounded (print t) buffer n at h
+      in
+      (record { bytes = buffer; among = m; bounded = bounded }, λ _. tt)
+
+  pub fixing-located : (text buffer : List ℕ) → There inText text → There inBuffer buffer → AllLocated inputs (fixingStages text buffer)
+  fixing-located text buffer m b = (
+    record { bytes = text; among = m; bounded = tokens-bounded oldScan text },
+    λ _. (record { bytes = buffer; among = b; bounded = lending-bounded (fixed text) buffer }, λ _. tt),
+  )

@@ -43,6 +43,11 @@ pub require-ok : (t : Bool) (n : ℕ) (i : Input) (at : ℕ) (u : Unit {0}) → 
 require-ok true n i at u e = refl
 require-ok false n i at u e = absurd (never-ok e)
 
+-- what follows from a property
+pub of-so : {A : Type 0} (P Q : A → Type 0) (x : Answer A) → Of P x → ((a : A) → P a → Q a) → Of Q x
+of-so P Q (ok a) h k = k a h
+of-so P Q (refused n i at) h k = tt
+
 -- a property along two stages
 pub of-bind : {A B : Type 0} (P : A → Type 0) (Q : B → Type 0) (x : Answer A) (f : A → Answer B) → Of P x → ((a : A) → P a → Of Q (f a))
     → Of Q (x >>= f)

@@ -21,14 +21,15 @@ use Rattle.paper.specs.Translating.{codeOf}
 use Rattle.paper.specs.Print.{print}
 use Rattle.paper.specs.Calls.{sized, tree, Restriction, restriction, readAnswer, checkAnswer, judgeAnswer, roomFor, translatable, translateAnswer, loadAnswer, ranTo, runAnswer, lends, printable, printAnswer}
 use Rattle.paper.specs.Named.{names, marked, setOf, Summary, summaryAnswer}
-use Rattle.paper.specs.Faults.{Faults, TextSize, text-over, TextTokens, TextGrammar, BufferSize, buffer-short, LendingSize, over-limit, over-buffer}
-use Rattle.paper.specs.Table.{Free, stage, Given, sizeStages, listStages, treeStages, typeStages, bufferStages, blockStages, entryStages, readStages, checkStages, judgeStages, translateStages, loadStages, runStages, printingStages, printStages, TableHolds}
+use Rattle.paper.specs.Fixing.{oldScan, oldTokens, fixed, fixable, fixAnswer}
+use Rattle.paper.specs.Faults.{Faults, TextSize, text-over, TokenFaults, TextTokens, TextGrammar, BufferSize, buffer-short, LendingSize, over-limit, over-buffer}
+use Rattle.paper.specs.Table.{Free, stage, Given, sizeStages, listStages, treeStages, typeStages, bufferStages, blockStages, entryStages, readStages, checkStages, judgeStages, translateStages, loadStages, runStages, printingStages, printStages, fixingStages, fixStages, TableHolds}
 use Rattle.paper.proofs.Basics.{either-false}
 use Rattle.paper.proofs.TranslationCorrect.{passing}
 use Rattle.paper.proofs.Refusals.{parsed-is-right}
 use Rattle.paper.proofs.StagesInOrder.{Tells, tells-as, test-tells, exact-tells, given-tells, Follows, follows-one, follows-as, follows-then, by-table}
 use Rattle.paper.proofs.ListFaults.{list-follows}
-use Rattle.paper.proofs.TokenFaults.{tokens-tell}
+use Rattle.paper.proofs.TokenFaults.{tokens-tell, old-tokens-tell}
 use Rattle.paper.proofs.TypeFaults.{types-follow}
 use Rattle.paper.proofs.EntryFaults.{entry-follows}
 use Rattle.paper.proofs.CodeFaults.{blocks-follow, load-follows}
@@ -47,7 +48,7 @@ size-follows text =
     (test-tells (TextSize text) (leb (length text) mostText) 1 inText mostText (text-free text)
     (λ h. text-over (leb-false (length text) mostText h)) (text-only text))
 
--- 5 to 7; 8 to 10
+-- 5 to 7 and 22; 8 to 10
 
 grammar-tells : (size : ℕ) (ts : List Token) → Tells inText (TextGrammar size ts) (parsed size ts)
 grammar-tells size ts =
@@ -183,6 +184,19 @@ print-follows text buffer =
     follows-one inBuffer (Given (tree text) size) (lends (print t) buffer)
     (given-tells (tree text) t read size inBuffer (lends (print t) buffer) (lending-tells (print t) buffer)))))
 
+fix-follows : (text buffer : List ℕ) → Follows (fixStages text buffer) (fixAnswer text buffer)
+unfolding fixAnswer fixable
+fix-follows text buffer =
+    let cutting = stage inText (TokenFaults oldScan text) ∷ [] in
+    let lending = stage inBuffer (LendingSize (fixed text) buffer) ∷ [] in
+    follows-as (fixStages text buffer) (fixable text buffer) length
+    (follows-then (sizeStages text) (fixingStages text buffer) (sized text) (λ _. oldTokens text >>= λ _. lends (fixed text) buffer)
+    (size-follows text)
+    (λ _ _.
+    follows-then cutting lending (oldTokens text) (λ _. lends (fixed text) buffer)
+    (follows-one inText (TokenFaults oldScan text) (oldTokens text) (old-tokens-tell text))
+    (λ _ _. follows-one inBuffer (LendingSize (fixed text) buffer) (lends (fixed text) buffer) (lending-tells (fixed text) buffer))))
+
 summarize-follows : (text list : List ℕ) → Follows (checkStages text list) (summaryAnswer text list)
 unfolding summaryAnswer
 summarize-follows text list =
@@ -201,4 +215,5 @@ table-holds =
       run = λ list blocks entry. by-table (runStages list blocks entry) (runAnswer list blocks entry) (run-follows list blocks entry);
       print = λ text buffer. by-table (printStages text buffer) (printAnswer text buffer) (print-follows text buffer);
       summarize = λ text list. by-table (checkStages text list) (summaryAnswer text list) (summarize-follows text list);
+      fix = λ text buffer. by-table (fixStages text buffer) (fixAnswer text buffer) (fix-follows text buffer);
     }

@@ -1,7 +1,7 @@
 -- Each example of tokens is computed from the definitions.
 use mathlib.Core.Path.{refl}
 use Rattle.paper.specs.Tokens.{tokens}
-use Rattle.paper.specs.TokenExamples.{ByteClasses, TokenExamples}
+use Rattle.paper.specs.TokenExamples.{ByteClasses, Crowded, TokenExamples}
 
 classes : ByteClasses
 unfolding tokens
@@ -15,12 +15,17 @@ classes =
       after-zero = refl;
       decimal = refl;
       binary = refl;
+      octal-after-zero = refl;
       octal = refl;
       hexadecimal = refl;
       not-in-a-string = refl;
       ends-a-comment = refl;
     }
 
+crowds : Crowded
+unfolding tokens
+crowds = record { in-room = refl; too-many = refl; too-large = refl }
+
 pub tokenExamples : TokenExamples
 unfolding tokens
-tokenExamples = record { classes = classes; two-bytes = refl; texts = refl; numbers = refl }
+tokenExamples = record { classes = classes; two-bytes = refl; texts = refl; numbers = refl; crowded = crowds }

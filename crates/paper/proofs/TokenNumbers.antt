@@ -8,7 +8,7 @@ use lib.ListN.{length, take, drop}
 use lib.Dec.{eqb, ltb}
 use borrow.Author.Tests.{ltb-true, eq-eqb}
 use Rattle.paper.specs.Answers.{Answer, ok}
-use Rattle.paper.specs.Tokens.{literalOf, is, span, starts, isIdByte, isIdStart, isDigit, isBlank, wordMore, isKey, Numeral, spelling, isNumeral, numeralValue, Sign, oneByte, twoBytes, Tok, word, numeral, string, sign, Token, Scan, blank, token, noToken, tooLarge, scanComment, scanOne, scanTwo, scanSign, isSpace, isSlash, isQuote, isLetter, isFigure, isOther, classOf, scanClass, scan, onward, tokensFrom, tokens, mostTokens}
+use Rattle.paper.specs.Tokens.{is, span, starts, isIdByte, isIdStart, isDigit, isBlank, wordMore, isKey, spelling, isNumeral, numeralValue, Notation, based, octal, literalIn, Sign, oneByte, twoBytes, Tok, word, numeral, string, sign, Token, Scan, blank, token, octalNumeral, noToken, tooLarge, numeralScan, scanComment, scanOne, scanTwo, scanSign, isSpace, isSlash, isQuote, isLetter, isFigure, isOther, classOf, scanClass, scan, onward, tokensBy, tokensFrom, tokens, mostTokens}
 use Rattle.paper.specs.BlocksRoundTrip.{All}
 use Rattle.paper.proofs.Stages.{Of, of-bind}
 
@@ -24,6 +24,7 @@ AllGood us = All (λ u. Good (u .tok)) us
 abbrev Scanned : Scan → Type 0
 Scanned (blank n) = Unit {0}
 Scanned (token t n) = Good t
+Scanned (octalNumeral v n) = Unit {0}
 Scanned noToken = Unit {0}
 Scanned tooLarge = Unit {0}
 
@@ -47,10 +48,13 @@ signs-good : (b : ℕ) (s : List ℕ) → Scanned (scanSign b s)
 signs-good b [] = sign-good (oneByte b)
 signs-good b (c ∷ s) = two-good (twoBytes b c) b
 
-numeral-good : (n : Numeral) (more : ℕ) (b : Bool) → ltb (numeralValue n) (2 ^ 128) ≡ b
-    → Scanned (cond b (token (numeral (literalOf n)) more) tooLarge)
-numeral-good n more true e = ltb-true (numeralValue n) (2 ^ 128) e
-numeral-good n more false e = tt
+numeral-good : (o : Notation) (v more : ℕ) → Scanned (numeralScan o v more)
+numeral-good octal v more = tt
+numeral-good (based base) v more = go (ltb v (2 ^ 128)) refl
+  where
+    go : (b : Bool) → ltb v (2 ^ 128) ≡ b → Scanned (cond b (token (numeral (literalIn base v)) more) tooLarge)
+    go true e = ltb-true v (2 ^ 128) e
+    go false e = tt
 
 -- the bytes that a word takes are a word as a whole
 
@@ -87,8 +91,8 @@ class-good b s = go (isBlank b) (is "/" b) (is "'" b) (isIdStart b) (isDigit b) 
     go false false false true digit e = rw (e, eq-eqb _ _ (word-taken s))
     go false false false false true e =
         let n = spelling (b ∷ take (span isIdByte s) s) in
-        either (isNumeral n) (cond (ltb (numeralValue n) (2 ^ 128)) (token (numeral (literalOf n)) (span isIdByte s)) tooLarge) noToken
-        (numeral-good n (span isIdByte s) (ltb (numeralValue n) (2 ^ 128)) refl) tt
+        either (isNumeral n) (numeralScan (n .notation) (numeralValue n) (span isIdByte s)) noToken
+        (numeral-good (n .notation) (numeralValue n) (span isIdByte s)) tt
     go false false false false false e = signs-good b s
 
 -- good tokens, and not more than there is room for
@@ -102,11 +106,13 @@ onward-within (blank n) at room go h k = k n room
 onward-within (token t n) at zero go h k = tt
 onward-within (token t n) at (suc room) go h k =
     of-bind (Within room) (Within (suc room)) (go n room) _ (k n room) (λ ts w. record { good = (h, w .good); few = suc-le-suc (w .few) })
+onward-within (octalNumeral v n) at zero go h k = tt
+onward-within (octalNumeral v n) at (suc room) go h k = tt
 onward-within noToken at room go h k = tt
 onward-within tooLarge at room go h k = tt
 
 from-within : (s : List ℕ) (n at room : ℕ) → Of (Within room) (tokensFrom n at room s)
-unfolding tokensFrom
+unfolding tokensBy scan
 from-within [] n at room = record { good = tt; few = zero-le }
 from-within (b ∷ s) (suc n) at room = from-within s n (suc at) room
 from-within (b ∷ s) zero at room =

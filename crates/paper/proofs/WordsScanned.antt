@@ -11,7 +11,7 @@ use lib.Seq.{take-at}
 use lib.Dec.{eqb, leb, ltb}
 use borrow.Author.Tests.{eqb-true, leb-true, lt-leb, le-leb, ne-eqb, eq-eqb, ltb-true, ltb-false, lt-ltb, le-ltb}
 use Rattle.paper.specs.Numbers.{inBase}
-use Rattle.paper.specs.Tokens.{is, isDigit, isIdStart, isIdByte, span, starts, wordMore, isKey, digitOf, Base, decimal, binary, octal, hex, radix, baseOf, Numeral, spelling, spelled, isNumeral, numeralValue, Literal, literalIn, literalOf, word, numeral, Scan, token, noToken, tooLarge, scan, isLetter, isFigure, classOf}
+use Rattle.paper.specs.Tokens.{is, isDigit, isIdStart, isIdByte, span, starts, wordMore, isKey, digitOf, Base, decimal, binary, hex, radix, Notation, based, notationOf, Numeral, spelling, spelled, isNumeral, numeralValue, Literal, literalIn, word, numeral, Scan, token, noToken, numeralScan, scan, isLetter, isFigure, classOf}
 use Rattle.paper.specs.BlocksRoundTrip.{All}
 use Rattle.paper.specs.Print.{digitByte}
 
@@ -127,18 +127,17 @@ all-map : (P Q : ℕ → Type 0) (f : ℕ → ℕ) → ((d : ℕ) → P d → Q 
 all-map P Q f g [] h = tt
 all-map P Q f g (d ∷ ds) h = (g d (h .0), all-map P Q f g ds (h .1))
 
-radix-small : (base : Base) → radix base ≤ 16
+pub radix-small : (base : Base) → radix base ≤ 16
 radix-small decimal = omega arith
 radix-small binary = omega arith
-radix-small octal = omega arith
 radix-small hex = omega arith
 
 digits-same : (base : Base) (ds : List ℕ) → All (λ d. d < radix base) ds → map digitOf (map digitByte ds) ≡ ds
 digits-same base [] h = refl
 digits-same base (d ∷ ds) h = ap₂ _∷_ (digit-back d (omega (arith, h .0, radix-small base))) (digits-same base ds (h .1))
 
-no-base : (b : ℕ) → isDigit b ≡ true → baseOf b ≡ none
-no-base b h =
+not-announced : (b : ℕ) → isDigit b ≡ true → notationOf b ≡ none
+not-announced b h =
     rw (
       unlike isDigit b 100 h refl,
       unlike isDigit b 68 h refl,
@@ -169,7 +168,7 @@ figure-class b h =
 
 -- digits, as a numeral in a base
 abbrev written : Base → List ℕ → Numeral
-written base ds = record { base = base; digits = map digitByte ds }
+written base ds = record { notation = based base; digits = map digitByte ds }
 
 abbrev pub counted : Base → List ℕ → Literal
 counted base ds = literalIn base (inBase (radix base) ds)
@@ -194,16 +193,16 @@ module _ (base : Base) (d : ℕ) (ds : List ℕ) (h : All (λ e. e < radix base)
 -- digits alone are spelled in decimal
 plain-spelling : (d : ℕ) (ds : List ℕ) → All (λ e. e < 10) ds → spelling (map digitByte (d ∷ ds)) ≡ written decimal (d ∷ ds)
 plain-spelling d [] h = refl
-plain-spelling d (e ∷ ds) h = go (is "0" (digitByte d)) (baseOf (digitByte e)) (no-base (digitByte e) (low-is-digit e (h .0)))
+plain-spelling d (e ∷ ds) h = go (is "0" (digitByte d)) (notationOf (digitByte e)) (not-announced (digitByte e) (low-is-digit e (h .0)))
   where
-    go : (t : Bool) (o : Option Base) → o ≡ none
+    go : (t : Bool) (o : Option Notation) → o ≡ none
         → spelled (cond t o none) (map digitByte (d ∷ e ∷ ds)) (map digitByte ds) ≡ written decimal (d ∷ e ∷ ds)
     go true o h = rw h
     go false o h = refl
 
 -- a run of letters and digits is scanned as a whole, whatever it spells
 abbrev whole-run : Numeral → ℕ → Scan
-whole-run n more = cond (isNumeral n) (cond (ltb (numeralValue n) (2 ^ 128)) (token (numeral (literalOf n)) more) tooLarge) noToken
+whole-run n more = cond (isNumeral n) (numeralScan (n .notation) (numeralValue n) more) noToken
 
 scan-run : (b : ℕ) (s rest : List ℕ) → isDigit b ≡ true → All (λ c. isIdByte c ≡ true) s → Loose rest
     → scan b (s ++ rest) ≡ whole-run (spelling (b ∷ s)) (length s)
@@ -225,12 +224,12 @@ scan-decimal d ds rest h small loose =
     ∙ run-fits decimal d ds more h small
 
 -- a 0, the letter that announces a base, and digits of it
-pub scan-announced : (letter : ℕ) (base : Base) → isIdByte letter ≡ true → baseOf letter ≡ some base → (d : ℕ) (ds rest : List ℕ)
+pub scan-announced : (letter : ℕ) (base : Base) → isIdByte letter ≡ true → notationOf letter ≡ some (based base) → (d : ℕ) (ds rest : List ℕ)
     → All (λ e. e < radix base) (d ∷ ds) → inBase (radix base) (d ∷ ds) < 2 ^ 128 → Loose rest
     → scan 48 ((letter ∷ map digitByte (d ∷ ds)) ++ rest) ≡ token (numeral (counted base (d ∷ ds))) (length (letter ∷ map digitByte (d ∷ ds)))
 scan-announced letter base id announces d ds rest h small loose =
     let s = map digitByte (d ∷ ds) in
     let more = length (letter ∷ s) in
     scan-run 48 (letter ∷ s) rest refl (id, digits-ids base d ds h) loose
-    ∙ ap (λ (o : Option Base). whole-run (spelled o (48 ∷ letter ∷ s) s) more) announces
+    ∙ ap (λ (o : Option Notation). whole-run (spelled o (48 ∷ letter ∷ s) s) more) announces
     ∙ run-fits base d ds more h small

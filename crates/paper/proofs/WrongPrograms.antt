@@ -36,7 +36,7 @@ use Rattle.paper.specs.RecheckedRight.{Summarizes}
 use Rattle.paper.specs.WrongExplainers.{Right}
 use Rattle.paper.specs.WrongRecheckers.{RechecksRight, SummarizesRight}
 use Rattle.paper.specs.WrongRunners.{RunsRight}
-use Rattle.paper.specs.WrongPrograms.{RefusesAll, AcceptsAll, WritesNothing, FirstPartOnly, PassesNothing, PassesAll, WantsAllBlocks, CountsRight, Lends, CopiesText, LeavesParentheses, EnclosesAll, WritesAndForSequel, ForgetsBases, WritesAddressesInHex, explainer, NamesLastPart, FollowsLeftSpine, ShowsKeyForPriority, RechecksNever, RechecksAlways, RechecksEqual, RechecksUnranked, RechecksReadings, NamesPriority, NamesBareOnly, StepsByCode, SkipsKeepBool, LandsByHeight, WrongProgramsFail, NoWrongProgram, paddedText, paddedBlocks, PaddingSeen}
+use Rattle.paper.specs.WrongPrograms.{RefusesAll, AcceptsAll, WritesNothing, FirstPartOnly, PassesNothing, PassesAll, WantsAllBlocks, CountsRight, Lends, CopiesText, LeavesParentheses, EnclosesAll, WritesAndForSequel, ForgetsBases, WritesAddressesInHex, explainer, NamesLastPart, FollowsLeftSpine, ShowsKeyForPriority, RechecksNever, RechecksAlways, RechecksEqual, RechecksUnranked, RechecksReadings, NamesPriority, NamesBareOnly, StepsByCode, SkipsKeepBool, LandsByHeight, FixesStrings, FixesComments, FixesWithZeros, FixesToDecimal, WrongProgramsFail, NoWrongProgram, paddedText, paddedBlocks, PaddingSeen}
 use Rattle.paper.proofs.Stages.{never-ok, ok-same}
 use Rattle.paper.proofs.LayoutPassed.{first-counted}
 use Rattle.paper.proofs.Table.{table-holds}
@@ -51,6 +51,7 @@ use Rattle.paper.proofs.WrongPrints.{close, negated, sixteen, sixteen-i
 use Rattle.paper.proofs.WrongExplainers.{wrong-explainers-fail}
 use Rattle.paper.proofs.WrongRecheckers.{wrong-recheckers-fail}
 use Rattle.paper.proofs.WrongRunners.{wrong-runners-fail}
+use Rattle.paper.proofs.WrongFixers.{wrong-fixers-fail}
 
 -- what demand 2 says of an entry that is judged
 by-demand-two : (p : Programs) → DemandTwo p → (text list entry : List ℕ) → Bytes text → Bytes list → Bytes entry → (b : Bool) → judgeAnswer text list entry ≡ ok b
@@ -382,6 +383,20 @@ keeping-bool-fails p two keeps = wrong-runners-fail .old-bool (p .run) keeps (ru
 landing-by-height-fails : (p : Programs) → KeepsLoad p → ¬ LandsByHeight p
 landing-by-height-fails p loads compares = wrong-runners-fail .heights (p .load) compares loads
 
+-- and of passes over octal numerals
+
+fixing-strings-fails : (p : Programs) → DemandTwo p → ¬ FixesStrings p
+fixing-strings-fails p two changes = wrong-fixers-fail .strings (p .fix) changes (two .fixes)
+
+fixing-comments-fails : (p : Programs) → DemandTwo p → ¬ FixesComments p
+fixing-comments-fails p two changes = wrong-fixers-fail .comments (p .fix) changes (two .fixes)
+
+fixing-with-zeros-fails : (p : Programs) → DemandTwo p → ¬ FixesWithZeros p
+fixing-with-zeros-fails p two keeps = wrong-fixers-fail .zeros (p .fix) keeps (two .fixes)
+
+fixing-to-decimal-fails : (p : Programs) → DemandTwo p → ¬ FixesToDecimal p
+fixing-to-decimal-fails p two drops = wrong-fixers-fail .dropped (p .fix) drops (two .fixes)
+
 pub wrong-programs-fail : WrongProgramsFail
 wrong-programs-fail p =
     record {
@@ -412,6 +427,10 @@ wrong-programs-fail p =
       steps-by-code = steps-by-code-fails p;
       keeping-bool = keeping-bool-fails p;
       landing-by-height = landing-by-height-fails p;
+      fixing-strings = fixing-strings-fails p;
+      fixing-comments = fixing-comments-fails p;
+      fixing-with-zeros = fixing-with-zeros-fails p;
+      fixing-to-decimal = fixing-to-decimal-fails p;
     }
 
 pub no-wrong-program : NoWrongProgram
@@ -446,6 +465,10 @@ no-wrong-program p kept =
       steps-by-code = steps-by-code-fails p two;
       keeping-bool = keeping-bool-fails p two;
       landing-by-height = landing-by-height-fails p (kept .load);
+      fixing-strings = fixing-strings-fails p two;
+      fixing-comments = fixing-comments-fails p two;
+      fixing-with-zeros = fixing-with-zeros-fails p two;
+      fixing-to-decimal = fixing-to-decimal-fails p two;
     }
 
 padded-loads : loadAnswer theKeys paddedBlocks ≡ ok 3

@@ -35,7 +35,8 @@ use Rattle.paper.specs.WrongPrints.{withoutParentheses, withAllParenthes
 use Rattle.paper.specs.WrongExplainers.{Explainer, Names}
 use Rattle.paper.specs.WrongRecheckers.{Rechecker, Summarizer}
 use Rattle.paper.specs.WrongRunners.{Runner, keepingAnswer, LeavesOldBool, heightsFrom, Loader, ComparesHeights}
-use Rattle.paper.specs.WrongPrograms.{FirstPartOnly, WantsAllBlocks, StepsByCode, CountsRight, Lends, partOf, judging, translating, loading, running, printing, explaining, summarizing, rechecking, OthersKept, ThereIs, WrongProgramsExist}
+use Rattle.paper.specs.WrongFixers.{Fixer}
+use Rattle.paper.specs.WrongPrograms.{FirstPartOnly, WantsAllBlocks, StepsByCode, CountsRight, Lends, partOf, judging, translating, loading, running, printing, explaining, summarizing, rechecking, fixing, OthersKept, ThereIs, WrongProgramsExist}
 use Rattle.paper.proofs.Promised.{placeAt, explanationFor, translation-same, can-be-kept}
 use Rattle.paper.proofs.ByteLists.{zero-bytes, all-bytes}
 use Rattle.paper.proofs.LoadedBlocksRun.{load-counts}
@@ -43,6 +44,7 @@ use Rattle.paper.proofs.RunsRight.{ran-right}
 use Rattle.paper.proofs.DemandThree.{demand-three-met}
 use Rattle.paper.proofs.WrongExplainersExist.{wrong-explainers-exist}
 use Rattle.paper.proofs.WrongRecheckersExist.{never-real, always-real, equal-real, unranked-real, readings-real, priority-counted-real, fields-missed-real}
+use Rattle.paper.proofs.WrongFixersExist.{strings-real, comments-real, dropped-real, zeros-real}
 use Rattle.paper.proofs.WrongPrograms.{little, plain-written}
 
 -- a program that cuts: it translates what stands before the first ";"
@@ -89,11 +91,12 @@ module _ (q : Programs) (kept : Kept q) where
         explain = q .explain;
         summarize = q .summarize;
         recheck = q .recheck;
+        fix = q .fix;
       }
 
-  -- with other calls that answer for entries
-  abbrev with-answers : (List ℕ → List ℕ → List ℕ → Explanation) → Summarizer → Rechecker → Programs
-  with-answers explain summarize recheck =
+  -- with other calls of 02 c, f and h
+  abbrev with-answers : (List ℕ → List ℕ → List ℕ → Explanation) → Summarizer → Rechecker → Fixer → Programs
+  with-answers explain summarize recheck fix =
       record {
         read = q .read;
         check = q .check;
@@ -105,6 +108,7 @@ module _ (q : Programs) (kept : Kept q) where
         explain = explain;
         summarize = summarize;
         recheck = recheck;
+        fix = fix;
       }
 
   -- with another judge
@@ -115,7 +119,7 @@ module _ (q : Programs) (kept : Kept q) where
   unfolding judges
   others-than-judge judge = (
     (kept .read, kept .check, kept .translate, kept .load, kept .run),
-    (kept .print, kept .explain, kept .summarize, kept .recheck),
+    (kept .print, kept .explain, kept .summarize, kept .recheck, kept .fix),
   )
 
   -- with another translator
@@ -126,7 +130,7 @@ module _ (q : Programs) (kept : Kept q) where
   unfolding translators
   others-than-translate translate = (
     (kept .read, kept .check, kept .judge, kept .load, kept .run),
-    (kept .print, kept .explain, kept .summarize, kept .recheck),
+    (kept .print, kept .explain, kept .summarize, kept .recheck, kept .fix),
   )
 
   -- with another loader
@@ -137,7 +141,7 @@ module _ (q : Programs) (kept : Kept q) where
   unfolding loaders
   others-than-load load = (
     (kept .read, kept .check, kept .judge, kept .translate, kept .run),
-    (kept .print, kept .explain, kept .summarize, kept .recheck),
+    (kept .print, kept .explain, kept .summarize, kept .recheck, kept .fix),
   )
 
   -- with another run
@@ -148,7 +152,7 @@ module _ (q : Programs) (kept : Kept q) where
   unfolding runners
   others-than-run run = (
     (kept .read, kept .check, kept .judge, kept .translate, kept .load),
-    (kept .print, kept .explain, kept .summarize, kept .recheck),
+    (kept .print, kept .explain, kept .summarize, kept .recheck, kept .fix),
   )
 
   -- with another printer
@@ -159,40 +163,51 @@ module _ (q : Programs) (kept : Kept q) where
   unfolding printers
   others-than-print print = (
     (kept .read, kept .check, kept .judge, kept .translate, kept .load, kept .run),
-    (kept .explain, kept .summarize, kept .recheck),
+    (kept .explain, kept .summarize, kept .recheck, kept .fix),
   )
 
   -- with another explainer
   explainers : (List ℕ → List ℕ → List ℕ → Explanation) → Programs
-  explainers explain = with-answers explain (q .summarize) (q .recheck)
+  explainers explain = with-answers explain (q .summarize) (q .recheck) (q .fix)
 
   others-than-explain : (explain : List ℕ → List ℕ → List ℕ → Explanation) → OthersKept explaining (explainers explain)
   unfolding explainers
   others-than-explain explain = (
     (kept .read, kept .check, kept .judge, kept .translate, kept .load, kept .run),
-    (kept .print, kept .summarize, kept .recheck),
+    (kept .print, kept .summarize, kept .recheck, kept .fix),
   )
 
   -- with another summary
   summarizers : Summarizer → Programs
-  summarizers summarize = with-answers (q .explain) summarize (q .recheck)
+  summarizers summarize = with-answers (q .explain) summarize (q .recheck) (q .fix)
 
   others-than-summarize : (summarize : Summarizer) → OthersKept summarizing (summarizers summarize)
   unfolding summarizers
   others-than-summarize summarize = (
     (kept .read, kept .check, kept .judge, kept .translate, kept .load, kept .run),
-    (kept .print, kept .explain, kept .recheck),
+    (kept .print, kept .explain, kept .recheck, kept .fix),
   )
 
   -- with another recheck
   recheckers : Rechecker → Programs
-  recheckers recheck = with-answers (q .explain) (q .summarize) recheck
+  recheckers recheck = with-answers (q .explain) (q .summarize) recheck (q .fix)
 
   others-than-recheck : (recheck : Rechecker) → OthersKept rechecking (recheckers recheck)
   unfolding recheckers
   others-than-recheck recheck = (
     (kept .read, kept .check, kept .judge, kept .translate, kept .load, kept .run),
-    (kept .print, kept .explain, kept .summarize),
+    (kept .print, kept .explain, kept .summarize, kept .fix),
+  )
+
+  -- with another pass
+  fixers : Fixer → Programs
+  fixers fix = with-answers (q .explain) (q .summarize) (q .recheck) fix
+
+  others-than-fix : (fix : Fixer) → OthersKept fixing (fixers fix)
+  unfolding fixers
+  others-than-fix fix = (
+    (kept .read, kept .check, kept .judge, kept .translate, kept .load, kept .run),
+    (kept .print, kept .explain, kept .summarize, kept .recheck),
   )
 
   -- the one that translates what stands before the first ";"
@@ -324,7 +339,7 @@ names-worded : (n : ℕ) (r : Reason) → Names n r → Names n (explanationSays
 names-worded n r (place, s, e) = (place, s, ap (λ (x : Reason). explanationSays (explanationFor x)) e)
 
 pub wrong-programs-exist : WrongProgramsExist
-unfolding judges translators loaders runners explainers summarizers recheckers
+unfolding judges translators loaders runners explainers summarizers recheckers fixers
 wrong-programs-exist =
     let (q, kept) = can-be-kept in
     let refuses : List ℕ → List ℕ → List ℕ → Judgement = λ text list entry. J.Refused 20 (P.Entry 0) in
@@ -385,4 +400,8 @@ wrong-programs-exist =
       steps-by-code = (runners q kept (counter q kept), counter-reports q kept, others-than-run q kept (counter q kept));
       keeping-bool = (runners q kept keeper, keeper-keeps, others-than-run q kept keeper);
       landing-by-height = (loaders q kept leveler, leveler-compares, others-than-load q kept leveler);
+      fixing-strings = let (x, changes) = strings-real (q .fix) in (fixers q kept x, changes, others-than-fix q kept x);
+      fixing-comments = let (x, changes) = comments-real (q .fix) in (fixers q kept x, changes, others-than-fix q kept x);
+      fixing-with-zeros = let (x, keeps) = zeros-real (q .fix) in (fixers q kept x, keeps, others-than-fix q kept x);
+      fixing-to-decimal = let (x, drops) = dropped-real (q .fix) in (fixers q kept x, drops, others-than-fix q kept x);
     }

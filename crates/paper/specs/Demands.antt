@@ -28,6 +28,7 @@ use Rattle.paper.specs.declared.Loading.the-variants as L
 use Rattle.paper.specs.declared.Running.{Running}
 use Rattle.paper.specs.declared.Running.the-variants as N
 use Rattle.paper.specs.declared.Printing.the-variants as W
+use Rattle.paper.specs.declared.Fixing.the-variants as F
 use Rattle.paper.specs.declared.Explanation.{Explanation}
 use Rattle.paper.specs.declared.Summarizing.{Summarizing}
 use Rattle.paper.specs.declared.Summarizing.the-variants as S
@@ -50,12 +51,13 @@ use Rattle.paper.specs.Explained.{explanationSays}
 use Rattle.paper.specs.ExplainedRight.{Explains, judgementOf}
 use Rattle.paper.specs.Named.{summarizingSays}
 use Rattle.paper.specs.Rechecking.{recheckingSays}
+use Rattle.paper.specs.Fixing.{oldScan, fixed, fixingSays}
 use Rattle.paper.specs.RecheckedRight.{Summarizes, Rechecks}
 use Rattle.paper.specs.LoadedBlocksRun.{Runs}
 use Rattle.paper.specs.CodeCorrect.{mostTranslated}
-use Rattle.paper.specs.Faults.{Cuts}
-use Rattle.paper.specs.Table.{lastNumber, Stage, Clear, ByTable, readStages, checkStages, judgeStages, translateStages, loadStages, runStages, printStages}
-use Rattle.paper.specs.Promised.{JudgePromised, verdictIn, judgementOfRun, TranslateResult, PrintResult, Bytes, Programs, Kept}
+use Rattle.paper.specs.Faults.{CutsBy, Cuts}
+use Rattle.paper.specs.Table.{lastNumber, Stage, Clear, ByTable, readStages, checkStages, judgeStages, translateStages, loadStages, runStages, printStages, fixStages}
+use Rattle.paper.specs.Promised.{JudgePromised, verdictIn, judgementOfRun, TranslateResult, PrintResult, FixResult, Bytes, Programs, Kept}
 
 -- Demand 1. An answer is one of the enum's cases. It is a refusal exactly as the table of 01 says, with that number at that place, and
 -- passes exactly when no stage of the call has a fault. The number is one of the table's, and the place lies in an input that was lent, or
@@ -117,6 +119,10 @@ pub record PrintAnswered (text buffer : List ℕ) (r : PrintResult) : Type 0 whe
   pub says : Answered (lent inText text ∷ lent inBuffer buffer ∷ []) (printStages text buffer) (printingSays (r .answer))
   pub unchanged : (n : ℕ) (at : Place) → r .answer ≡ W.Refused n at → r .buffer ≡ buffer
 
+pub record FixAnswered (text buffer : List ℕ) (r : FixResult) : Type 0 where
+  pub says : Answered (lent inText text ∷ lent inBuffer buffer ∷ []) (fixStages text buffer) (fixingSays (r .answer))
+  pub unchanged : (n : ℕ) (at : Place) → r .answer ≡ F.Refused n at → r .buffer ≡ buffer
+
 abbrev pub SummarizeAnswered : List ℕ → List ℕ → Summarizing → Type 0
 SummarizeAnswered text list r = Answered (lent inText text ∷ lent inList list ∷ []) (checkStages text list) (summarizingSays r)
 
@@ -138,6 +144,7 @@ pub record DemandOne (p : Programs) : Type 0 where
   pub summarize : (text list : List ℕ) → Bytes text → Bytes list → SummarizeAnswered text list (p .summarize text list)
   pub recheck : (text list old : List ℕ) (earlier : Judgement) (new : List ℕ) → Bytes text → Bytes list → Bytes old → Bytes new
       → RecheckAnswered text list earlier new (p .recheck text list old earlier new)
+  pub fix : (text buffer : List ℕ) → Bytes text → Bytes buffer → FixAnswered text buffer (p .fix text buffer)
 
 -- Demand 2, for every call that takes a text or an entry. A text is refused exactly when it is over a limit or ill-formed, the list does
 -- not pass, or the text is ill-typed against it; an entry exactly when it does not conform to the list. Else it is accepted exactly when
@@ -214,6 +221,19 @@ pub record PrintedRight (text buffer : List ℕ) (r : PrintResult) : Type 0 wher
   pub prints : (n : ℕ) → (r .answer ≡ W.Printed n) ↔ Printable text buffer n
   pub written : (n : ℕ) (p : Printable text buffer n) → r .buffer ≡ over (print (p .root)) buffer
 
+-- n bytes, what 02 h's pass makes of a text that is cut into tokens by the old rules, for a buffer that they fit in
+pub record Fixable (text buffer : List ℕ) (n : ℕ) : Type 0 where
+  pub short : length text ≤ mostText
+  pub words : List Token
+  pub cut : CutsBy oldScan text words
+  pub count : n ≡ length (fixed text)
+  pub room : n ≤ length buffer
+
+-- they are written, and the bytes after them stay
+pub record FixesRight (text buffer : List ℕ) (r : FixResult) : Type 0 where
+  pub fixes : (n : ℕ) → (r .answer ≡ F.Fixed n) ↔ Fixable text buffer n
+  pub written : (n : ℕ) → Fixable text buffer n → r .buffer ≡ over (fixed text) buffer
+
 -- a run of blocks leaves one bool, in so many steps
 abbrev pub LeavesIn : (list blocks entry : List ℕ) → Runnable list blocks entry → Bool → ℕ → Type 0
 LeavesIn list blocks entry j b n =
@@ -260,6 +280,7 @@ pub record DemandTwo (p : Programs) : Type 0 where
   pub summarizes : (text list : List ℕ) → Bytes text → Bytes list → SummarizeRight text list (p .summarize text list)
   pub rechecks : (text list old : List ℕ) (earlier : Judgement) (new : List ℕ) → Bytes text → Bytes list → Bytes old → Bytes new
       → RecheckRight text list old earlier new (p .recheck text list old earlier new)
+  pub fixes : (text buffer : List ℕ) → Bytes text → Bytes buffer → FixesRight text buffer (p .fix text buffer)
 
 -- Demand 3. A text and a list that pass have a number of instructions, and are translated with it into every buffer that has room for
 -- its blocks; every other buffer is refused, 15 at its length. The blocks written load with that list, with the number returned, and

@@ -60,6 +60,11 @@ abbrev pub gives : ℕ → Answer ℕ → Bool
 gives n (ok m) = eqb m n
 gives n (refused m i at) = false
 
+-- an answer that refuses with a number, at a place of the text
+abbrev pub refuses : ℕ → ℕ → Answer ℕ → Bool
+refuses n place (ok m) = false
+refuses n place (refused m i at) = eqb m n && eqb at place
+
 abbrev pub isSome : {A : Type 0} → Option A → Bool
 isSome none = false
 isSome (some a) = true

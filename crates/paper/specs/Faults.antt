@@ -8,7 +8,7 @@ use mathlib.Core.List.{List, [], _∷_, _++_}
 use lib.ListN.{length, take, drop, getElem?}
 use Rattle.paper.specs.Answers.{ok}
 use Rattle.paper.specs.Numbers.{byteAt}
-use Rattle.paper.specs.Tokens.{bytes, Prefix, Join, Comparison, Tok, Token, Scan, blank, token, noToken, tooLarge, scan, mostTokens, mostText}
+use Rattle.paper.specs.Tokens.{bytes, Prefix, Join, Comparison, Tok, Token, Scan, blank, token, octalNumeral, noToken, tooLarge, Scanner, scan, mostTokens, mostText}
 use Rattle.paper.specs.Keys.{Key, recordSize, mostKeys, recordsIn, recordAt, nameOf, RecordRule, find}
 use Rattle.paper.specs.Entry.{headSize, matchSize, matchAt, matchOk, priorityOf}
 use Rattle.paper.specs.Grammar.{Tree, key, field, attribute, prefixed, joined, compared, placeOf}
@@ -42,30 +42,51 @@ pub data ListRecords (rule : RecordRule) (list : List ℕ) : ℕ → ℕ → Typ
   name-repeated : (j k : ℕ) → j < k → k < recordsIn list → nameOf (recordAt list j) ≡ nameOf (recordAt list k)
       → ListRecords rule list 4 (k * recordSize)
 
--- what stands at an offset that no token before it covers
-abbrev pub scanAt : List ℕ → ℕ → Scan
-scanAt text at = scan (byteAt text at) (drop (suc at) text)
+-- what stands at an offset that no token before it covers, by a scanner
+abbrev pub lookAt : Scanner → List ℕ → ℕ → Scan
+lookAt look text at = look (byteAt text at) (drop (suc at) text)
 
 -- the bytes before an offset are blanks and these tokens, each "the longest possible from the left"
-pub data Cut (text : List ℕ) : ℕ → List Token → Type 0 where
-  at-start : Cut text 0 []
-  a-blank : {at : ℕ} {ts : List Token} (n : ℕ) → Cut text at ts → at < length text → scanAt text at ≡ blank n
-      → Cut text (suc at + n) ts
-  a-token : {at : ℕ} {ts : List Token} (k : Tok) (n : ℕ) → Cut text at ts → at < length text → scanAt text at ≡ token k n
-      → Cut text (suc at + n) (ts ++ (record { at = at; tok = k } ∷ []))
+pub data CutBy (look : Scanner) (text : List ℕ) : ℕ → List Token → Type 0 where
+  at-start : CutBy look text 0 []
+  a-blank : {at : ℕ} {ts : List Token} (n : ℕ) → CutBy look text at ts → at < length text → lookAt look text at ≡ blank n
+      → CutBy look text (suc at + n) ts
+  a-token : {at : ℕ} {ts : List Token} (k : Tok) (n : ℕ) → CutBy look text at ts → at < length text → lookAt look text at ≡ token k n
+      → CutBy look text (suc at + n) (ts ++ (record { at = at; tok = k } ∷ []))
 
 -- up to the end, into at most 1,024
-abbrev pub Cuts : List ℕ → List Token → Type 0
-Cuts text ts = (end : ℕ) × Cut text end ts × (length text ≤ end) × (length ts ≤ mostTokens)
+abbrev pub CutsBy : Scanner → List ℕ → List Token → Type 0
+CutsBy look text ts = (end : ℕ) × CutBy look text end ts × (length text ≤ end) × (length ts ≤ mostTokens)
 
 -- 5: "bytes that form no token"; text, first such byte
 -- 6: "a numeral above 2^128 − 1"; its first byte
 -- 7: "a 1,025th token"; its first byte
-pub data TextTokens (text : List ℕ) : ℕ → ℕ → Type 0 where
-  no-token : {at : ℕ} {ts : List Token} → Cut text at ts → at < length text → scanAt text at ≡ noToken → TextTokens text 5 at
-  numeral-large : {at : ℕ} {ts : List Token} → Cut text at ts → at < length text → scanAt text at ≡ tooLarge → TextTokens text 6 at
-  one-more-token : {at : ℕ} {ts : List Token} (k : Tok) (n : ℕ) → Cut text at ts → length ts ≡ mostTokens → at < length text
-      → scanAt text at ≡ token k n → TextTokens text 7 at
+-- 22: "A well-formed octal numeral"; "at its first byte .., whatever its size (never 6)"
+pub data TokenFaults (look : Scanner) (text : List ℕ) : ℕ → ℕ → Type 0 where
+  no-token : {at : ℕ} {ts : List Token} → CutBy look text at ts → at < length text → lookAt look text at ≡ noToken
+      → TokenFaults look text 5 at
+  numeral-large : {at : ℕ} {ts : List Token} → CutBy look text at ts → at < length text → lookAt look text at ≡ tooLarge
+      → TokenFaults look text 6 at
+  one-more-token : {at : ℕ} {ts : List Token} (k : Tok) (n : ℕ) → CutBy look text at ts → length ts ≡ mostTokens → at < length text
+      → lookAt look text at ≡ token k n → TokenFaults look text 7 at
+  one-more-octal : {at : ℕ} {ts : List Token} (v n : ℕ) → CutBy look text at ts → length ts ≡ mostTokens → at < length text
+      → lookAt look text at ≡ octalNumeral v n → TokenFaults look text 7 at
+  octal-numeral : {at : ℕ} {ts : List Token} (v n : ℕ) → CutBy look text at ts → at < length text
+      → lookAt look text at ≡ octalNumeral v n → TokenFaults look text 22 at
+
+-- by the rules that hold
+
+abbrev pub scanAt : List ℕ → ℕ → Scan
+scanAt text at = lookAt scan text at
+
+abbrev pub Cut : List ℕ → ℕ → List Token → Type 0
+Cut text at ts = CutBy scan text at ts
+
+abbrev pub Cuts : List ℕ → List Token → Type 0
+Cuts text ts = CutsBy scan text ts
+
+abbrev pub TextTokens : List ℕ → Faults
+TextTokens text = TokenFaults scan text
 
 -- 8, 9, 10: those of Sentences; the token, or the text's length
 abbrev pub TextGrammar : ℕ → List Token → Faults

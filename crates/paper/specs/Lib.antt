@@ -16,6 +16,7 @@ pub mod Translating
 pub mod Print
 pub mod Sized
 pub mod Calls
+pub mod Fixing
 pub mod Parts
 pub mod Explained
 pub mod Named
@@ -33,6 +34,7 @@ pub mod BasesIgnored
 pub mod PartsDecide
 pub mod ExplainedRight
 pub mod RecheckedRight
+pub mod FixedRight
 pub mod Readings
 pub mod Limits
 pub mod CaseFour
@@ -52,6 +54,7 @@ pub mod SkipExamples
 pub mod PrintExamples
 pub mod PartExamples
 pub mod SummaryExamples
+pub mod FixExamples
 pub mod AnswerExamples
 pub mod FaultExamples
 pub mod Promised
@@ -63,5 +66,6 @@ pub mod WrongPrints
 pub mod WrongExplainers
 pub mod WrongRecheckers
 pub mod WrongRunners
+pub mod WrongFixers
 pub mod PiecesRight
 pub mod WrongPrograms

@@ -60,8 +60,8 @@ texts =
     ∷ on (bytes "0x1" ++ repeat 32 (bytes "0")) (refused 6 inText 0)
     ∷ on (bytes "0b" ++ repeat 128 (bytes "1")) (ok 1)
     ∷ on (bytes "0b1" ++ repeat 128 (bytes "0")) (refused 6 inText 0)
-    ∷ on (bytes "0o3" ++ repeat 42 (bytes "7")) (ok 1)
-    ∷ on (bytes "0o4" ++ repeat 42 (bytes "0")) (refused 6 inText 0)
+    ∷ on (bytes "0o3" ++ repeat 42 (bytes "7")) (refused 22 inText 0)
+    ∷ on (bytes "0o4" ++ repeat 42 (bytes "0")) (refused 22 inText 0)
     ∷ []
 
 abbrev pub Texts : Type 0

@@ -8,7 +8,7 @@ use mathlib.Core.List.{List, [], _∷_}
 use lib.ListN.{length, drop}
 use Rattle.paper.specs.Answers.{Answer, ok, _>>=_}
 use Rattle.paper.specs.Numbers.{byteAt}
-use Rattle.paper.specs.Tokens.{sequel, opening, closing, Tok, Token, Scan, blank, token, noToken, tooLarge, scan, tokens}
+use Rattle.paper.specs.Tokens.{sequel, opening, closing, Tok, Token, taken, scan, tokens}
 use Rattle.paper.specs.Keys.{isNone}
 use Rattle.paper.specs.Grammar.{Tree, joins, isSign, parsed}
 
@@ -64,12 +64,6 @@ topLevel ts = nonEmpty (between 0 ts)
 pub record Stretch : Type 0 where
   pub from : ℕ
   pub to : ℕ
-
-abbrev pub taken : Scan → ℕ
-taken (blank n) = n
-taken (token t n) = n
-taken noToken = 0
-taken tooLarge = 0
 
 -- the offset after the token that begins at an offset
 unfoldable pub tokenEnd : List ℕ → ℕ → ℕ

@@ -5,7 +5,7 @@ use Prim.Native.Nat.{ℕ, zero, suc, _+_, _/_, _%_}
 use mathlib.Core.Bool.{Bool, true, false, cond}
 use mathlib.Core.List.{List, [], _∷_, _++_, map}
 use lib.Dec.{ltb}
-use Rattle.paper.specs.Tokens.{bytes, Base, decimal, binary, octal, hex, radix, Literal, Prefix, notSign, minusSign, Join, sequel, implies, orElse, andAlso, Comparison, equal, unequal, greater, atLeast, less, atMost}
+use Rattle.paper.specs.Tokens.{bytes, Base, decimal, binary, hex, radix, Literal, Prefix, notSign, minusSign, Join, sequel, implies, orElse, andAlso, Comparison, equal, unequal, greater, atLeast, less, atMost}
 use Rattle.paper.specs.Grammar.{Tree, truth, number, key, field, attribute, prefixed, joined, compared}
 
 -- "the same tree, places aside": two trees are that where these are equal. 02 e: "Trees that differ only in a base are now different"
@@ -43,7 +43,6 @@ numeralIn base n = map digitByte (digitsIn base mostDigits n)
 abbrev pub basePrefix : Base → List ℕ
 basePrefix decimal = []
 basePrefix binary = bytes "0b"
-basePrefix octal = bytes "0o"
 basePrefix hex = bytes "0x"
 
 abbrev pub literalBytes : Literal → List ℕ

@@ -13,6 +13,7 @@ use Rattle.paper.specs.declared.Loading.{Loading}
 use Rattle.paper.specs.declared.Running.{Running}
 use Rattle.paper.specs.declared.Running.the-variants as N
 use Rattle.paper.specs.declared.Printing.{Printing}
+use Rattle.paper.specs.declared.Fixing.{Fixing}
 use Rattle.paper.specs.declared.Explanation.{Explanation}
 use Rattle.paper.specs.declared.Summarizing.{Summarizing}
 use Rattle.paper.specs.declared.Rechecking.{Rechecking}
@@ -21,6 +22,7 @@ use Rattle.paper.specs.BlocksRoundTrip.{All}
 use Rattle.paper.specs.Explained.{explainAnswer, explanationSays}
 use Rattle.paper.specs.Named.{summaryAnswer, summarizingSays}
 use Rattle.paper.specs.Rechecking.{recheckAnswer, recheckingSays}
+use Rattle.paper.specs.Fixing.{fixAnswer, fixBuffer, fixingSays}
 use Rattle.paper.specs.Calls.{readAnswer, checkAnswer, judgeAnswer, translateAnswer, translateBuffer, loadAnswer, runAnswer, printAnswer, printBuffer}
 
 -- what is promised of the result of each call, for the bytes that are lent to it
@@ -57,6 +59,15 @@ pub record PrintResult : Type 0 where
 pub record PrintPromised (text buffer : List ℕ) (r : PrintResult) : Type 0 where
   pub says : printingSays (r .answer) ≡ printAnswer text buffer
   pub holds : r .buffer ≡ printBuffer text buffer
+
+-- what `fix_octal` returns, and what the buffer holds at its exit
+pub record FixResult : Type 0 where
+  pub answer : Fixing
+  pub buffer : List ℕ
+
+pub record FixPromised (text buffer : List ℕ) (r : FixResult) : Type 0 where
+  pub says : fixingSays (r .answer) ≡ fixAnswer text buffer
+  pub holds : r .buffer ≡ fixBuffer text buffer
 
 -- the numbers of an explanation; its pieces, which are references, stand in Pieces
 abbrev pub ExplainPromised : List ℕ → List ℕ → List ℕ → Explanation → Type 0
@@ -101,6 +112,7 @@ pub record NoSecondResult : Type 0 where
   pub explain : (text list entry : List ℕ) → Sole (ExplainPromised text list entry)
   pub summarize : (text list : List ℕ) → Sole (SummarizePromised text list)
   pub recheck : (text list old : List ℕ) (earlier : Judgement) (new : List ℕ) → Sole (RecheckPromised text list old earlier new)
+  pub fix : (text buffer : List ℕ) → Sole (FixPromised text buffer)
 
 -- what can be lent: numbers below 256
 abbrev pub Bytes : List ℕ → Type 0
@@ -119,6 +131,7 @@ pub record Programs : Type 0 where
   pub explain : List ℕ → List ℕ → List ℕ → Explanation
   pub summarize : List ℕ → List ℕ → Summarizing
   pub recheck : List ℕ → List ℕ → List ℕ → Judgement → List ℕ → Rechecking
+  pub fix : List ℕ → List ℕ → FixResult
 
 abbrev pub KeepsRead : Programs → Type 0
 KeepsRead p = (text : List ℕ) → Bytes text → ReadPromised text (p .read text)
@@ -157,6 +170,9 @@ KeepsRecheck p =
     (text list old : List ℕ) (earlier : Judgement) (new : List ℕ) → Bytes text → Bytes list → Bytes old → Bytes new
     → RecheckPromised text list old earlier new (p .recheck text list old earlier new)
 
+abbrev pub KeepsFix : Programs → Type 0
+KeepsFix p = (text buffer : List ℕ) → Bytes text → Bytes buffer → FixPromised text buffer (p .fix text buffer)
+
 pub record Kept (p : Programs) : Type 0 where
   pub read : KeepsRead p
   pub check : KeepsCheck p
@@ -168,6 +184,7 @@ pub record Kept (p : Programs) : Type 0 where
   pub explain : KeepsExplain p
   pub summarize : KeepsSummarize p
   pub recheck : KeepsRecheck p
+  pub fix : KeepsFix p
 
 -- there are such programs
 abbrev pub CanBeKept : Type 0

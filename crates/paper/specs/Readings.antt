@@ -25,7 +25,8 @@ readings =
     ∷ accepted "007 == 7"
     ∷ accepted "0d12 == 12"
     ∷ accepted "0D12 == 0b1100"
-    ∷ accepted "0O17 == 0Xf"
+    ∷ accepted "0B1111 == 0Xf"
+    ∷ refusedAt "0O17 == 0Xf" 22 0
     -- strings and comments
     ∷ refusedAt "'ab" 5 0
     ∷ refusedAt "ipv4('')" 10 5

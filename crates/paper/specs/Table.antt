@@ -11,11 +11,12 @@ use Rattle.paper.specs.Keys.{RecordRule, layoutRule, keys}
 use Rattle.paper.specs.Print.{print}
 use Rattle.paper.specs.Calls.{tree, restriction, readAnswer, checkAnswer, judgeAnswer, translateAnswer, loadAnswer, runAnswer, printAnswer}
 use Rattle.paper.specs.Named.{summaryAnswer}
-use Rattle.paper.specs.Faults.{Faults, TextSize, ListSize, ListRecords, Cuts, TextTokens, TextGrammar, TreeTypes, RootType, BufferSize, BlocksSize, BlocksLayout, BlocksCode, EntrySize, EntryRules, LendingSize}
+use Rattle.paper.specs.Fixing.{oldScan, fixed, fixAnswer}
+use Rattle.paper.specs.Faults.{Faults, TextSize, ListSize, ListRecords, Cuts, TokenFaults, TextTokens, TextGrammar, TreeTypes, RootType, BufferSize, BlocksSize, BlocksLayout, BlocksCode, EntrySize, EntryRules, LendingSize}
 
 -- the table's numbers run from 1 to this one
 abbrev pub lastNumber : ℕ
-lastNumber = 21
+lastNumber = 22
 
 -- "In a stage the earliest place wins; at one place the lower number wins."
 
@@ -67,7 +68,7 @@ listStagesBy rule list = stage inList (ListSize list) ∷ stage inList (ListReco
 abbrev pub listStages : List ℕ → List Stage
 listStages list = listStagesBy layoutRule list
 
--- 5 to 7; 8 to 10
+-- 5 to 7 and 22; 8 to 10
 abbrev pub treeStages : List ℕ → List Stage
 treeStages text = stage inText (TextTokens text) ∷ stage inText (Given (tokens text) (TextGrammar (length text))) ∷ []
 
@@ -101,6 +102,10 @@ entryStages list entry =
 abbrev pub printingStages : List ℕ → List ℕ → List Stage
 printingStages text buffer = stage inBuffer (Given (tree text) (λ t. LendingSize (print t) buffer)) ∷ []
 
+-- 5 to 7 by the old rules, and 21 of what 02 h's pass makes
+abbrev pub fixingStages : List ℕ → List ℕ → List Stage
+fixingStages text buffer = stage inText (TokenFaults oldScan text) ∷ stage inBuffer (LendingSize (fixed text) buffer) ∷ []
+
 -- those that each call has
 
 abbrev pub readStages : List ℕ → List Stage
@@ -124,6 +129,9 @@ runStages list blocks entry = loadStages list blocks ++ entryStages list entry
 abbrev pub printStages : List ℕ → List ℕ → List Stage
 printStages text buffer = readStages text ++ printingStages text buffer
 
+abbrev pub fixStages : List ℕ → List ℕ → List Stage
+fixStages text buffer = sizeStages text ++ fixingStages text buffer
+
 pub record TableHolds : Type 0 where
   pub read : (text : List ℕ) → ByTable (readAnswer text) (readStages text)
   pub check : (text list : List ℕ) → ByTable (checkAnswer text list) (checkStages text list)
@@ -133,6 +141,7 @@ pub record TableHolds : Type 0 where
   pub run : (list blocks entry : List ℕ) → ByTable (runAnswer list blocks entry) (runStages list blocks entry)
   pub print : (text buffer : List ℕ) → ByTable (printAnswer text buffer) (printStages text buffer)
   pub summarize : (text list : List ℕ) → ByTable (summaryAnswer text list) (checkStages text list)
+  pub fix : (text buffer : List ℕ) → ByTable (fixAnswer text buffer) (fixStages text buffer)
 
 -- and a text that passes 5 to 7 is cut into its tokens
 abbrev pub TokensAreCut : Type 0

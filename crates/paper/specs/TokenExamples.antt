@@ -8,7 +8,7 @@ use Rattle.paper.specs.Answers.{Answer, ok, refused, _>>=_, inText}
 use Rattle.paper.specs.Tokens as T
 use Rattle.paper.specs.Tokens.{Base, plain, literalIn, bytes, Token, word, numeral, string, join, sequel, implies, orElse, andAlso, comparison, equal, unequal, greater, atLeast, less, atMost, prefix, notSign, minusSign, opening, closing, colons, tokens}
 use Rattle.paper.specs.Sentences.{tokenAt, signAt}
-use Rattle.paper.specs.Examples.{on, Agree, On, repeat, those, bytesThat, gives}
+use Rattle.paper.specs.Examples.{on, Agree, On, repeat, those, bytesThat, gives, refuses}
 
 -- how many tokens a text is cut into
 abbrev pub cutInto : List ℕ → Answer ℕ
@@ -19,6 +19,10 @@ oneToken text = gives 1 (cutInto text)
 
 abbrev pub noToken : List ℕ → Bool
 noToken text = gives 0 (cutInto text)
+
+-- a well-formed octal numeral, and nothing else
+abbrev pub octalAlone : List ℕ → Bool
+octalAlone text = refuses 22 0 (cutInto text)
 
 abbrev pub digits : List ℕ
 digits = bytes "0123456789"
@@ -37,11 +41,13 @@ pub record ByteClasses : Type 0 where
   -- "A run that starts with a letter or underscore is a word, id ('.' id)*": before a letter, and before a digit
   pub in-a-word : bytesThat (λ b. oneToken (bytes "a" ++ (b ∷ bytes "a"))) ≡ bytes "." ++ digits ++ letters
   pub in-an-id : bytesThat (λ b. oneToken (bytes "a" ++ (b ∷ bytes "1"))) ≡ digits ++ letters
-  -- 004: "(0[dD])? [0-9]+", "0[bB] [0-1]+", "0[oO] [0-7]+", "0[xX] [0-9a-fA-F]+": after a first 0, and the digits of each base
-  pub after-zero : bytesThat (λ b. oneToken (bytes "0" ++ (b ∷ bytes "1"))) ≡ digits ++ bytes "BDOXbdox"
+  -- 004: "(0[dD])? [0-9]+", "0[bB] [0-1]+", "0[oO] [0-7]+", "0[xX] [0-9a-fA-F]+": after a first 0, and the digits of each base; of octal, which
+  -- 02 h refuses, those that make a well-formed numeral
+  pub after-zero : bytesThat (λ b. oneToken (bytes "0" ++ (b ∷ bytes "1"))) ≡ digits ++ bytes "BDXbdx"
+  pub octal-after-zero : bytesThat (λ b. octalAlone (bytes "0" ++ (b ∷ bytes "1"))) ≡ bytes "Oo"
   pub decimal : bytesThat (λ b. oneToken (bytes "0d" ++ (b ∷ []))) ≡ digits
   pub binary : bytesThat (λ b. oneToken (bytes "0b" ++ (b ∷ []))) ≡ bytes "01"
-  pub octal : bytesThat (λ b. oneToken (bytes "0o" ++ (b ∷ []))) ≡ bytes "01234567"
+  pub octal : bytesThat (λ b. octalAlone (bytes "0o" ++ (b ∷ []))) ≡ bytes "01234567"
   pub hexadecimal : bytesThat (λ b. oneToken (bytes "0x" ++ (b ∷ []))) ≡ digits ++ bytes "ABCDEFabcdef"
   -- "A string is a quote, bytes other than quote and LF, a quote": all but LF and quote
   pub not-in-a-string : bytesThat (λ b. not (oneToken (bytes "'" ++ (b ∷ bytes "'")))) ≡ 10 ∷ 39 ∷ []
@@ -118,14 +124,11 @@ numerals =
     ∷ on (bytes "0D091") (spells 91)
     ∷ on (bytes "0b101") (spellsIn T.binary 5)
     ∷ on (bytes "0B011") (spellsIn T.binary 3)
-    ∷ on (bytes "0o17") (spellsIn T.octal 15)
-    ∷ on (bytes "0O70") (spellsIn T.octal 56)
     ∷ on (bytes "0x1234567890abcdef") (spellsIn T.hex 0x1234567890abcdef)
     ∷ on (bytes "0XABCDEF") (spellsIn T.hex 0xabcdef)
     -- zero in each base
     ∷ on (bytes "0d0") (spells 0)
     ∷ on (bytes "0b0") (spellsIn T.binary 0)
-    ∷ on (bytes "0o00") (spellsIn T.octal 0)
     ∷ on (bytes "0x000") (spellsIn T.hex 0)
     -- "must be one numeral of 004 as a whole, else refusal 5 at its start"
     ∷ on (bytes " 12ab") (refused 5 inText 1)
@@ -140,15 +143,36 @@ numerals =
     ∷ on (bytes " 340282366920938463463374607431768211456") (refused 6 inText 1)
     ∷ on (bytes "0b" ++ repeat 128 (bytes "1")) (spellsIn T.binary (2 ^ 128 - 1))
     ∷ on (bytes "0b1" ++ repeat 128 (bytes "0")) (refused 6 inText 0)
-    ∷ on (bytes "0o3" ++ repeat 42 (bytes "7")) (spellsIn T.octal (2 ^ 128 - 1))
-    ∷ on (bytes "0o4" ++ repeat 42 (bytes "0")) (refused 6 inText 0)
     ∷ on (bytes "0x" ++ repeat 32 (bytes "f")) (spellsIn T.hex (2 ^ 128 - 1))
     ∷ on (bytes "0x" ++ repeat 33 (bytes "f")) (refused 6 inText 0)
     ∷ on (bytes "0x" ++ repeat 33 (bytes "f") ++ bytes "g") (refused 5 inText 0)
+    -- 02 h: "A well-formed octal numeral is refused with new number 22 at its first byte, .. whatever its size (never 6)"
+    ∷ on (bytes " 0o17") (refused 22 inText 1)
+    ∷ on (bytes "0O70") (refused 22 inText 0)
+    ∷ on (bytes "0o0") (refused 22 inText 0)
+    ∷ on (bytes "0o3" ++ repeat 42 (bytes "7")) (refused 22 inText 0)
+    ∷ on (bytes "0o4" ++ repeat 42 (bytes "0")) (refused 22 inText 0)
+    ∷ on (bytes "1 0o8") (refused 5 inText 2)
+    ∷ on (bytes "0o") (refused 5 inText 0)
+    ∷ on (bytes "0O") (refused 5 inText 0)
+    ∷ on (bytes "0o1_") (refused 5 inText 0)
+    ∷ on (bytes "0o7 @") (refused 22 inText 0)
+    ∷ on (bytes "@ 0o7") (refused 5 inText 0)
+    ∷ on (bytes "'0o7' //0o7") (ok (tokenAt 0 (string (bytes "0o7")) ∷ []))
     ∷ []
+
+-- of a last token: 1,024 with an octal one at their end, and one more; 7 is lower than 22
+abbrev pub crowded : ℕ → Answer (List Token)
+crowded n = tokens (repeat n (bytes "a ") ++ bytes "0o7")
+
+pub record Crowded : Type 0 where
+  pub in-room : crowded 1023 ≡ refused 22 inText 2046
+  pub too-many : crowded 1024 ≡ refused 7 inText 2048
+  pub too-large : tokens (repeat 1024 (bytes "a ") ++ bytes "0o4" ++ repeat 42 (bytes "0")) ≡ refused 7 inText 2048
 
 pub record TokenExamples : Type 0 where
   pub classes : ByteClasses
   pub two-bytes : TwoBytes
   pub texts : Agree tokens cuts
   pub numbers : Agree tokens numerals
+  pub crowded : Crowded

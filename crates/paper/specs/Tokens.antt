@@ -1,4 +1,4 @@
--- 01, "Tokens and grammar", first paragraph; refusals 1, 5, 6 and 7.
+-- 01, "Tokens and grammar", first paragraph; refusals 1, 5, 6 and 7. With 02 e, the base of a numeral, and 02 h, "Octal goes": 22.
 -- "Blanks are space, tab, CR, LF, and "//" up to LF or the end. Tokens are the longest possible from the left: so "->" is one
 -- token and "--2" is three. A run that starts with a letter or underscore is a word, id ('.' id)*, with no blank inside; a dot
 -- not followed by an id start forms no token. A run of letters, digits and underscores that starts with a digit must be one
@@ -84,18 +84,26 @@ undotted s = eqb (span (λ b. not (is "." b)) s) (length s)
 
 -- numerals: (0[dD])? [0-9]+, 0[bB] [0-1]+, 0[oO] [0-7]+, 0[xX] [0-9a-fA-F]+
 
--- 02 e: "A numeral that is read must also report how it was written: decimal, binary, octal or hex."
+-- 02 e: "A numeral that is read must also report how it was written: decimal, binary, octal or hex." 02 h: "The base list of e) loses octal."
 pub data Base : Type 0 where
-  decimal binary octal hex : Base
+  decimal binary hex : Base
 
 abbrev pub radix : Base → ℕ
 radix decimal = 10
 radix binary = 2
-radix octal = 8
 radix hex = 16
 
+-- how a numeral of 004 is written: in a base, or in octal, which has none
+pub data Notation : Type 0 where
+  based : Base → Notation
+  octal : Notation
+
+abbrev pub radixOf : Notation → ℕ
+radixOf (based base) = radix base
+radixOf octal = 8
+
 pub record Numeral : Type 0 where
-  pub base : Base
+  pub notation : Notation
   pub digits : List ℕ
 
 -- what a digit counts, in either case of a letter; 16, the digit of no base, for any other byte
@@ -105,30 +113,30 @@ digitOf b =
     (cond (within 97 102 b) (b - 87)
     (cond (within 65 70 b) (b - 55) 16))
 
--- the base that a letter announces after a first 0
-abbrev pub baseOf : ℕ → Option Base
-baseOf b =
-    cond (is "d" b || is "D" b) (some decimal)
-    (cond (is "b" b || is "B" b) (some binary)
+-- the notation that a letter announces after a first 0
+abbrev pub notationOf : ℕ → Option Notation
+notationOf b =
+    cond (is "d" b || is "D" b) (some (based decimal))
+    (cond (is "b" b || is "B" b) (some (based binary))
     (cond (is "o" b || is "O" b) (some octal)
-    (cond (is "x" b || is "X" b) (some hex) none)))
+    (cond (is "x" b || is "X" b) (some (based hex)) none)))
 
-abbrev pub spelled : Option Base → List ℕ → List ℕ → Numeral
-spelled (some base) run rest = record { base = base; digits = rest }
-spelled none run rest = record { base = decimal; digits = run }
+abbrev pub spelled : Option Notation → List ℕ → List ℕ → Numeral
+spelled (some notation) run rest = record { notation = notation; digits = rest }
+spelled none run rest = record { notation = based decimal; digits = run }
 
 -- how a run is spelled: by its letter after a first 0, else in decimal. A run has a first byte: the clause of none is never asked
 abbrev pub spelling : List ℕ → Numeral
-spelling [] = record { base = decimal; digits = [] }
-spelling (b ∷ []) = record { base = decimal; digits = b ∷ [] }
-spelling (b ∷ c ∷ s) = spelled (cond (is "0" b) (baseOf c) none) (b ∷ c ∷ s) s
+spelling [] = record { notation = based decimal; digits = [] }
+spelling (b ∷ []) = record { notation = based decimal; digits = b ∷ [] }
+spelling (b ∷ c ∷ s) = spelled (cond (is "0" b) (notationOf c) none) (b ∷ c ∷ s) s
 
--- at least one digit, and all of them of the base
+-- at least one digit, and all of them of the notation
 abbrev pub isNumeral : Numeral → Bool
-isNumeral n = ltb 0 (length (n .digits)) && eqb (span (λ b. ltb (digitOf b) (radix (n .base))) (n .digits)) (length (n .digits))
+isNumeral n = ltb 0 (length (n .digits)) && eqb (span (λ b. ltb (digitOf b) (radixOf (n .notation))) (n .digits)) (length (n .digits))
 
 abbrev pub numeralValue : Numeral → ℕ
-numeralValue n = inBase (radix (n .base)) (map digitOf (n .digits))
+numeralValue n = inBase (radixOf (n .notation)) (map digitOf (n .digits))
 
 -- what a token and a tree keep of a number: how it was written, and its value. "Tokens, tree and print carry it."
 pub record Literal : Type 0 where
@@ -141,9 +149,6 @@ literalIn base n = record { base = base; value = n }
 -- "address numerals stay decimal"
 abbrev pub plain : ℕ → Literal
 plain n = literalIn decimal n
-
-abbrev pub literalOf : Numeral → Literal
-literalOf n = literalIn (n .base) (numeralValue n)
 
 -- signs
 
@@ -196,11 +201,21 @@ pub record Token : Type 0 where
   pub at : ℕ
   pub tok : Tok
 
--- what stands at a byte that no token before it covers: each with how many bytes more it takes
+-- what stands at a byte that no token before it covers: each with how many bytes more it takes; of a well-formed octal numeral also its number,
+-- whatever its size
 pub data Scan : Type 0 where
   blank : ℕ → Scan
   token : Tok → ℕ → Scan
+  octalNumeral : ℕ → ℕ → Scan
   noToken tooLarge : Scan
+
+-- how many bytes more; none where there is nothing to take
+abbrev pub taken : Scan → ℕ
+taken (blank n) = n
+taken (token t n) = n
+taken (octalNumeral v n) = n
+taken noToken = 0
+taken tooLarge = 0
 
 abbrev pub scanComment : List ℕ → Scan
 scanComment [] = noToken
@@ -215,12 +230,20 @@ scanString s =
 abbrev pub scanWord : ℕ → List ℕ → Scan
 scanWord b s = token (word (b ∷ take (wordMore s) s)) (wordMore s)
 
--- "must be one numeral of 004 as a whole"; 6: "a numeral above 2^128 − 1"
+-- 6: "a numeral above 2^128 − 1"
+abbrev pub literalScan : Base → ℕ → ℕ → Scan
+literalScan base v more = cond (ltb v (2 ^ 128)) (token (numeral (literalIn base v)) more) tooLarge
+
+abbrev pub numeralScan : Notation → ℕ → ℕ → Scan
+numeralScan (based base) v more = literalScan base v more
+numeralScan octal v more = octalNumeral v more
+
+-- "must be one numeral of 004 as a whole"
 abbrev pub scanNumeral : ℕ → List ℕ → Scan
 scanNumeral b s =
     let more = span isIdByte s in
     let n = spelling (b ∷ take more s) in
-    cond (isNumeral n) (cond (ltb (numeralValue n) (2 ^ 128)) (token (numeral (literalOf n)) more) tooLarge) noToken
+    cond (isNumeral n) (numeralScan (n .notation) (numeralValue n) more) noToken
 
 abbrev pub scanOne : Option Sign → Scan
 scanOne (some g) = token (sign g) 0
@@ -261,23 +284,32 @@ abbrev pub onward : Scan → ℕ → ℕ → (ℕ → ℕ → Answer (List Token
 onward (blank n) at room go = go n room
 onward (token t n) at zero go = refused 7 inText at
 onward (token t n) at (suc room) go = go n room >>= λ ts. ok (record { at = at; tok = t } ∷ ts)
+onward (octalNumeral v n) at zero go = refused 7 inText at
+onward (octalNumeral v n) at (suc room) go = refused 22 inText at
 onward noToken at room go = refused 5 inText at
 onward tooLarge at room go = refused 6 inText at
 
+-- what stands at a byte, of it and those after it
+abbrev pub Scanner : Type 0
+Scanner = ℕ → List ℕ → Scan
+
 -- the tokens from an offset on: how many bytes the last one still covers, the offset, and how many tokens there is room for.
--- "In a stage the earliest place wins; at one place the lower number wins": 7 only where 5 and 6 are not given.
-unfoldable pub tokensFrom : ℕ → ℕ → ℕ → List ℕ → Answer (List Token)
-unfolding scan
-tokensFrom n at room [] = ok []
-tokensFrom (suc n) at room (b ∷ s) = tokensFrom n (suc at) room s
-tokensFrom zero at room (b ∷ s) = onward (scan b s) at room (λ n left. tokensFrom n (suc at) left s)
+-- "In a stage the earliest place wins; at one place the lower number wins": 7 only where 5 and 6 are not given, and 02 h's 22, "whatever its size
+-- (never 6)", only where 7 is not.
+unfoldable pub tokensBy : Scanner → ℕ → ℕ → ℕ → List ℕ → Answer (List Token)
+tokensBy look n at room [] = ok []
+tokensBy look (suc n) at room (b ∷ s) = tokensBy look n (suc at) room s
+tokensBy look zero at room (b ∷ s) = onward (look b s) at room (λ n left. tokensBy look n (suc at) left s)
+
+abbrev pub tokensFrom : ℕ → ℕ → ℕ → List ℕ → Answer (List Token)
+tokensFrom n at room s = tokensBy scan n at room s
 
 -- 7: "a 1,025th token"
 abbrev pub mostTokens : ℕ
 mostTokens = 1024
 
 unfoldable pub tokens : List ℕ → Answer (List Token)
-unfolding tokensFrom
+unfolding tokensBy scan
 tokens text = tokensFrom 0 0 mostTokens text
 
 -- 1: "text over 4,096 bytes", text 4096

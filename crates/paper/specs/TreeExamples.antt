@@ -4,7 +4,7 @@ use Prim.Native.String as S
 use mathlib.Core.Bool.{true, false}
 use mathlib.Core.List.{List, [], _∷_}
 use Rattle.paper.specs.Answers.{Answer, ok, refused, _>>=_, inText}
-use Rattle.paper.specs.Tokens.{binary, octal, hex, plain, literalIn, bytes, sequel, implies, orElse, andAlso, equal, unequal, greater, atLeast, less, atMost, notSign, minusSign}
+use Rattle.paper.specs.Tokens.{binary, hex, plain, literalIn, bytes, sequel, implies, orElse, andAlso, equal, unequal, greater, atLeast, less, atMost, notSign, minusSign}
 use Rattle.paper.specs.Grammar.{Tree, truth, number, key, field, attribute, prefixed, joined, compared, placeOf}
 use Rattle.paper.specs.Calls.{tree, readAnswer}
 use Rattle.paper.specs.Examples.{on, OnText, AgreeOnTexts}
@@ -23,7 +23,7 @@ atoms =
     ∷ on "12" (ok (number 0 (plain 12)))
     ∷ on "0x12" (ok (number 0 (literalIn hex 18)))
     ∷ on "0B11" (ok (number 0 (literalIn binary 3)))
-    ∷ on "0o17" (ok (number 0 (literalIn octal 15)))
+    ∷ on "0o17" (refused 22 inText 0)
     ∷ on "0D10" (ok (number 0 (plain 10)))
     ∷ on "ipv4('1.2.3.4')" (ok (number 0 (plain 0x01020304)))
     ∷ on "ipv6('::1')" (ok (number 0 (plain 1)))

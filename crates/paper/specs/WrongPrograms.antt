@@ -1,5 +1,5 @@
 -- 01, "Try these against it": programs that the promises must leave no room for; and wrong printers (02 a and e), explainers (02 c),
--- summaries and rechecks (02 f), and ways with skips (02 g). Each is refuted at an input, named in the proof.
+-- summaries and rechecks (02 f), ways with skips (02 g), and passes over octal numerals (02 h). Each is refuted at an input, named in the proof.
 use Prim.Native.Nat.{ℕ, _+_, _*_, _≤_, _<_}
 use mathlib.Core.Path.{_≡_}
 use mathlib.Core.Bool.{true, false, cond}
@@ -23,11 +23,12 @@ use Rattle.paper.specs.Calls.{tree, Restriction, restriction, over, judg
 use Rattle.paper.specs.TranslationCorrect.{Carries}
 use Rattle.paper.specs.MarkedJudgements.{theKeys, theEntry}
 use Rattle.paper.specs.Explained.{explanationSays}
-use Rattle.paper.specs.Promised.{judgementOfRun, Bytes, Programs, KeepsRead, KeepsCheck, KeepsJudge, KeepsTranslate, KeepsLoad, KeepsRun, KeepsPrint, KeepsExplain, KeepsSummarize, KeepsRecheck, Kept}
+use Rattle.paper.specs.Promised.{judgementOfRun, Bytes, Programs, KeepsRead, KeepsCheck, KeepsJudge, KeepsTranslate, KeepsLoad, KeepsRun, KeepsPrint, KeepsExplain, KeepsSummarize, KeepsRecheck, KeepsFix, Kept}
 use Rattle.paper.specs.WrongPrints.{withoutParentheses, withAllParentheses, withAndForSequel, inDecimal, addressesInHex}
 use Rattle.paper.specs.WrongExplainers.{Explainer, NamesLast, FollowsSpine, KeyForPriority}
 use Rattle.paper.specs.WrongRecheckers.{NeverReuses, AlwaysReuses, WantsEqualEntries, ForgetsPriority, ComparesReadings, CountsPriority, MissesFields}
 use Rattle.paper.specs.WrongRunners.{ReportsInstructions, LeavesOldBool, ComparesHeights}
+use Rattle.paper.specs.WrongFixers.{ChangesStrings, ChangesComments, KeepsZeros, DropsPrefix}
 use Rattle.paper.specs.Demands.{Refuses, blocksWritten, DemandOne, DemandTwo, DemandThree}
 
 -- the bytes before the first ";"
@@ -159,10 +160,24 @@ SkipsKeepBool p = LeavesOldBool (p .run)
 abbrev pub LandsByHeight : Programs → Type 0
 LandsByHeight p = ComparesHeights (p .load)
 
+-- those of WrongFixers
+
+abbrev pub FixesStrings : Programs → Type 0
+FixesStrings p = ChangesStrings (p .fix)
+
+abbrev pub FixesComments : Programs → Type 0
+FixesComments p = ChangesComments (p .fix)
+
+abbrev pub FixesWithZeros : Programs → Type 0
+FixesWithZeros p = KeepsZeros (p .fix)
+
+abbrev pub FixesToDecimal : Programs → Type 0
+FixesToDecimal p = DropsPrefix (p .fix)
+
 -- each is real: there is such a program in which every other call keeps its promise
 
 pub data Call : Type 0 where
-  judging translating loading running printing explaining summarizing rechecking : Call
+  judging translating loading running printing explaining summarizing rechecking fixing : Call
 
 -- the calls of document 01, and those of 02
 
@@ -170,17 +185,18 @@ abbrev pub FirstKept : Programs → Type 0
 FirstKept p = KeepsRead p × KeepsCheck p × KeepsJudge p × KeepsTranslate p × KeepsLoad p × KeepsRun p
 
 abbrev pub LaterKept : Programs → Type 0
-LaterKept p = KeepsPrint p × KeepsExplain p × KeepsSummarize p × KeepsRecheck p
+LaterKept p = KeepsPrint p × KeepsExplain p × KeepsSummarize p × KeepsRecheck p × KeepsFix p
 
 abbrev pub OthersKept : Call → Programs → Type 0
 OthersKept judging p = (KeepsRead p × KeepsCheck p × KeepsTranslate p × KeepsLoad p × KeepsRun p) × LaterKept p
 OthersKept translating p = (KeepsRead p × KeepsCheck p × KeepsJudge p × KeepsLoad p × KeepsRun p) × LaterKept p
 OthersKept loading p = (KeepsRead p × KeepsCheck p × KeepsJudge p × KeepsTranslate p × KeepsRun p) × LaterKept p
 OthersKept running p = (KeepsRead p × KeepsCheck p × KeepsJudge p × KeepsTranslate p × KeepsLoad p) × LaterKept p
-OthersKept printing p = FirstKept p × (KeepsExplain p × KeepsSummarize p × KeepsRecheck p)
-OthersKept explaining p = FirstKept p × (KeepsPrint p × KeepsSummarize p × KeepsRecheck p)
-OthersKept summarizing p = FirstKept p × (KeepsPrint p × KeepsExplain p × KeepsRecheck p)
-OthersKept rechecking p = FirstKept p × (KeepsPrint p × KeepsExplain p × KeepsSummarize p)
+OthersKept printing p = FirstKept p × (KeepsExplain p × KeepsSummarize p × KeepsRecheck p × KeepsFix p)
+OthersKept explaining p = FirstKept p × (KeepsPrint p × KeepsSummarize p × KeepsRecheck p × KeepsFix p)
+OthersKept summarizing p = FirstKept p × (KeepsPrint p × KeepsExplain p × KeepsRecheck p × KeepsFix p)
+OthersKept rechecking p = FirstKept p × (KeepsPrint p × KeepsExplain p × KeepsSummarize p × KeepsFix p)
+OthersKept fixing p = FirstKept p × (KeepsPrint p × KeepsExplain p × KeepsSummarize p × KeepsRecheck p)
 
 abbrev pub ThereIs : (Programs → Type 0) → Call → Type 0
 ThereIs Wrong c = (p : Programs) × Wrong p × OthersKept c p
@@ -213,6 +229,10 @@ pub record WrongProgramsExist : Type 0 where
   pub steps-by-code : ThereIs StepsByCode running
   pub keeping-bool : ThereIs SkipsKeepBool running
   pub landing-by-height : ThereIs LandsByHeight loading
+  pub fixing-strings : ThereIs FixesStrings fixing
+  pub fixing-comments : ThereIs FixesComments fixing
+  pub fixing-with-zeros : ThereIs FixesWithZeros fixing
+  pub fixing-to-decimal : ThereIs FixesToDecimal fixing
 
 -- what excludes each: a demand, beside the calls that it is tried with; or the promise of `load`, by 18
 pub record DemandsExclude (p : Programs) : Type 0 where
@@ -243,6 +263,10 @@ pub record DemandsExclude (p : Programs) : Type 0 where
   pub steps-by-code : DemandTwo p → ¬ StepsByCode p
   pub keeping-bool : DemandTwo p → ¬ SkipsKeepBool p
   pub landing-by-height : KeepsLoad p → ¬ LandsByHeight p
+  pub fixing-strings : DemandTwo p → ¬ FixesStrings p
+  pub fixing-comments : DemandTwo p → ¬ FixesComments p
+  pub fixing-with-zeros : DemandTwo p → ¬ FixesWithZeros p
+  pub fixing-to-decimal : DemandTwo p → ¬ FixesToDecimal p
 
 abbrev pub WrongProgramsFail : Type 0
 WrongProgramsFail = (p : Programs) → DemandsExclude p
@@ -276,6 +300,10 @@ pub record Excluded (p : Programs) : Type 0 where
   pub steps-by-code : ¬ StepsByCode p
   pub keeping-bool : ¬ SkipsKeepBool p
   pub landing-by-height : ¬ LandsByHeight p
+  pub fixing-strings : ¬ FixesStrings p
+  pub fixing-comments : ¬ FixesComments p
+  pub fixing-with-zeros : ¬ FixesWithZeros p
+  pub fixing-to-decimal : ¬ FixesToDecimal p
 
 abbrev pub NoWrongProgram : Type 0
 NoWrongProgram = (p : Programs) → Kept p → Excluded p

@@ -60,6 +60,12 @@ pub enum Printing {
     Refused(u8, Place),
 }
 
+// A text without octal numerals, each in hex: how many bytes were written.
+pub enum Fixing {
+    Fixed(usize),
+    Refused(u8, Place),
+}
+
 // What broke for an entry: a part of the text, by its number from 1, its root's place, and its stretch from one byte up to another; the key of
 // a refused record, by the record's place in the entry, and the stretch of its name in the list; or nothing, with the entry's own judgement.
 pub enum Explanation {

@@ -42,3 +42,5 @@ pub const ENTRY_LENGTH: u8 = 19;
 pub const ENTRY_RULE: u8 = 20;
 
 pub const PRINT_LONG: u8 = 21;
+
+pub const OCTAL: u8 = 22;

@@ -8,7 +8,6 @@ use crate::magnitude::Magnitude;
 pub enum Base {
     Decimal,
     Binary,
-    Octal,
     Hex,
 }
 
@@ -28,7 +27,6 @@ impl Base {
         match self {
             Base::Decimal => 10,
             Base::Binary => 2,
-            Base::Octal => 8,
             Base::Hex => 16,
         }
     }
@@ -39,7 +37,6 @@ impl Base {
     {
         match radix {
             2 => Base::Binary,
-            8 => Base::Octal,
             16 => Base::Hex,
             _ => Base::Decimal,
         }

@@ -30,7 +30,6 @@ fn write_base(base: Base, from: usize, out: &mut [u8]) -> usize
     match base {
         Base::Decimal => from,
         Base::Binary => put::write(b"0b", from, out),
-        Base::Octal => put::write(b"0o", from, out),
         Base::Hex => put::write(b"0x", from, out),
     }
 }

@@ -8,6 +8,5 @@ mod put;
 mod signs;
 mod walk;
 
-pub use put::copy;
 pub use signs::Rung;
 pub use walk::write_tree;

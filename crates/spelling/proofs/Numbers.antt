@@ -10,11 +10,11 @@ use lib.ListN.{length, getD, drop, drop-of-length-le}
 use lib.Dec.{eqb, ltb}
 use borrow.Author.Tests.{ltb-true, ltb-false, lt-ltb, le-ltb, eq-eqb, ne-eqb}
 use Rattle.paper.specs.Numbers.{digitsAfter}
-use Rattle.paper.specs.Tokens.{spelling, spelled, baseOf, digitOf, span, isNumeral, Base, radix}
+use Rattle.paper.specs.Tokens.{spelling, spelled, notationOf, digitOf, span, isNumeral, Notation, radixOf}
 use Rattle.spelling.proofs.Spans.{cut}
 use Rattle.number.specs.Values.{value, Grows}
 use Rattle.number.specs.declared.digits.Extended.{Extended}
-use Rattle.spelling.specs.Numerals.{inBaseOf, Counts}
+use Rattle.spelling.specs.Numerals.{writtenIn, Counts}
 use Rattle.spelling.specs.Runs.{inRun, EndsAt}
 use Rattle.spelling.specs.declared.runs.Run.the-variants.{Digits}
 
@@ -28,7 +28,7 @@ spelled-plain [] e = refl
 spelled-plain (b ∷ []) e = refl
 spelled-plain (b ∷ c ∷ s) e = rw (ne-eqb b 48 e)
 
-pub spelled-by : (run : List ℕ) → 2 ≤ length run → getD run 0 0 ≡ 48 → spelling run ≡ spelled (baseOf (getD run 1 0)) run (drop 2 run)
+pub spelled-by : (run : List ℕ) → 2 ≤ length run → getD run 0 0 ≡ 48 → spelling run ≡ spelled (notationOf (getD run 1 0)) run (drop 2 run)
 spelled-by [] h e = absurd (omega arith)
 spelled-by (b ∷ []) h e = absurd (omega arith)
 spelled-by (b ∷ c ∷ s) h e = rw (eq-eqb b 48 e)
@@ -47,18 +47,18 @@ module _ (base n : ℕ) (s : List ℕ) (i : ℕ) where
   pub digits-end : length s ≤ i → digitsAfter base n (map digitOf (drop i s)) ≡ n
   digits-end h = rw (drop-of-length-le s h)
 
-module _ (ds : List ℕ) (base : Base) (n end : ℕ) (same : n ≡ radix base) (f : EndsAt ds 0 (span (inRun (Digits n)) ds) end) where
-  pub digits-none : end ≡ 0 → isNumeral (inBaseOf base ds) ≡ false
+module _ (ds : List ℕ) (notation : Notation) (n end : ℕ) (same : n ≡ radixOf notation) (f : EndsAt ds 0 (span (inRun (Digits n)) ds) end) where
+  pub digits-none : end ≡ 0 → isNumeral (writtenIn notation ds) ≡ false
   digits-none e = rw (← same) (go ds (omega arith))
     where
       go : (l : List ℕ) → span (inRun (Digits n)) l ≡ 0 → (ltb 0 (length l) && eqb (span (inRun (Digits n)) l) (length l)) ≡ false
       go [] z = refl
       go (x ∷ l) z = rw (z, ne-eqb 0 (suc (length l)) (λ q. omega arith)) (and-false (ltb 0 (suc (length l))))
 
-  pub digits-short : end < length ds → isNumeral (inBaseOf base ds) ≡ false
+  pub digits-short : end < length ds → isNumeral (writtenIn notation ds) ≡ false
   digits-short h = rw (← same, ne-eqb (span (inRun (Digits n)) ds) (length ds) (λ q. omega arith)) (and-false (ltb 0 (length ds)))
 
-  pub digits-all : (end ≡ 0 → ⊥) → length ds ≤ end → isNumeral (inBaseOf base ds) ≡ true
+  pub digits-all : (end ≡ 0 → ⊥) → length ds ≤ end → isNumeral (writtenIn notation ds) ≡ true
   digits-all z h =
       rw (← same, lt-ltb 0 (length ds) (omega arith), eq-eqb (span (inRun (Digits n)) ds) (length ds) (omega arith))
 

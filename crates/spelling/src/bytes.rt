@@ -1,5 +1,8 @@
 // Plain bytes, and their classes.
 ghost use mathlib.Core.Path.{_≡_};
+ghost use Prim.Native.Nat.{_+_, _≤_};
+ghost use lib.ListN.{length};
+ghost use lib.Seq.{sets};
 ghost use Rattle.paper.specs.Tokens as paper;
 ghost use Rattle.paper.specs.Tokens.{sameBytes, isDigit, isBlank, digitOf};
 ghost use Rattle.paper.specs.Keys.{allZero};
@@ -48,6 +51,18 @@ pub fn all_zero(s: &[u8]) -> bool
         i += 1;
     }
     any == 0
+}
+
+// Copies bytes to an offset; every other byte stays.
+pub fn copy(s: &[u8], at: usize, out: &mut [u8])
+    requires { ⌜ at + length (now s) ≤ length (now out) ⌝ }
+    ensures { λ _. ⌜ now (out .exit) ≡ sets (now (out .entry)) at (now (s .entry)) ⌝ }
+{
+    let mut i = 0;
+    while i < s.len() {
+        out[at + i] = s[i];
+        i += 1;
+    }
 }
 
 // Whether a byte is a decimal digit.

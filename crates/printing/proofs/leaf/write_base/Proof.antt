@@ -8,10 +8,7 @@ use Rattle.printing.proofs.leaf.write_base.Tie as tie
 abbrev binary : tie.After-write → tie.After-enum-told2
 binary c = c .before .before .before
 
-abbrev octal : tie.After-write2 → tie.After-enum-told3
-octal c = c .before .before .before
-
-abbrev hex : tie.After-write3 → tie.After-enum-told4
+abbrev hex : tie.After-write2 → tie.After-enum-told3
 hex c = c .before .before .before
 
 pub write-base-spec : {M : Type 1} → statement M
@@ -25,13 +22,8 @@ write-base-spec =
     (λ c. search needs)
     (λ c. search needs)
     (λ c κs. search needs)
-    (λ c. search needs)
-    (λ c. search needs)
-    (λ c κs. search needs)
     (λ c. rw (c .enum-told .given .1) (none-written _ _))
     (λ c. search needs)
     (λ c. rw (binary (c .before .before) .enum-told2 .given .1) (c .before .before .write .ensures))
     (λ c. search needs)
-    (λ c. rw (octal (c .before .before) .enum-told3 .given .1) (c .before .before .write2 .ensures))
-    (λ c. search needs)
-    (λ c. rw (hex (c .before .before) .enum-told4 .given .1) (c .before .before .write3 .ensures)))
+    (λ c. rw (hex (c .before .before) .enum-told3 .given .1) (c .before .before .write2 .ensures)))

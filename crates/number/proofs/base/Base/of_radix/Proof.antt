@@ -3,11 +3,11 @@ use borrow.Author.Tests.{ne-eqb}
 use Rattle.number.proofs.base.Base.of_radix.Statement.{statement}
 use Rattle.number.proofs.base.Base.of_radix.Tie as tie
 
-another : tie.Need-returns-4
+another : tie.Need-returns-3
 another c =
     let r = c .match .rest in
     let n = c .before .args .radix in
-    rw (ne-eqb n 2 (r .0 .0 .1), ne-eqb n 8 (r .0 .1), ne-eqb n 16 (r .1))
+    rw (ne-eqb n 2 (r .0 .1), ne-eqb n 16 (r .1))
 
 pub of-radix-spec : {M : Type 1} → statement M
-of-radix-spec = tie.close (tie.spec (λ c. rw (c .match .keys1)) (λ c. rw (c .match .keys2)) (λ c. rw (c .match .keys3)) another)
+of-radix-spec = tie.close (tie.spec (λ c. rw (c .match .keys1)) (λ c. rw (c .match .keys2)) another)

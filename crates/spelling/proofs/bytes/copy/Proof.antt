@@ -6,9 +6,9 @@ use lib.ListN.{length, take, length-set}
 use lib.Seq.{sets, take-all}
 use denote.Ref.{now}
 use borrow.Author.Needs.{needs}
-use Rattle.printing.proofs.Rows.{copied-more}
-use Rattle.printing.proofs.put.copy.Statement.{statement}
-use Rattle.printing.proofs.put.copy.Tie as tie
+use Rattle.spelling.proofs.Copies.{copied-more}
+use Rattle.spelling.proofs.bytes.copy.Statement.{statement}
+use Rattle.spelling.proofs.bytes.copy.Tie as tie
 
 abbrev Inv-loop : tie.InvT-loop
 Inv-loop s at out₀ i₀ out i = (i ≤ length s) × (length out ≡ length out₀) × (out ≡ sets out₀ at (take i s))

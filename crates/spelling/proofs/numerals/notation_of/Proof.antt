@@ -1,12 +1,12 @@
--- Each letter, in either case, announces the base that the definition names; any other byte announces none.
+-- Each letter, in either case, announces the notation that the definition names; any other byte announces none.
 use Prim.Native.Nat.{ℕ}
 use mathlib.Core.Path.{_≡_}
 use mathlib.Core.Bool.{false, _||_}
 use mathlib.Core.Logic.{_⊎_, inl, inr, ⊎-elim}
 use lib.Dec.{eqb}
 use borrow.Author.Tests.{ne-eqb}
-use Rattle.spelling.proofs.numerals.base_of.Statement.{statement}
-use Rattle.spelling.proofs.numerals.base_of.Tie as tie
+use Rattle.spelling.proofs.numerals.notation_of.Statement.{statement}
+use Rattle.spelling.proofs.numerals.notation_of.Tie as tie
 
 neither : (x a b : ℕ) → ((x ≡ b) ⊎ (x ≡ a) → ⊥) → (eqb x a || eqb x b) ≡ false
 neither x a b h = rw (ne-eqb x a (λ e. h (inr e)), ne-eqb x b (λ e. h (inl e)))
@@ -17,8 +17,8 @@ returns-5 c =
     let r = c .match .rest in
     rw (neither x 100 68 (r .0 .0 .0 .1), neither x 98 66 (r .0 .0 .1), neither x 111 79 (r .0 .1), neither x 120 88 (r .1))
 
-pub base-of-spec : {M : Type 1} → statement M
-base-of-spec =
+pub notation-of-spec : {M : Type 1} → statement M
+notation-of-spec =
     tie.close
     (tie.spec
     (λ c. ⊎-elim (λ e. rw e) (λ e. rw e) (c .match .keys1))

@@ -1,21 +1,24 @@
 -- The loop over a text: the tokens that are on the tape, and those from the next byte on, are the text's.
 use Prim.Native.Nat.{ℕ, suc, _+_, _-_, _≤_, _<_}
 use mathlib.Core.Path.{_≡_, refl, ap, sym, _∙_}
+use mathlib.Core.Bool.{Bool, true, false, cond}
 use mathlib.Core.List.{List, [], append-nil}
 use native.Mathlib.Omega.{arith}
 use lib.ListN.{length, getD, drop}
 use lib.Seq.{sets}
+use lib.Dec.{eqb}
+use borrow.Author.Tests.{eqb-true, eqb-false}
 use Rattle.paper.specs.Answers.{Answer, ok, refused, inText}
-use Rattle.paper.specs.Tokens.{Literal, Token, Scan, scan, tokensFrom, tokens, mostTokens}
-use Rattle.paper.specs.Parts.{taken, tokenEnd}
+use Rattle.paper.specs.Tokens.{Literal, Token, Scan, octalNumeral, taken, scan, tokensFrom, tokens, mostTokens}
+use Rattle.paper.specs.Parts.{tokenEnd}
 use Rattle.number.specs.Bases.{literalMeant}
 use Rattle.number.specs.declared.base.Literal as N
 use Rattle.tokens.specs.Scanned.{Stands}
 use Rattle.tokens.specs.Tape.{Tape, tapeOf, Room, rowAt, Has, rowOf, tokensOn}
-use Rattle.tokens.specs.Tokenized.{Cut, SpansOn, EndsOn}
+use Rattle.tokens.specs.Tokenized.{tokenizedSays, octalRefusal, Cut, SpansOn, EndsOn}
 use Rattle.tokens.specs.declared.found.Lexeme.{Lexeme}
 use Rattle.tokens.specs.declared.found.Lexeme.the-variants as F
-use Rattle.tokens.proofs.Steps.{following, following-one, blank-step, token-step, full-step, no-step, large-step, end-step}
+use Rattle.tokens.proofs.Steps.{following, following-one, blank-step, token-step, full-step, octal-full-step, octal-step, no-step, large-step, end-step}
 use Rattle.tokens.proofs.Storing.{tokens-stored, spans-stored, ends-stored}
 
 -- what the paper scans at a byte
@@ -57,7 +60,7 @@ module _ (text rows : List ℕ) (n at : ℕ) (g : Going (tapeOf text rows) n at)
         few = g .few;
         taken = omega (arith, g .taken, w .ends);
         inside = w .ends .1;
-        says = from-here _ (blank-step text at (mostTokens - n) h end (w .ends .0) (sym (w .says)));
+        says = from-here _ (blank-step scan text at (mostTokens - n) h end (w .ends .0) (sym (w .says)));
         placed = g .placed;
         ended = g .ended;
       }
@@ -80,7 +83,7 @@ module _ (text rows : List ℕ) (n at : ℕ) (g : Going (tapeOf text rows) n at)
   going-token after kind end l few room put w =
       let e : mostTokens - n ≡ suc (mostTokens - (n + 1)) = omega arith in
       let rest = tokensFrom 0 end (mostTokens - (n + 1)) (drop end text) in
-      let step = token-step text at (mostTokens - (n + 1)) h _ end (w .ends .taken) (sym (w .says)) in
+      let step = token-step scan text at (mostTokens - (n + 1)) h _ end (w .ends .taken) (sym (w .says)) in
       record {
         few = omega arith;
         taken = omega (arith, g .taken, w .ends .taken);
@@ -97,21 +100,34 @@ module _ (text rows : List ℕ) (n at : ℕ) (g : Going (tapeOf text rows) n at)
       → refused 7 inText at ≡ tokens text
   going-full v kind end full w =
       let e : mostTokens - n ≡ 0 = omega arith in
-      from-here (refused 7 inText at) (rw e (full-step text at 0 h _ _ (sym (w .says))))
+      from-here (refused 7 inText at) (rw e (full-step scan text at 0 h _ _ (sym (w .says))))
+
+  -- an octal numeral: there is room for a token or not
+  pub going-octal : (v m : ℕ) → octalNumeral v m ≡ scan (getD text at 0) (drop (at + 1) text)
+      → tokenizedSays (tapeOf text rows) (octalRefusal n at) ≡ tokens text
+  going-octal v m e = go (eqb n mostTokens) refl
+    where
+      go : (full : Bool) → eqb n mostTokens ≡ full → refused (cond full 7 22) inText at ≡ tokens text
+      go true f =
+          let none : mostTokens - n ≡ 0 = omega (arith, eqb-true n mostTokens f) in
+          from-here (refused 7 inText at) (rw none (octal-full-step scan text at 0 h v m (sym e)))
+      go false f =
+          let some : mostTokens - n ≡ suc (mostTokens - (n + 1)) = omega (arith, g .few, eqb-false n mostTokens f) in
+          from-here (refused 22 inText at) (rw some (octal-step scan text at (mostTokens - (n + 1)) h v m (sym e)))
 
   pub going-none : (v : Literal) → Here text at v F.NoToken
       → refused 5 inText at ≡ tokens text
-  going-none v w = from-here (refused 5 inText at) (no-step text at (mostTokens - n) h (sym (w .says)))
+  going-none v w = from-here (refused 5 inText at) (no-step scan text at (mostTokens - n) h (sym (w .says)))
 
   pub going-large : (v : Literal) → Here text at v F.TooLarge
       → refused 6 inText at ≡ tokens text
-  going-large v w = from-here (refused 6 inText at) (large-step text at (mostTokens - n) h (sym (w .says)))
+  going-large v w = from-here (refused 6 inText at) (large-step scan text at (mostTokens - n) h (sym (w .says)))
 
 module _ (T : Tape) (n at : ℕ) (g : Going T n at) where
   pub going-end : length (T .text) ≤ at → ok (tokensOn T 0 n) ≡ tokens (T .text)
   going-end h =
       ap ok (sym (append-nil (tokensOn T 0 n)))
-      ∙ ap (following (tokensOn T 0 n)) (sym (end-step (T .text) at (mostTokens - n) h)) ∙ g .says
+      ∙ ap (following (tokensOn T 0 n)) (sym (end-step scan (T .text) at (mostTokens - n) h)) ∙ g .says
 
   pub going-cut : Cut T n
   going-cut = record { few = g .few; short = omega (arith, g .taken, g .inside); spans = g .placed; ends = g .ended }

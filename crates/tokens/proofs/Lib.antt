@@ -1,6 +1,7 @@
 pub mod Going
 pub mod Parts
 pub mod Quoting
+pub mod Rewriting
 pub mod Scans
 pub mod SignBytes
 pub mod Steps

@@ -6,13 +6,17 @@ use mathlib.Core.List.{List, [], _∷_}
 use native.Mathlib.Omega.{arith}
 use lib.Dec.{eqb}
 use lib.ListN.{length, getD, take, drop, length-drop}
-use Rattle.paper.specs.Tokens.{is, starts, isBlank, isIdStart, isDigit, isIdByte, wordMore, span, spelling, Scan, scan, scanComment, scanString, scanWord, scanNumeral, scanSign, blank, token, word, Literal, plain}
-use Rattle.spelling.specs.Numerals.{SpeltAs}
+use Rattle.paper.specs.Tokens.{is, starts, isBlank, isIdStart, isDigit, isIdByte, wordMore, span, Numeral, spelling, isNumeral, numeralValue, numeralScan, Scan, scan, scanComment, scanString, scanWord, scanNumeral, scanSign, blank, token, word, Literal, plain}
+use Rattle.paper.specs.Tokens as P
+use Rattle.spelling.specs.Numerals.{notationMeant, SpeltAs}
 use Rattle.spelling.specs.Runs.{EndsAt}
+use Rattle.spelling.specs.declared.numerals.Fit.{Fit}
 use Rattle.spelling.specs.declared.numerals.Fit.the-variants as S
-use Rattle.tokens.specs.Scanned.{Stands}
+use Rattle.spelling.specs.declared.numerals.Notation.{Notation}
+use Rattle.spelling.specs.declared.numerals.Notation.the-variants.{Based, Octal}
+use Rattle.tokens.specs.Scanned.{Stands, fitsAs, literalFor, tooLargeAs}
 use Rattle.tokens.specs.declared.found.Lexeme.{Lexeme}
-use Rattle.tokens.specs.declared.found.Lexeme.the-variants.{Blank, Token, NoToken, TooLarge}
+use Rattle.tokens.specs.declared.found.Lexeme.the-variants.{Blank, Token, NoToken}
 use Rattle.tokens.proofs.Parts.{part-slice, part-first}
 
 -- by its class
@@ -74,23 +78,48 @@ module _ (s : List ℕ) (at : ℕ) (h : at < length s) where
       let p = sym (part-slice at (at + 1 + n) s (omega arith)) ∙ part-first s at n (at + 1 + n) h refl in
       record { says = ap₂ (λ l i. token (word l) i) p m; ends = omega (arith, word-inside) }
 
-module _ (s : List ℕ) (at end : ℕ) (h : at < length s) (f : EndsAt s (at + 1) (span isIdByte (drop (at + 1) s)) end) (m : Literal) where
-  run : take (end - at) (drop at s) ≡ getD s at 0 ∷ take (span isIdByte (drop (at + 1) s)) (drop (at + 1) s)
-  run = part-first s at (span isIdByte (drop (at + 1) s)) end h (f .far)
+-- the run at an offset, and the numeral that it spells
 
-  pub numeral-fits : SpeltAs (spelling (take (end - at) (drop at s))) m S.Fits
-      → Stands s at m (scanNumeral (getD s at 0) (drop (at + 1) s)) (Token 1 end)
-  numeral-fits e =
-      let g = subst (λ l. SpeltAs (spelling l) m S.Fits) run e in
-      let n : end - (at + 1) ≡ span isIdByte (drop (at + 1) s) = omega arith in
-      record { says = rw (g .0, g .1, g .2, n); ends = omega arith }
+abbrev runMore : List ℕ → ℕ → ℕ
+runMore s at = span isIdByte (drop (at + 1) s)
 
-  pub numeral-large : SpeltAs (spelling (take (end - at) (drop at s))) m S.TooLarge
-      → Stands s at (plain 0) (scanNumeral (getD s at 0) (drop (at + 1) s)) TooLarge
-  numeral-large e =
-      let g = subst (λ l. SpeltAs (spelling l) m S.TooLarge) run e in
-      record { says = rw (g .0, g .1); ends = tt }
+abbrev spelt : List ℕ → ℕ → Numeral
+spelt s at = spelling (getD s at 0 ∷ take (runMore s at) (drop (at + 1) s))
 
-  pub numeral-none : SpeltAs (spelling (take (end - at) (drop at s))) m S.NoNumeral
+module _ (s : List ℕ) (at end : ℕ) (h : at < length s) (f : EndsAt s (at + 1) (runMore s at) end) (w : Notation) (v : ℕ) where
+  on-the-run : (sort : Fit) → SpeltAs (spelling (take (end - at) (drop at s))) (notationMeant w) v sort → SpeltAs (spelt s at) (notationMeant w) v sort
+  on-the-run sort e = subst (λ l. SpeltAs (spelling l) (notationMeant w) v sort) (part-first s at (runMore s at) end h (f .far)) e
+
+  run-taken : end - (at + 1) ≡ runMore s at
+  run-taken = omega arith
+
+  scanned-in : {x : P.Notation} → isNumeral (spelt s at) ≡ true → x ≡ spelt s at .notation
+      → numeralScan x (numeralValue (spelt s at)) (runMore s at) ≡ scanNumeral (getD s at 0) (drop (at + 1) s)
+  scanned-in e n = ap (λ x. numeralScan x (numeralValue (spelt s at)) (runMore s at)) n ∙ rw e
+
+  pub numeral-fits : SpeltAs (spelling (take (end - at) (drop at s))) (notationMeant w) v S.Fits
+      → Stands s at (literalFor (notationMeant w) v) (scanNumeral (getD s at 0) (drop (at + 1) s)) (fitsAs w end)
+  numeral-fits e = go w (on-the-run S.Fits e)
+    where
+      go : (w : Notation) → SpeltAs (spelt s at) (notationMeant w) v S.Fits
+          → Stands s at (literalFor (notationMeant w) v) (scanNumeral (getD s at 0) (drop (at + 1) s)) (fitsAs w end)
+      go (Based base) g = record { says = rw (g .3, run-taken) (rw (g .1) at (scanned-in (g .0) (g .2))); ends = omega arith }
+      go Octal g =
+          record {
+            says = record { is = rw (g .3, run-taken) (scanned-in (g .0) (g .2)); fits = rw (g .3) (g .1) };
+            ends = omega arith;
+          }
+
+  pub numeral-large : SpeltAs (spelling (take (end - at) (drop at s))) (notationMeant w) v S.TooLarge
+      → Stands s at (plain 0) (scanNumeral (getD s at 0) (drop (at + 1) s)) (tooLargeAs w)
+  numeral-large e = go w (on-the-run S.TooLarge e)
+    where
+      go : (w : Notation) → SpeltAs (spelt s at) (notationMeant w) v S.TooLarge
+          → Stands s at (plain 0) (scanNumeral (getD s at 0) (drop (at + 1) s)) (tooLargeAs w)
+      go (Based base) g = record { says = rw (g .1) at (scanned-in (g .0) (g .2)); ends = tt }
+      go Octal g =
+          record { says = record { number = numeralValue (spelt s at); more = runMore s at; is = scanned-in (g .0) (g .2); large = g .1 }; ends = tt }
+
+  pub numeral-none : SpeltAs (spelling (take (end - at) (drop at s))) (notationMeant w) v S.NoNumeral
       → Stands s at (plain 0) (scanNumeral (getD s at 0) (drop (at + 1) s)) NoToken
-  numeral-none e = record { says = rw (subst (λ l. SpeltAs (spelling l) m S.NoNumeral) run e .0); ends = tt }
+  numeral-none e = record { says = rw (on-the-run S.NoNumeral e); ends = tt }

@@ -1,3 +1,4 @@
+pub mod Fixes
 pub mod Scanned
 pub mod Tape
 pub mod Tokenized

@@ -1,8 +1,11 @@
 -- What `tokenize` answers, read with the tape as it leaves it.
 use Prim.Native.Nat.{ℕ, _≤_, _<_}
 use mathlib.Core.Path.{_≡_}
+use mathlib.Core.Bool.{cond}
 use mathlib.Core.List.{List}
 use lib.ListN.{length}
+use lib.Dec.{eqb}
+use Rattle.paper.specs.declared.Place.the-variants.{Text}
 use Rattle.paper.specs.declared.Counted.{Counted}
 use Rattle.paper.specs.declared.Counted.the-variants.{Count, Refused}
 use Rattle.paper.specs.Answers.{Answer, ok, refused, inputOf, offsetOf}
@@ -14,6 +17,10 @@ use Rattle.tokens.specs.Tape.{Tape, kindAt, startAt, endAt, tokensOn}
 abbrev pub tokenizedSays : Tape → Counted → Answer (List Token)
 tokenizedSays T (Count n) = ok (tokensOn T 0 n)
 tokenizedSays T (Refused k p) = refused k (inputOf p) (offsetOf p)
+
+-- what is answered at an octal numeral after n tokens
+abbrev pub octalRefusal : ℕ → ℕ → Counted
+octalRefusal n at = Refused (cond (eqb n mostTokens) 7 22) (Text at)
 
 -- the token of an index stands in the text
 abbrev pub SpansOn : Tape → ℕ → Type 0

@@ -4,8 +4,12 @@ pub enum Lexeme {
     Blank(usize),
     // A token of a kind, up to an offset.
     Token(u32, usize),
+    // An octal numeral, up to an offset.
+    Octal(usize),
+    // An octal numeral above 2^128 - 1.
+    OctalTooLarge,
     // Bytes that form no token.
     NoToken,
-    // A numeral above 2^128 - 1.
+    // Any other numeral above 2^128 - 1.
     TooLarge,
 }

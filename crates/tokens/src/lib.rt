@@ -1,20 +1,21 @@
 // The tokens of a text, on a tape: a lent slice of numbers, eight words a token.
 //
-// `tokenize` cuts a text of at most 4,096 bytes into at most 1,024 tokens, or gives refusal 5, 6 or 7 at the byte
-// that document 01 says. `rows` owns the layout of a token's eight words and reads them; specs/Tape.antt reads the tape
-// back as the paper's tokens.
+// `tokenize` cuts a text of at most 4,096 bytes into at most 1,024 tokens, or gives refusal 5, 6, 7 or 22 at the byte
+// that the documents say. `rows` owns the layout of a token's eight words and reads them; specs/Tape.antt reads the tape
+// back as the paper's tokens. `fixing` writes a text anew without its octal numerals.
 ghost use mathlib.Core.Path.{_≡_};
 ghost use Prim.Native.Nat.{_≤_};
 ghost use lib.ListN.{length};
 ghost use Rattle.paper.specs.Tokens.{tokens, mostText};
 ghost use Rattle.tokens.specs.Tape.{Room, tapeOf};
-ghost use Rattle.tokens.specs.Tokenized.{tokenizedSays, Placed};
+ghost use Rattle.tokens.specs.Tokenized.{tokenizedSays, Placed, octalRefusal};
 use crate::found::Lexeme;
 use crate::rows::Row;
 use paper::Counted;
 use paper::Place;
 use paper::refused;
 
+pub mod fixing;
 mod found;
 pub mod kinds;
 mod quotes;
@@ -23,6 +24,16 @@ mod scan;
 mod signs;
 
 pub const MOST_TOKENS: usize = 1024;
+
+// An octal numeral after n tokens: one more than there is room for is told as such.
+fn octal_refused(n: usize, at: usize) -> Counted
+    ensures { λ r. ⌜ r ≡ octalRefusal n at ⌝ }
+{
+    if n == MOST_TOKENS {
+        return Counted::Refused(refused::TOKENS_MANY, Place::Text(at));
+    }
+    Counted::Refused(refused::OCTAL, Place::Text(at))
+}
 
 // Cuts a text into tokens and stores each in its row; answers how many there are, or the refusal.
 pub fn tokenize(text: &[u8], tape: &mut [u32]) -> Counted
@@ -53,6 +64,8 @@ pub fn tokenize(text: &[u8], tape: &mut [u32]) -> Counted
                 n += 1;
                 at = end;
             }
+            Lexeme::Octal(_) => return octal_refused(n, at),
+            Lexeme::OctalTooLarge => return octal_refused(n, at),
             Lexeme::NoToken => return Counted::Refused(refused::NO_TOKEN, Place::Text(at)),
             Lexeme::TooLarge => return Counted::Refused(refused::NUMERAL_LARGE, Place::Text(at)),
         }

@@ -3,21 +3,25 @@ ghost use mathlib.Core.Path.{_≡_};
 ghost use Prim.Native.Nat.{_+_, _<_};
 ghost use lib.ListN.{length, getD, drop};
 ghost use Rattle.paper.specs.Tokens as paper;
+ghost use Rattle.number.specs.Values.{value};
 ghost use Rattle.number.specs.Bases.{literalMeant};
-ghost use Rattle.tokens.specs.Scanned.{Stands};
+ghost use Rattle.spelling.specs.Numerals.{notationMeant};
+ghost use Rattle.tokens.specs.Scanned.{Stands, fitsAs, literalFor, tooLargeAs};
 use crate::found::Lexeme;
 use crate::kinds;
 use crate::quotes;
 use crate::signs;
+use number::Base;
 use number::Literal;
 use number::Magnitude;
 use spelling::bytes;
 use spelling::numerals;
 use spelling::numerals::Fit;
+use spelling::numerals::Notation;
 use spelling::runs;
 use spelling::runs::Run;
 
-// The literal is that of a numeral.
+// The literal is that of a numeral, and of an octal one the literal in hex.
 pub struct Scanned {
     pub found: Lexeme,
     pub literal: Literal,
@@ -40,6 +44,37 @@ fn word(text: &[u8], at: usize) -> Lexeme
     Lexeme::Token(kinds::WORD, next + spelling::word::word_more(text, next))
 }
 
+// A numeral whose number fits, up to an offset.
+fn fitting(notation: Notation, number: Magnitude, end: usize) -> Scanned
+    ensures { λ r. ⌜ (r .found ≡ fitsAs notation end) × (literalMeant (r .literal) ≡ literalFor (notationMeant notation) (value number)) ⌝ }
+{
+    match notation {
+        Notation::Based(base) => Scanned {
+            found: Lexeme::Token(kinds::NUMERAL, end),
+            literal: Literal {
+                base: base,
+                number: number,
+            },
+        },
+        Notation::Octal => Scanned {
+            found: Lexeme::Octal(end),
+            literal: Literal {
+                base: Base::Hex,
+                number: number,
+            },
+        },
+    }
+}
+
+fn too_large(notation: Notation) -> Lexeme
+    ensures { λ r. ⌜ r ≡ tooLargeAs notation ⌝ }
+{
+    match notation {
+        Notation::Based(_) => Lexeme::TooLarge,
+        Notation::Octal => Lexeme::OctalTooLarge,
+    }
+}
+
 fn numeral(text: &[u8], at: usize) -> Scanned
     requires { ⌜ at < length (now text) ⌝ }
     ensures { λ r. ⌜ Stands (now (text .entry)) at (literalMeant (r .literal)) (paper.scanNumeral (getD (now (text .entry)) at 0) (drop (at + 1) (now (text .entry)))) (r .found) ⌝ }
@@ -47,13 +82,11 @@ fn numeral(text: &[u8], at: usize) -> Scanned
     let end = runs::run_end(text, at + 1, Run::Name);
     let read = numerals::read_numeral(&text[at..end]);
     let sort = read.sort;
-    let literal = read.literal;
+    let notation = read.notation;
+    let number = read.number;
     match sort {
-        Fit::Fits => Scanned {
-            found: Lexeme::Token(kinds::NUMERAL, end),
-            literal: literal,
-        },
-        Fit::TooLarge => unnumbered(Lexeme::TooLarge),
+        Fit::Fits => fitting(notation, number, end),
+        Fit::TooLarge => unnumbered(too_large(notation)),
         Fit::NoNumeral => unnumbered(Lexeme::NoToken),
     }
 }

@@ -12,7 +12,7 @@ use Rattle.number.specs.Bases.{literalMeant}
 use Rattle.tokens.specs.Tape.{tapeOf, Has}
 use Rattle.tokens.specs.declared.found.Lexeme.{Lexeme}
 use Rattle.tokens.specs.declared.found.Lexeme.the-variants as F
-use Rattle.tokens.proofs.Going.{Here, Going, going-start, going-blank, going-row, going-token, going-full, going-none, going-large, going-end, going-cut}
+use Rattle.tokens.proofs.Going.{Here, Going, going-start, going-blank, going-row, going-token, going-full, going-octal, going-none, going-large, going-end, going-cut}
 use Rattle.tokens.proofs.tokenize.Statement.{statement}
 use Rattle.tokens.proofs.tokenize.Tie as tie
 
@@ -127,21 +127,35 @@ stored c =
 token-taken : tie.Need-loop-less-2 Inv-loop μ-loop
 token-taken c = let t = stored-token (c .before .before) in omega (arith, token-here t .ends)
 
--- neither
+-- an octal numeral
 
-no-token : tie.Need-returns-2 Inv-loop μ-loop
+octal : tie.Need-returns-2 Inv-loop μ-loop
+octal c =
+    let s = c .before .before .before in
+    let found = here s _ (c .before .enum-told .given .1) in
+    rw (c .octal-refused .ensures) (going-octal (text s) (rows s) (n s) (at s) (going s) (more s) _ _ (found .says .is), tt)
+
+octal-too-large : tie.Need-returns-3 Inv-loop μ-loop
+octal-too-large c =
+    let s = c .before .before .before in
+    let found = here s _ (c .before .enum-told2 .given .1) in
+    rw (c .octal-refused2 .ensures) (going-octal (text s) (rows s) (n s) (at s) (going s) (more s) _ _ (found .says .is), tt)
+
+-- no token
+
+no-token : tie.Need-returns-4 Inv-loop μ-loop
 no-token c =
     let s = c .before .before in
-    (going-none (text s) (rows s) (n s) (at s) (going s) (more s) (literal s) (here s _ (c .enum-told .given .1)), tt)
+    (going-none (text s) (rows s) (n s) (at s) (going s) (more s) (literal s) (here s _ (c .enum-told3 .given .1)), tt)
 
-too-large : tie.Need-returns-3 Inv-loop μ-loop
+too-large : tie.Need-returns-5 Inv-loop μ-loop
 too-large c =
     let s = c .before .before in
-    (going-large (text s) (rows s) (n s) (at s) (going s) (more s) (literal s) (here s _ (c .enum-told2 .given .1)), tt)
+    (going-large (text s) (rows s) (n s) (at s) (going s) (more s) (literal s) (here s _ (c .enum-told4 .given .1)), tt)
 
 -- the end
 
-all : tie.Need-returns-4 Inv-loop μ-loop
+all : tie.Need-returns-6 Inv-loop μ-loop
 all c =
     let loop = c .before .loop in
     (going-end _ (loop .n) (loop .at) (loop .inv .1) (c .loop-test .left), going-cut _ (loop .n) (loop .at) (loop .inv .1))
@@ -164,6 +178,14 @@ tokenize-spec =
     counted
     token-taken
     stored
+    (λ c. search needs)
+    (λ c κs. search needs)
+    (λ c. search needs)
+    octal
+    (λ c. search needs)
+    (λ c κs. search needs)
+    (λ c. search needs)
+    octal-too-large
     (λ c. search needs)
     (λ c. search needs)
     no-token

@@ -1,4 +1,5 @@
 mod Compared
+mod Fixes
 mod Loads
 mod Loans
 mod Prints

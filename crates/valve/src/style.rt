@@ -16,13 +16,14 @@ use paper::Place;
 use paper::Printing;
 use paper::refused;
 use printing::Rung;
+use spelling::bytes;
 
 // Copies the first n bytes of a scratch to the front of the buffer.
-fn lend_first(scratch: &[u8], n: usize, buffer: &mut [u8])
+pub(crate) fn lend_first(scratch: &[u8], n: usize, buffer: &mut [u8])
     requires { ⌜ (n ≤ length (now scratch)) × (n ≤ length (now buffer)) ⌝ }
     ensures { λ _. ⌜ now (buffer .exit) ≡ over (take n (now (scratch .entry))) (now (buffer .entry)) ⌝ }
 {
-    printing::copy(&scratch[..n], 0, buffer)
+    bytes::copy(&scratch[..n], 0, buffer)
 }
 
 fn too_long(buffer: &[u8]) -> Printing

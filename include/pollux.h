@@ -6,18 +6,20 @@
  *   On the switch            pollux_load once for a table, then pollux_run for every entry
  *   On site                  pollux_explain, with text and entry: which part of the restriction, or which key, turned it away
  *   When entries are edited  pollux_summarize: which keys a text names; pollux_recheck: the earlier answer, where it still holds
+ *   For texts on file        pollux_fix_octal: the same text with its octal numerals in hex, which the other calls refuse
  *
  * Inputs
  *   Each input is a pointer and a length in bytes, in that order. It may have any length and any content: whatever does not
  *   conform is refused with a number and a place. No alignment is asked for.
  *   A pointer is never NULL. For an input of length 0 pass any other pointer; no byte there is touched.
- *   The buffer of pollux_translate or pollux_print must not overlap the text or the key list. Inputs that are only read may
- *   overlap.
+ *   The buffer of pollux_translate, pollux_print or pollux_fix_octal must not overlap the text or the key list. Inputs that are only
+ *   read may overlap.
  *
  * What a call touches
- *   A call reads no byte outside the inputs that it is given and writes none but those of the buffer that pollux_translate or
- *   pollux_print is given. It keeps nothing: there are no globals, no heap and no system calls, and the same inputs always have
- *   the same answer. Threads may call at the same time, as long as nobody writes what another one's call has been given.
+ *   A call reads no byte outside the inputs that it is given and writes none but those of the buffer that pollux_translate,
+ *   pollux_print or pollux_fix_octal is given. It keeps nothing: there are no globals, no heap and no system calls, and the same
+ *   inputs always have the same answer. Threads may call at the same time, as long as nobody writes what another one's call has
+ *   been given.
  *
  * What a call needs
  *   Stack: POLLUX_MAX_STACK bytes. This is measured and not proved: tests/c/run makes each call with the deepest texts that the
@@ -74,7 +76,7 @@ enum pollux_says {
     POLLUX_REFUSED = 0,
     POLLUX_ACCEPTED = 1, /* the restriction is true of the entry */
     POLLUX_VIOLATED = 2, /* it is false of the entry */
-    POLLUX_DONE = 3      /* read, passed, translated, loaded or printed */
+    POLLUX_DONE = 3      /* read, passed, translated, loaded, printed or fixed */
 };
 
 /* The input that a refusal lies in. */
@@ -110,7 +112,8 @@ enum pollux_refusal {
                                    left at the end is not one bool */
     POLLUX_ENTRY_LENGTH = 19,   /* at its length */
     POLLUX_ENTRY_RULE = 20,     /* at the priority (0) or at the key's record */
-    POLLUX_PRINT_LONG = 21      /* over 4,096 bytes, or over the buffer; at the buffer's length */
+    POLLUX_PRINT_LONG = 21,     /* over 4,096 bytes, or what is written over the buffer; at the buffer's length */
+    POLLUX_OCTAL = 22           /* a well-formed octal numeral; at its first byte */
 };
 
 /*
@@ -171,6 +174,16 @@ struct pollux_answer pollux_run(const uint8_t *list, size_t list_length,
  */
 struct pollux_answer pollux_print(const uint8_t *text, size_t text_length,
                                   uint8_t *buffer, size_t buffer_length);
+
+/*
+ * Copies a text to the front of the buffer with each octal numeral as "0x" and lower-case hex of the same number, without leading
+ * zeros. All other bytes are as they stood, those of strings and comments included, and the result is never longer than the text: a
+ * buffer of text_length bytes is large enough. It asks for no grammar, and refuses with 1, 5, 6, 7 and 21 alone, of which 6 is for an
+ * octal numeral above 2^128 - 1 too. The result is read exactly where the text was before octal went, as the same tree, places aside.
+ * Done: value is the number of bytes written. Later bytes of the buffer stay as they were; on a refusal every byte does.
+ */
+struct pollux_answer pollux_fix_octal(const uint8_t *text, size_t text_length,
+                                      uint8_t *buffer, size_t buffer_length);
 
 /*
  * What broke for an entry. The first four are what pollux_judge answers; the last four show a piece of the text or of the key list,

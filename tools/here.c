@@ -16,6 +16,7 @@ void raw_pollux_translate(answer *, bytes, size_t, bytes, size_t, uint8_t *, siz
 void raw_pollux_load(answer *, bytes, size_t, bytes, size_t);
 void raw_pollux_run(answer *, bytes, size_t, bytes, size_t, bytes, size_t);
 void raw_pollux_print(answer *, bytes, size_t, uint8_t *, size_t);
+void raw_pollux_fix_octal(answer *, bytes, size_t, uint8_t *, size_t);
 void raw_pollux_explain(struct pollux_reason *, bytes, size_t, bytes, size_t, bytes, size_t);
 void raw_pollux_summarize(struct pollux_summary *, bytes, size_t, bytes, size_t);
 void raw_pollux_recheck(struct pollux_rechecked *, bytes, size_t, bytes, size_t, bytes, size_t, bytes, uint64_t, uint64_t, uint64_t,
@@ -67,6 +68,13 @@ answer pollux_print(bytes text, size_t text_length, uint8_t *buffer, size_t buff
 {
     answer given;
     raw_pollux_print(&given, text, text_length, buffer, buffer_length);
+    return given;
+}
+
+answer pollux_fix_octal(bytes text, size_t text_length, uint8_t *buffer, size_t buffer_length)
+{
+    answer given;
+    raw_pollux_fix_octal(&given, text, text_length, buffer, buffer_length);
     return given;
 }
 

@@ -3,8 +3,8 @@
  * they begin at every alignment; and at the very start of a page, with the one before out of bounds. A call that touches a byte
  * outside its inputs ends this program with a message that names the case.
  *
- *   page_end vary < REQUESTS > VARIED     the request of the incident and those given, each whole, and with one input a byte
- *                                         shorter or a byte longer
+ *   page_end vary < REQUESTS > VARIED     the requests of the incident and of an octal numeral, and those given, each whole,
+ *                                         and with one input a byte shorter or a byte longer
  *   page_end VARIED LINES                 makes the calls and holds their answers to the lines
  *
  * LINES is what `desk answer` says of VARIED. The last line is 'N passed, M failed'; the status is 0 if M is 0.
@@ -94,10 +94,19 @@ static void write_incident(void)
     write_all_varied(&request);
 }
 
+/* An octal numeral that the text ends in, into a buffer that has no byte more than is written. */
+static void write_octal(void)
+{
+    static uint8_t text[] = { 'v', '=', '=', '0', 'o', '0', '1', '7' }, buffer[sizeof text - 2];
+    struct request request = { .call = FIX_OCTAL, .inputs = { { text, sizeof text }, { text, 0 }, { buffer, sizeof buffer }, { text, 0 } } };
+    write_all_varied(&request);
+}
+
 static int vary(void)
 {
     struct request request;
     write_incident();
+    write_octal();
     while (read_request(stdin, &request))
         write_all_varied(&request);
     return fflush(stdout) == 0 ? 0 : 3;
@@ -237,12 +246,12 @@ static bool failed(const char *what)
     return false;
 }
 
-/* Only the blocks or the print that an answer tells of may have changed, and after a refusal nothing. */
+/* Only the blocks, the print or the fixed text that an answer tells of may have changed, and after a refusal nothing. */
 static bool kept_rest(const struct request *request, const struct request *lent, struct told answer)
 {
     if (!writes(request->call))
         return true;
-    size_t written = request->call == PRINT ? answer.value : POLLUX_BLOCKS_SIZE(answer.value);
+    size_t written = request->call == TRANSLATE ? POLLUX_BLOCKS_SIZE(answer.value) : answer.value;
     if (answer.says != POLLUX_DONE)
         written = 0;
     const struct input *before = &request->inputs[2], *after = &lent->inputs[2];

@@ -6,8 +6,8 @@
 
 const char *call_name(unsigned call)
 {
-    static const char *const names[] = { "no call", "read",  "check",   "judge",     "translate", "load",
-                                         "run",     "print", "explain", "summarize", "recheck" };
+    static const char *const names[] = { "no call", "read",    "check",     "judge",   "translate", "load",
+                                         "run",     "print",   "explain",   "summarize", "recheck", "fix_octal" };
     return names[call <= LAST_CALL ? call : 0];
 }
 
@@ -24,13 +24,14 @@ const char *input_name(unsigned call, unsigned input)
         [EXPLAIN] = { "text", "list", "entry", "" },
         [SUMMARIZE] = { "text", "list", "", "" },
         [RECHECK] = { "text", "list", "entry", [OLD_ENTRY] = "old entry" },
+        [FIX_OCTAL] = { "text", "", "buffer", "" },
     };
     return names[call][input];
 }
 
 bool writes(unsigned call)
 {
-    return call == TRANSLATE || call == PRINT;
+    return call == TRANSLATE || call == PRINT || call == FIX_OCTAL;
 }
 
 static void read_exactly(FILE *file, uint8_t *into, size_t length)
@@ -133,7 +134,7 @@ void write_request(FILE *file, const struct request *request)
 
 const struct calls pollux_calls = {
     pollux_read, pollux_check, pollux_judge,   pollux_translate, pollux_load,
-    pollux_run,  pollux_print, pollux_explain, pollux_summarize, pollux_recheck,
+    pollux_run,  pollux_print, pollux_explain, pollux_summarize, pollux_recheck, pollux_fix_octal,
 };
 
 static struct pollux_answer make_plain_call(const struct calls *calls, const struct request *request)
@@ -146,6 +147,7 @@ static struct pollux_answer make_plain_call(const struct calls *calls, const str
     case TRANSLATE: return calls->translate(a->at, a->length, b->at, b->length, c->at, c->length);
     case LOAD: return calls->load(a->at, a->length, b->at, b->length);
     case PRINT: return calls->print(a->at, a->length, c->at, c->length);
+    case FIX_OCTAL: return calls->fix_octal(a->at, a->length, c->at, c->length);
     default: return calls->run(a->at, a->length, b->at, b->length, c->at, c->length);
     }
 }
@@ -280,7 +282,9 @@ static bool fits_named(const struct request *request, struct told answer)
 static void add_answer(char line[LINE_SIZE], unsigned call, struct told answer)
 {
     static const char *const inputs[] = { "", "text", "list", "entry", "blocks", "buffer" };
-    static const char *const counted[] = { [READ] = "read", [TRANSLATE] = "translated", [LOAD] = "loaded", [PRINT] = "printed" };
+    static const char *const counted[] = {
+        [READ] = "read", [TRANSLATE] = "translated", [LOAD] = "loaded", [PRINT] = "printed", [FIX_OCTAL] = "fixed"
+    };
     if (answer.says == POLLUX_REFUSED)
         ADD(line, "refused %" PRIu64 " %s %" PRIu64, answer.number, inputs[answer.input], answer.value);
     else if (call == SUMMARIZE)

@@ -4,8 +4,8 @@
  * A request is a byte for the call and three inputs, each a length of 4 bytes, big-endian, and its bytes; a call that has fewer
  * inputs finds the rest empty. The third input of a recheck is made of a byte for the earlier answer, the old entry's length in 4
  * bytes, the old entry and the new one, which are two inputs here. The line of a verdict by blocks ends in the steps of the run, that of a
- * translation or a print in the Adler-32 sum of the buffer as it stands after the call, and that of an explanation in the sum of the
- * piece that is shown.
+ * translation, a print or a fixed text in the Adler-32 sum of the buffer as it stands after the call, and that of an explanation in the
+ * sum of the piece that is shown.
  */
 #ifndef REQUESTS_H
 #define REQUESTS_H
@@ -15,7 +15,7 @@
 
 #include "pollux.h"
 
-enum { READ = 1, CHECK, JUDGE, TRANSLATE, LOAD, RUN, PRINT, EXPLAIN, SUMMARIZE, RECHECK, LAST_CALL = RECHECK };
+enum { READ = 1, CHECK, JUDGE, TRANSLATE, LOAD, RUN, PRINT, EXPLAIN, SUMMARIZE, RECHECK, FIX_OCTAL, LAST_CALL = FIX_OCTAL };
 enum { INPUTS = 4, OLD_ENTRY = 3, LONGEST_INPUT = 65536, LINE_SIZE = 300 };
 
 struct input {
@@ -43,7 +43,7 @@ bool writes(unsigned call);
 bool read_request(FILE *file, struct request *request);
 void write_request(FILE *file, const struct request *request);
 
-/* Someone's version of the calls. */
+/* Someone's version of the calls; who has no fix_octal is not asked for it. */
 struct calls {
     struct pollux_answer (*read)(const uint8_t *, size_t);
     struct pollux_answer (*check)(const uint8_t *, size_t, const uint8_t *, size_t);
@@ -56,6 +56,7 @@ struct calls {
     struct pollux_summary (*summarize)(const uint8_t *, size_t, const uint8_t *, size_t);
     struct pollux_rechecked (*recheck)(const uint8_t *, size_t, const uint8_t *, size_t, const uint8_t *, size_t, struct pollux_answer,
                                        const uint8_t *, size_t);
+    struct pollux_answer (*fix_octal)(const uint8_t *, size_t, uint8_t *, size_t);
 };
 
 extern const struct calls pollux_calls;

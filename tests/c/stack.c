@@ -110,6 +110,17 @@ static void measure_text(uint8_t *text, size_t length)
     measure_blocks(&request);
     request.call = PRINT;
     measure(&request);
+    request.call = FIX_OCTAL;
+    measure(&request);
+}
+
+/* As many octal numerals as a text may have, in a text that is as long as one may be. */
+static void measure_octal(uint8_t text[POLLUX_MAX_TEXT])
+{
+    struct request request = { .call = FIX_OCTAL, .inputs[1] = { entry, 0 }, .inputs[2] = { buffer, sizeof buffer } };
+    request.inputs[0] = (struct input){ text, repeat(text, "0o7;", POLLUX_MAX_TOKENS / 2) };
+    request.inputs[0].length += repeat(text + request.inputs[0].length, " ", POLLUX_MAX_TEXT - request.inputs[0].length);
+    measure(&request);
 }
 
 static void measure_deepest(void)
@@ -128,6 +139,7 @@ static void measure_deepest(void)
         end += repeat(text + end, ")", i == 0 ? POLLUX_MAX_LEVELS : 0);
         measure_text(text, end);
     }
+    measure_octal(text);
 }
 
 int main(void)

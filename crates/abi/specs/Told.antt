@@ -1,4 +1,4 @@
--- An answer of the paper as four numbers: what it says (0 refused, 1 accepted, 2 violated, 3 passed, read, written, loaded or printed), the
+-- An answer of the paper as four numbers: what it says (0 refused, 1 accepted, 2 violated, 3 passed, read, written, loaded, printed or fixed), the
 -- refusal's number or 0, its input (0 none, 1 text, 2 list, 3 entry, 4 blocks, 5 buffer), and the offset, or the count, or the steps, or 0.
 --
 -- A reason as eight: the four of the judgement, and the number of the part that is shown, or 0; the place of its root in the text, or of the
@@ -20,7 +20,8 @@ use Rattle.paper.specs.ExplainedRight.{judgementOf}
 use Rattle.paper.specs.Named.{Summary, summarizingSays}
 use Rattle.paper.specs.Rechecking.{Rechecked, reused, recheckingSays}
 use Rattle.paper.specs.Rechecking as Rechecking
-use Rattle.paper.specs.Promised.{ReadPromised, CheckPromised, JudgePromised, TranslateResult, TranslatePromised, LoadPromised, RunPromised, PrintPromised, ExplainPromised, SummarizePromised, RecheckPromised, Sole}
+use Rattle.paper.specs.Fixing.{fixingSays}
+use Rattle.paper.specs.Promised.{ReadPromised, CheckPromised, JudgePromised, TranslateResult, TranslatePromised, LoadPromised, RunPromised, PrintPromised, FixPromised, ExplainPromised, SummarizePromised, RecheckPromised, Sole}
 use Rattle.paper.specs.declared.Judgement.{Judgement}
 use Rattle.paper.specs.declared.Judgement.the-variants as J
 use Rattle.paper.specs.declared.Explanation.{Explanation}
@@ -142,6 +143,10 @@ RunTold list blocks entry = Tells (RunPromised list blocks entry) (λ r. ran (ru
 abbrev pub PrintTold : List ℕ → List ℕ → List ℕ → PolluxAnswer → Type 0
 PrintTold text buffer exit = Tells (λ r. PrintPromised text buffer (record { answer = r; buffer = exit })) (λ r. counted (printingSays r))
 
+-- with what the buffer holds at exit
+abbrev pub FixTold : List ℕ → List ℕ → List ℕ → PolluxAnswer → Type 0
+FixTold text buffer exit = Tells (λ r. FixPromised text buffer (record { answer = r; buffer = exit })) (λ r. counted (fixingSays r))
+
 abbrev pub ExplainTold : List ℕ → List ℕ → List ℕ → PolluxReason → Type 0
 ExplainTold text list entry = Tells (ExplainPromised text list entry) (λ r. reasoned (explanationSays r))
 
@@ -152,7 +157,7 @@ SummarizeTold text list = Tells (SummarizePromised text list) (λ r. summarized 
 abbrev pub RecheckTold : List ℕ → List ℕ → List ℕ → PolluxAnswer → List ℕ → PolluxRechecked → Type 0
 RecheckTold text list old earlier new = Tells (RecheckPromised text list old (heardAs earlier) new) (λ r. rechecked (recheckingSays r))
 
--- so for all inputs C is told one thing, and no second; of `translate` and `print`, one answer with one buffer at exit
+-- so for all inputs C is told one thing, and no second; of `translate`, `print` and `fix_octal`, one answer with one buffer at exit
 pub record OneAnswerForC : Type 0 where
   pub read : (text : List ℕ) → Sole (ReadTold text)
   pub check : (text list : List ℕ) → Sole (CheckTold text list)
@@ -162,6 +167,8 @@ pub record OneAnswerForC : Type 0 where
   pub load : (list blocks : List ℕ) → Sole (LoadTold list blocks)
   pub run : (list blocks entry : List ℕ) → Sole (RunTold list blocks entry)
   pub print : (text buffer exit other : List ℕ) (a b : PolluxAnswer) → PrintTold text buffer exit a → PrintTold text buffer other b
+      → (a ≡ b) × (exit ≡ other)
+  pub fix : (text buffer exit other : List ℕ) (a b : PolluxAnswer) → FixTold text buffer exit a → FixTold text buffer other b
       → (a ≡ b) × (exit ≡ other)
   pub explain : (text list entry : List ℕ) → Sole (ExplainTold text list entry)
   pub summarize : (text list : List ℕ) → Sole (SummarizeTold text list)

@@ -1,8 +1,10 @@
 // An answer as four numbers.
 ghost use mathlib.Core.Path.{_≡_};
 ghost use Rattle.paper.specs.Answers.{inputOf, offsetOf, readingSays, checkingSays, judgementSays, translationSays, loadingSays, runningSays, printingSays};
+ghost use Rattle.paper.specs.Fixing.{fixingSays};
 ghost use Rattle.abi.specs.Told.{turnedAway, counted, passed, judged, ran};
 use paper::Checking;
+use paper::Fixing;
 use paper::Judgement;
 use paper::Loading;
 use paper::Place;
@@ -115,5 +117,14 @@ pub(crate) fn of_printing(r: Printing) -> PolluxAnswer
     match r {
         Printing::Printed(n) => answer(3, n),
         Printing::Refused(number, place) => refusal(number, place),
+    }
+}
+
+pub(crate) fn of_fixing(r: Fixing) -> PolluxAnswer
+    ensures { λ a. ⌜ a ≡ counted (fixingSays r) ⌝ }
+{
+    match r {
+        Fixing::Fixed(n) => answer(3, n),
+        Fixing::Refused(number, place) => refusal(number, place),
     }
 }

@@ -1,7 +1,8 @@
 // The calls for C: include/pollux.h says the same in its words.
 //
-// Each takes every input as a pointer and a length, and answers four numbers by value, `explain` eight, `summarize` seven and `recheck` five, which stand for a result that keeps the
-// promise of the call of `valve` below it (specs/Told); `translate` and `print` also promise what each byte of the buffer holds afterwards.
+// Each takes every input as a pointer and a length, and answers four numbers by value, `explain` eight, `summarize` seven and `recheck` five,
+// which stand for a result that keeps the promise of the call of `valve` below it (specs/Told); `translate`, `print` and `fix_octal` also
+// promise what each byte of the buffer holds afterwards.
 mod answer;
 mod heard;
 mod reason;
@@ -9,7 +10,7 @@ mod recheck;
 mod summary;
 mod told;
 
-ghost use Rattle.abi.specs.Told.{ReadTold, CheckTold, JudgeTold, TranslateTold, LoadTold, RunTold, PrintTold, ExplainTold, SummarizeTold, RecheckTold};
+ghost use Rattle.abi.specs.Told.{ReadTold, CheckTold, JudgeTold, TranslateTold, LoadTold, RunTold, PrintTold, FixTold, ExplainTold, SummarizeTold, RecheckTold};
 use crate::answer::PolluxAnswer;
 use crate::reason::PolluxReason;
 use crate::recheck::PolluxRechecked;
@@ -69,6 +70,14 @@ pub extern "C" fn pollux_print(text: &[u8], buffer: &mut [u8]) -> PolluxAnswer
     ensures { λ r. ⌜ PrintTold (now (text .entry)) (now (buffer .entry)) (now (buffer .exit)) r ⌝ }
 {
     answer::of_printing(valve::print(text, buffer))
+}
+
+// How many bytes the text has with its octal numerals in hex, which stands so in the buffer.
+#[no_mangle]
+pub extern "C" fn pollux_fix_octal(text: &[u8], buffer: &mut [u8]) -> PolluxAnswer
+    ensures { λ r. ⌜ FixTold (now (text .entry)) (now (buffer .entry)) (now (buffer .exit)) r ⌝ }
+{
+    answer::of_fixing(valve::fix_octal(text, buffer))
 }
 
 // What broke: the part that is false or the key whose record is bad, where it stands in the text or the list, and the judgement. A caller makes

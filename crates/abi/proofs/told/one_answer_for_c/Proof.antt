@@ -6,7 +6,8 @@ use Rattle.paper.specs.Answers.{readingSays, checkingSays, judgementSays, trans
 use Rattle.paper.specs.Explained.{explanationSays}
 use Rattle.paper.specs.Named.{summarizingSays}
 use Rattle.paper.specs.Rechecking.{recheckingSays}
-use Rattle.paper.specs.Promised.{TranslateResult, TranslatePromised, PrintResult, PrintPromised, Sole}
+use Rattle.paper.specs.Fixing.{fixingSays}
+use Rattle.paper.specs.Promised.{TranslateResult, TranslatePromised, PrintResult, PrintPromised, FixResult, FixPromised, Sole}
 use Rattle.paper.proofs.Promised.{no-second-result}
 use Rattle.abi.specs.declared.answer.PolluxAnswer.{PolluxAnswer}
 use Rattle.abi.specs.Heard.{heardAs}
@@ -50,6 +51,9 @@ one-answer =
       print = λ text buffer.
           told-with-buffer (λ r s. record { answer = r; buffer = s }) (λ (r : PrintResult). r .answer) (λ (r : PrintResult). r .buffer) (λ r s. refl) (λ r s. refl)
           (PrintPromised text buffer) (λ r. counted (printingSays r)) (one .print text buffer);
+      fix = λ text buffer.
+          told-with-buffer (λ r s. record { answer = r; buffer = s }) (λ (r : FixResult). r .answer) (λ (r : FixResult). r .buffer) (λ r s. refl) (λ r s. refl)
+          (FixPromised text buffer) (λ r. counted (fixingSays r)) (one .fix text buffer);
       explain = λ text list entry. told-once _ (λ r. reasoned (explanationSays r)) (one .explain text list entry);
       summarize = λ text list. told-once _ (λ r. summarized (summarizingSays r)) (one .summarize text list);
       recheck = λ text list old earlier new. told-once _ (λ r. rechecked (recheckingSays r)) (one .recheck text list old (heardAs earlier) new);

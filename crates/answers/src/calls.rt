@@ -1,6 +1,7 @@
 // A call by its number, and its answer as a line.
 ghost use mathlib.Core.Path.{_≡_};
 ghost use Rattle.paper.specs.Calls.{translateBuffer, printBuffer};
+ghost use Rattle.paper.specs.Fixing.{fixBuffer};
 ghost use Rattle.answers.specs.Calls.{afterCall, written};
 use crate::adler;
 use crate::changes;
@@ -28,6 +29,8 @@ const EXPLAIN: u8 = 8;
 const SUMMARIZE: u8 = 9;
 
 const RECHECK: u8 = 10;
+
+const FIX_OCTAL: u8 = 11;
 
 // The sum of some bytes, after what a call answered.
 fn say_sum(bytes: &[u8]) {
@@ -71,7 +74,7 @@ fn reading_call(call: u8, first: &[u8], second: &[u8], third: &[u8]) {
     }
 }
 
-// A translation or a print, with the sum of the whole buffer as it stands after it.
+// A translation, a print or a pass over a text on file, with the sum of the whole buffer as it stands after it.
 fn translate(text: &[u8], list: &[u8], buffer: &mut [u8])
     ensures { λ _. ⌜ now (buffer .exit) ≡ translateBuffer (now (text .entry)) (now (list .entry)) (now (buffer .entry)) ⌝ }
 {
@@ -86,6 +89,13 @@ fn print(text: &[u8], buffer: &mut [u8])
     say_sum(buffer)
 }
 
+fn fix_octal(text: &[u8], buffer: &mut [u8])
+    ensures { λ _. ⌜ now (buffer .exit) ≡ fixBuffer (now (text .entry)) (now (buffer .entry)) ⌝ }
+{
+    lines::say_fixing(valve::fix_octal(text, buffer));
+    say_sum(buffer)
+}
+
 // A call that writes into the buffer.
 fn writing_call(call: u8, first: &[u8], second: &[u8], buffer: &mut [u8])
     ensures { λ _. ⌜ now (buffer .exit) ≡ written call (now (first .entry)) (now (second .entry)) (now (buffer .entry)) ⌝ }
@@ -93,6 +103,7 @@ fn writing_call(call: u8, first: &[u8], second: &[u8], buffer: &mut [u8])
     match call {
         TRANSLATE => translate(first, second, buffer),
         PRINT => print(first, buffer),
+        FIX_OCTAL => fix_octal(first, buffer),
         _ => reading_call(call, first, second, buffer),
     }
 }

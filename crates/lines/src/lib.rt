@@ -1,5 +1,5 @@
 // What the calls answer, in the words of a line on standard output: `read N`, `passed`, `accepted`, `violated`, `translated N`,
-// `loaded N`, `printed N`, or `refused NUMBER INPUT OFFSET` with INPUT one of text, list, entry, blocks, buffer. A run tells
+// `loaded N`, `printed N`, `fixed N`, or `refused NUMBER INPUT OFFSET` with INPUT one of text, list, entry, blocks, buffer. A run tells
 // its steps too, `accepted STEPS` or `violated STEPS`. What broke for an entry is `part NUMBER at OFFSET START LENGTH`,
 // `key at OFFSET START LENGTH`, or `nothing ` and what was judged. What a text names is `summary BITS MARK`, and a recheck `reused ` or
 // `judged ` and what was judged. The programs share these words.
@@ -12,6 +12,7 @@ ghost use lib.ListN.{take};
 use libc::STDOUT_FILENO;
 use paper::Checking;
 use paper::Explanation;
+use paper::Fixing;
 use paper::Judgement;
 use paper::Loading;
 use paper::Place;
@@ -104,6 +105,14 @@ pub fn say_printing(printing: Printing) {
     match printing {
         Printing::Printed(n) => say_count(b"printed ", n),
         Printing::Refused(number, place) => say_refused(number, place),
+    }
+}
+
+// Writes what `fix_octal` answered.
+pub fn say_fixing(fixing: Fixing) {
+    match fixing {
+        Fixing::Fixed(n) => say_count(b"fixed ", n),
+        Fixing::Refused(number, place) => say_refused(number, place),
     }
 }
 

@@ -3,6 +3,7 @@ use crate::entries::Way;
 use crate::entries::judge_file;
 use crate::files::read_argument;
 use crate::named::say_summary;
+use crate::octal;
 use crate::rechecks::recheck_files;
 use crate::refusals::refused;
 use crate::say::say_argument;
@@ -13,6 +14,7 @@ use blocks::Block;
 use lines::say;
 use lines::start;
 use paper::Checking;
+use paper::Fixing;
 use paper::Loading;
 use paper::Printing;
 use paper::Summarizing;
@@ -165,5 +167,37 @@ pub(crate) fn print() {
     let file = read_argument(FIRST, &mut room);
     if file.read {
         print_text(start(&room, file.held), file.size)
+    }
+}
+
+// What the pass made of a text, into the file that argument 3 names.
+fn fixed(text: &[u8], made: &[u8]) {
+    if write_argument(SECOND, made) {
+        say_count(
+            b"fixed # numeral: ",
+            b"fixed # numerals: ",
+            octal::count_changes(text, made),
+        );
+        say_argument(SECOND);
+        say(b"\n");
+        octal::say_changes(text, made)
+    }
+}
+
+// What the pass makes is never longer than a text, so there is always room.
+fn fix_text(text: &[u8], size: usize) {
+    let mut buffer = [0u8; 4096];
+    match valve::fix_octal(text, &mut buffer) {
+        Fixing::Fixed(n) => fixed(text, start(&buffer, n)),
+        Fixing::Refused(number, place) => refused(number, place, text, b"", size, 0),
+    }
+}
+
+// Reads TEXT, and writes it to OUT with its octal numerals in hex; OUT may be TEXT itself.
+pub(crate) fn fix_octal() {
+    let mut room = [0u8; 4097];
+    let file = read_argument(FIRST, &mut room);
+    if file.read {
+        fix_text(start(&room, file.held), file.size)
     }
 }

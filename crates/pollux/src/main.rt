@@ -1,8 +1,8 @@
-// Polluxvalve for people: checks, prints, sums up, translates, loads, judges, explains, rechecks and runs what stands in files, and tells
-// the answer in words.
+// Polluxvalve for people: checks, prints, rids of octal, sums up, translates, loads, judges, explains, rechecks and runs what stands in
+// files, and tells the answer in words.
 //
-// Each answer is a line on standard output whose first word is passed, translated, loaded, printed, named, accepted, violated, refused,
-// cannot or usage; the script `pollux` at the root makes an exit status of it. A refusal of a text is followed by the line and a caret under
+// Each answer is a line on standard output whose first word is passed, translated, loaded, printed, fixed, named, accepted, violated,
+// refused, cannot or usage; the script `pollux` at the root makes an exit status of it. A refusal of a text is followed by the line and a caret under
 // the place, what broke for an entry by the line and carets under the part, or by the key's name. A run tells how many steps each entry took.
 // Files may have any length: a place that is a length is the file's true length, and entries stream through one buffer. No output file is
 // touched unless the whole call passes, and it is written whole or not at all.
@@ -12,6 +12,7 @@ mod caret;
 mod entries;
 mod files;
 mod named;
+mod octal;
 mod ran;
 mod reasons;
 mod rechecks;
@@ -23,6 +24,7 @@ mod writing;
 
 use calls::Call;
 use calls::answer;
+use calls::fix_octal;
 use calls::print;
 use spelling::bytes::same_bytes;
 
@@ -30,6 +32,7 @@ fn usage() {
     lines::say(
         b"usage: pollux check TEXT KEYS
        pollux print TEXT
+       pollux fix-octal TEXT OUT
        pollux translate TEXT KEYS OUT
        pollux load KEYS BLOCKS
        pollux judge TEXT KEYS ENTRIES
@@ -56,6 +59,8 @@ fn with_two(call: &[u8]) {
         answer(Call::Check)
     } else if same_bytes(call, b"summary") {
         answer(Call::Summary)
+    } else if same_bytes(call, b"fix-octal") {
+        fix_octal()
     } else if same_bytes(call, b"load") {
         answer(Call::Load)
     } else {

@@ -1,4 +1,4 @@
--- Calls 4 and 7 leave in the buffer what is promised of them, and any other call leaves it as it was.
+-- Calls 4, 7 and 11 leave in the buffer what is promised of them, and any other call leaves it as it was.
 use borrow.Author.Needs.{needs}
 use borrow.Author.Tests.{eq-eqb, ne-eqb}
 use Rattle.answers.proofs.calls.writing_call.Statement.{statement}
@@ -12,11 +12,14 @@ translated c =
 printed : tie.Need-returns-2
 printed c = rw (c .before .before .before .before .match .keys2) (c .before .before .print .ensures)
 
-as-it-was : tie.Need-returns-3
+fixed : tie.Need-returns-3
+fixed c = rw (c .before .before .before .before .match .keys3) (c .before .before .fix-octal .ensures)
+
+as-it-was : tie.Need-returns-4
 as-it-was c =
     let call = c .before .before .before .before .before .before .args .call in
     let other = c .before .before .match .rest in
-    rw (ne-eqb call 4 (other .0 .1), ne-eqb call 7 (other .1))
+    rw (ne-eqb call 4 (other .0 .0 .1), ne-eqb call 7 (other .0 .1), ne-eqb call 11 (other .1))
 
 pub writing-call-spec : {M : Type 1} → statement M
 writing-call-spec =
@@ -25,9 +28,12 @@ writing-call-spec =
     (λ c κs. search needs)
     (λ c κs. search needs)
     (λ c κs. search needs)
+    (λ c κs. search needs)
     (λ c. search needs)
     translated
     (λ c. search needs)
     printed
+    (λ c. search needs)
+    fixed
     (λ c. search needs)
     as-it-was)

@@ -5,6 +5,7 @@ use crate::names::CODE;
 use crate::names::EARLIER;
 use crate::names::ENTRY;
 use crate::names::EXPLAIN;
+use crate::names::FIX_OCTAL;
 use crate::names::JUDGE;
 use crate::names::LIST;
 use crate::names::LOAD;
@@ -19,6 +20,7 @@ use crate::scan::not_understood;
 use crate::scan::part;
 use blocks::Block;
 use paper::Explanation;
+use paper::Fixing;
 use paper::Judgement;
 use paper::Place;
 use paper::Printing;
@@ -45,7 +47,7 @@ fn say_translation(call: usize, translation: Translation) {
     }
 }
 
-// The longest print, or piece of an input, that is shown.
+// The longest print, fixed text, or piece of an input, that is shown.
 const SHOWN: usize = 100;
 
 fn show(bytes: &[u8]) {
@@ -58,6 +60,13 @@ fn show(bytes: &[u8]) {
 fn say_print(printing: Printing, room: &[u8]) {
     lines::say_printing(printing);
     if let Printing::Printed(n) = printing {
+        show(lines::start(room, n))
+    }
+}
+
+fn say_fixing(fixing: Fixing, room: &[u8]) {
+    lines::say_fixing(fixing);
+    if let Fixing::Fixed(n) = fixing {
         show(lines::start(room, n))
     }
 }
@@ -108,6 +117,7 @@ fn write(call: usize, text: &[u8], list: &[u8], room: &mut [u8]) {
     match call {
         CODE => write_code(text, room),
         PRINT => say_print(valve::print(text, room), room),
+        FIX_OCTAL => say_fixing(valve::fix_octal(text, room), room),
         _ => say_translation(call, valve::translate(text, list, room)),
     }
 }
@@ -138,7 +148,7 @@ pub(crate) fn make(call: usize, file: &[u8], at: usize, room: &mut [u8]) {
     let e = put_input(file, at, ENTRY, &mut all, l);
     let text = part(&all, 0, t);
     let list = part(&all, t, l);
-    if call <= PRINT {
+    if call <= FIX_OCTAL {
         return write(call, text, list, room);
     }
     let entry = part(&all, l, e);

@@ -1,4 +1,4 @@
-// The commands, by the places of their names in a list: the first six give what calls are lent, and the last ten print an answer.
+// The commands, by the places of their names in a list: the first six give what calls are lent, and the last eleven print an answer.
 ghost use Prim.Native.Nat.{_≤_};
 ghost use mathlib.Core.Path.{_≡_};
 ghost use lib.ListN.{length};
@@ -33,21 +33,23 @@ pub const TRANSLATE: usize = 11;
 
 pub const PRINT: usize = 12;
 
-pub const READ: usize = 13;
+pub const FIX_OCTAL: usize = 13;
 
-pub const CHECK: usize = 14;
+pub const READ: usize = 14;
 
-pub const JUDGE: usize = 15;
+pub const CHECK: usize = 15;
 
-pub const EXPLAIN: usize = 16;
+pub const JUDGE: usize = 16;
 
-pub const SUMMARIZE: usize = 17;
+pub const EXPLAIN: usize = 17;
 
-pub const RECHECK: usize = 18;
+pub const SUMMARIZE: usize = 18;
 
-pub const LOAD: usize = 19;
+pub const RECHECK: usize = 19;
 
-pub const RUN: usize = 20;
+pub const LOAD: usize = 20;
+
+pub const RUN: usize = 21;
 
 // Which of some words a word is, counted from 0; their count for none of them.
 fn place_in(words: &[u8], word: &[u8]) -> usize
@@ -72,7 +74,7 @@ pub(crate) fn command_at(file: &[u8], at: usize) -> usize
     ensures { λ r. ⌜ r ≡ commandAt (now (file .entry)) at ⌝ }
 {
     place_in(
-        b"text list entry old earlier room title change show code blocks translate print read check judge explain summarize recheck load run",
+        b"text list entry old earlier room title change show code blocks translate print fix_octal read check judge explain summarize recheck load run",
         part(file, at, scan(file, at, b':')),
     )
 }

@@ -1,10 +1,12 @@
 // The promises of the public calls, held to account.
 ghost use Rattle.paper.specs.Promised.{NoSecondResult, CanBeKept};
 ghost use Rattle.paper.specs.WrongPrints.{WrongPrintsFail};
+ghost use Rattle.paper.specs.WrongFixers.{WrongFixersFail};
 ghost use Rattle.paper.specs.WrongRunners.{WrongRunnersFail};
 ghost use Rattle.paper.specs.WrongPrograms.{WrongProgramsExist, WrongProgramsFail, NoWrongProgram, PaddingSeen};
 
-// For all inputs one result keeps the promise of a call, and no second; of `translate` and `print`, one answer with one buffer at exit.
+// For all inputs one result keeps the promise of a call, and no second; of `translate`, `print` and `fix_octal`, one answer with one buffer at
+// exit.
 pub fn no_second_result()
     ensures { λ _. ⌜ NoSecondResult ⌝ }
 {}
@@ -24,7 +26,8 @@ pub fn wrong_programs_exist()
 // writes "&&" for ";", every numeral in decimal or addresses in hex, an explainer that names the last false part, follows the tree's left spine
 // or shows a key for a bad priority, a recheck that never reuses, always does, asks for equal entries, forgets the priority or compares readings,
 // a summary that counts ::priority or misses the key of a field, a run that reports the code's instructions as its steps or whose skips leave the
-// old bool, a load check that compares the heights of landings: each fails a demand, or refusal 18.
+// old bool, a load check that compares the heights of landings, a pass over octal that changes strings or comments, keeps leading zeros or drops
+// the letters of the prefix: each fails a demand, or refusal 18.
 pub fn wrong_programs_fail()
     ensures { λ _. ⌜ WrongProgramsFail ⌝ }
 {}
@@ -43,6 +46,12 @@ pub fn padding_is_seen()
 // writes every numeral in decimal, one that writes addresses in hex: each fails what is asked of a print.
 pub fn wrong_printers_fail()
     ensures { λ _. ⌜ WrongPrintsFail ⌝ }
+{}
+
+// A pass over octal that changes numerals in strings, one that changes them in comments, one that keeps leading zeros, one that turns `0o10` into
+// `10`: each fails what is asked of it.
+pub fn wrong_fixers_fail()
+    ensures { λ _. ⌜ WrongFixersFail ⌝ }
 {}
 
 // A run that reports the code's instructions as its steps, one whose skips leave the old bool, a load check that compares the heights of landings:

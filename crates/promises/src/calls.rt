@@ -1,10 +1,11 @@
 // The real calls, held to the demands. Each function calls `valve`, and its contract states for its own inputs what is demanded of what was
 // answered, in the words of `paper` (specs/Demands). It holds by the contracts of `valve` alone, so one that is weakened fails here.
-ghost use Rattle.paper.specs.Demands.{ReadAnswered, ReadRight, CheckAnswered, CheckedRight, JudgeAnswered, JudgedRight, TranslateAnswered, TranslatedRight, LoadAnswered, RunAnswered, RanRight, PrintAnswered, PrintedRight, ExplainAnswered, ExplainRight, SummarizeAnswered, SummarizeRight, RecheckAnswered, RecheckRight};
-ghost use Rattle.promises.specs.Held.{gave, lent, Carries};
+ghost use Rattle.paper.specs.Demands.{ReadAnswered, ReadRight, CheckAnswered, CheckedRight, JudgeAnswered, JudgedRight, TranslateAnswered, TranslatedRight, LoadAnswered, RunAnswered, RanRight, PrintAnswered, PrintedRight, FixAnswered, FixesRight, ExplainAnswered, ExplainRight, SummarizeAnswered, SummarizeRight, RecheckAnswered, RecheckRight};
+ghost use Rattle.promises.specs.Held.{gave, lent, fixedTo, Carries};
 use blocks::Block;
 use paper::Checking;
 use paper::Explanation;
+use paper::Fixing;
 use paper::Judgement;
 use paper::Loading;
 use paper::Place;
@@ -68,6 +69,14 @@ pub fn print(text: &[u8], buffer: &mut [u8]) -> Printing
     ensures { λ r. ⌜ PrintedRight (now (text .entry)) (now (buffer .entry)) (lent r (now (buffer .exit))) ⌝ }
 {
     valve::print(text, buffer)
+}
+
+// Demands 1 and 2 of `fix_octal`.
+pub fn fix_octal(text: &[u8], buffer: &mut [u8]) -> Fixing
+    ensures { λ r. ⌜ FixAnswered (now (text .entry)) (now (buffer .entry)) (fixedTo r (now (buffer .exit))) ⌝ }
+    ensures { λ r. ⌜ FixesRight (now (text .entry)) (now (buffer .entry)) (fixedTo r (now (buffer .exit))) ⌝ }
+{
+    valve::fix_octal(text, buffer)
 }
 
 // Demands 1 and 2 of the numbers of an explanation. What is demanded of its pieces stands in `pieces`.

@@ -6,6 +6,7 @@ mod calls;
 mod damage;
 mod demands;
 mod numbers;
+mod octal;
 mod parts;
 mod pieces;
 mod printing;

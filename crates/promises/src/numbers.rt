@@ -8,7 +8,7 @@ pub fn refusals_by_the_table()
     ensures { λ _. ⌜ TableHolds ⌝ }
 {}
 
-// A text passes 5, 6 and 7 exactly when it is cut into blanks and at most 1,024 tokens, each the longest possible from the left.
+// A text passes 5, 6, 7 and 22 exactly when it is cut into blanks and at most 1,024 tokens, each the longest possible from the left.
 pub fn texts_are_cut_into_tokens()
     ensures { λ _. ⌜ TokensAreCut ⌝ }
 {}

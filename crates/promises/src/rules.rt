@@ -17,6 +17,7 @@ ghost use Rattle.paper.specs.InstructionExamples.{InstructionExamples};
 ghost use Rattle.paper.specs.TranslationExamples.{TranslationExamples};
 ghost use Rattle.paper.specs.SkipExamples.{SkipExamples};
 ghost use Rattle.paper.specs.PrintExamples.{PrintExamples};
+ghost use Rattle.paper.specs.FixExamples.{FixExamples};
 ghost use Rattle.paper.specs.PartExamples.{PartExamples};
 ghost use Rattle.paper.specs.SummaryExamples.{SummaryExamples};
 ghost use Rattle.paper.specs.AnswerExamples.{AnswerExamples};
@@ -125,6 +126,11 @@ pub fn examples_of_skips()
 // Texts with their prints, every operator on each side of every other, numerals in each base, and what is lent.
 pub fn examples_of_prints()
     ensures { λ _. ⌜ PrintExamples ⌝ }
+{}
+
+// Texts with what the pass over octal makes of them, what it refuses by the old rules, and what is lent.
+pub fn examples_of_fixes()
+    ensures { λ _. ⌜ FixExamples ⌝ }
 {}
 
 // Texts with their parts, both sides of each limit, and what is shown of an entry: a part, a key, or nothing.

@@ -1,13 +1,13 @@
 //! Requests and answer lines of the program `answers`.
 //!
 //! A request is one byte for the call (1 read, 2 check, 3 judge, 4 translate,
-//! 5 load, 6 run, 7 print, 8 explain, 9 summarize, 10 recheck) and three inputs,
-//! each a 4-byte big-endian length and its bytes. Each request gets one line. The
-//! line of a run ends in the steps that it took. For a call that is lent a buffer,
-//! the third input is what the buffer holds before, and the line ends in the sum of
-//! what it holds after. The line of an explanation ends in the sum of the piece that
-//! it shows. The third input of a recheck is a change, the earlier answer with both
-//! entries; one that is too short for that is `malformed`.
+//! 5 load, 6 run, 7 print, 8 explain, 9 summarize, 10 recheck, 11 fix_octal) and
+//! three inputs, each a 4-byte big-endian length and its bytes. Each request gets one
+//! line. The line of a run ends in the steps that it took. For a call that is lent a
+//! buffer, the third input is what the buffer holds before, and the line ends in the
+//! sum of what it holds after. The line of an explanation ends in the sum of the piece
+//! that it shows. The third input of a recheck is a change, the earlier answer with
+//! both entries; one that is too short for that is `malformed`.
 
 use std::io::{self, Read, Write};
 
@@ -29,6 +29,7 @@ pub enum Call {
     Explain,
     Summarize,
     Recheck,
+    FixOctal,
 }
 
 /// What an input is to a call.
@@ -40,7 +41,7 @@ pub enum Lent {
 }
 
 impl Call {
-    pub const ALL: [Call; 10] = [
+    pub const ALL: [Call; 11] = [
         Call::Read,
         Call::Check,
         Call::Judge,
@@ -51,6 +52,7 @@ impl Call {
         Call::Explain,
         Call::Summarize,
         Call::Recheck,
+        Call::FixOctal,
     ];
 
     pub fn from_byte(byte: u8) -> Option<Call> {
@@ -73,6 +75,7 @@ impl Call {
             Call::Explain => "explain",
             Call::Summarize => "summarize",
             Call::Recheck => "recheck",
+            Call::FixOctal => "fix_octal",
         }
     }
 
@@ -87,7 +90,7 @@ impl Call {
             Call::Translate => [one(Text), one(List), one(Buffer)],
             Call::Load => [one(List), one(Blocks), None],
             Call::Run => [one(List), one(Blocks), one(Entry)],
-            Call::Print => [one(Text), None, one(Buffer)],
+            Call::Print | Call::FixOctal => [one(Text), None, one(Buffer)],
             Call::Recheck => [one(Text), one(List), Some(Lent::Change)],
         }
     }
@@ -148,6 +151,7 @@ impl Request {
             Call::Explain => return explanation_line(reference::explain(first, second, third)),
             Call::Summarize => reference::summarize(first, second),
             Call::Recheck => return recheck_line(first, second, third),
+            Call::FixOctal => reference::fix_octal(first, &mut buffer),
         };
         if self.input(Input::Buffer).is_some() {
             format!("{answer} {}", adler32(&buffer))

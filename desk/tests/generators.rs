@@ -60,8 +60,8 @@ fn every_compared_call_occurs_and_no_other() {
 
 #[test]
 fn every_refusal_occurs_often() {
-    let counts = counts((0..30_000).map(|index| request(1, index)));
-    for number in 1..=21 {
+    let counts = counts((0..36_000).map(|index| request(1, index)));
+    for number in 1..=22 {
         let count = counts[&format!("refused {number}")];
         assert!(count >= 60, "refusal {number} occurs {count} times");
     }
@@ -75,6 +75,7 @@ fn every_refusal_occurs_often() {
         "printed",
         "summary",
         "judged",
+        "fixed",
     ] {
         assert!(counts[answer] >= 1_000, "{answer}: {}", counts[answer]);
     }
@@ -92,7 +93,7 @@ fn cases_are_mixed_and_mostly_short() {
     let short = all.iter().filter(|case| case.inputs[0].len() < 120);
     assert!(short.count() > 4_700);
     let counts = counts(all.into_iter());
-    for number in (1..=14).chain([19, 20]) {
+    for number in (1..=14).chain([19, 20, 22]) {
         assert!(
             counts.contains_key(&format!("refused {number}")),
             "{number}"

@@ -221,6 +221,11 @@ fn wrong_entries() {
             "v 340282366920938463463374607431768211456",
             "line 1: 340282366920938463463374607431768211456 is above 2^128 - 1",
         ),
+        (
+            "v 0o1",
+            "line 1: 0o1 is octal; write the number in decimal, binary or hex",
+        ),
+        ("v 0o8", "line 1: 0o8 is not a number or an address"),
     ];
     for (text, wanted) in cases {
         assert_eq!(entry_problem(keys, text), wanted, "{text}");

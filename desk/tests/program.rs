@@ -90,12 +90,18 @@ fn answer_lines() {
         recheck(change(1)[..189].to_vec()),
         recheck(change(1)[..188].to_vec()),
         Request::new(Call::Recheck, text("@"), none(), vec![0; 4]),
+        Request::new(Call::FixOctal, text(")0O10 'x"), none(), vec![1; 9]),
+        Request::new(Call::FixOctal, text(")0O10"), none(), vec![1; 5]),
+        Request::new(Call::FixOctal, text(")0O10"), vec![0; 3], vec![1; 3]),
+        Request::new(Call::FixOctal, none(), none(), none()),
+        Request::new(Call::Print, text(")0O10"), none(), vec![1; 3]),
     ];
     let output = desk(&["answer"], &bytes(&requests));
     let sum = adler32(&block);
     let print_sum = adler32(b"a ; b\x01");
     let part_sum = adler32(b"(false)");
     let key_sum = adler32(b"v");
+    let [ones_sum, fixed_sum] = [&[1; 9], &b")0x8\x01"[..]].map(adler32);
     let wanted = format!(
         "read 3\npassed\naccepted\nviolated\ntranslated 4 {sum}\nrefused 15 buffer 3 589828\n\
          loaded 4\naccepted 4\nviolated 2\nrefused 5 text 0\nrefused 2 list 3\nrefused 19 entry 0\n\
@@ -103,7 +109,9 @@ fn answer_lines() {
          refused 5 text 0 589828\npart 2 at 6 5 7 {part_sum}\nkey at 4 16 1 {key_sum}\n\
          nothing accepted\nnothing refused 5 text 0\nsummary 16 1 1\nrefused 13 text 2\n\
          reused accepted\nreused violated\nreused refused 20 entry 0\n\
-         judged refused 19 entry 0\nmalformed\nmalformed\n"
+         judged refused 19 entry 0\nmalformed\nmalformed\n\
+         refused 5 text 6 {ones_sum}\nfixed 4 {fixed_sum}\nrefused 21 buffer 3 589828\n\
+         fixed 0 1\nrefused 22 text 1 589828\n"
     );
     assert_eq!(text_of(&output.stdout), wanted);
 }
@@ -120,11 +128,12 @@ fn sums() {
 fn odd_requests() {
     let long = vec![b' '; 65_537];
     let limit = vec![b' '; 65_536];
+    let beyond = Call::ALL.len() as u8 + 1;
     let mut input = bytes(&[
         Request::new(Call::Read, long, Vec::new(), Vec::new()),
         Request::new(Call::Read, limit, Vec::new(), Vec::new()),
         Request {
-            call: 11,
+            call: beyond,
             inputs: Default::default(),
         },
         Request {
@@ -186,6 +195,18 @@ fn show_a_print() {
     let between = "  passed over, 3 bytes: 020202...\n";
     let rest = format!("  buffer, 9 bytes: 0101010101010101...\n  answer: printed 5 {sum}\n\n");
     assert_eq!(shown, format!("{text}{rest}{text}{between}{rest}"));
+}
+
+#[test]
+fn show_a_fix() {
+    let request = Request::new(Call::FixOctal, b"0o10".to_vec(), Vec::new(), vec![1; 4]);
+    let shown = text_of(&desk(&["show"], &bytes(&[request])).stdout);
+    let sum = adler32(b"0x8\x01");
+    let wanted = format!(
+        "fix_octal\n  text, 4 bytes: \"0o10\"\n  buffer, 4 bytes: 01010101...\n  \
+         answer: fixed 3 {sum}\n\n"
+    );
+    assert_eq!(shown, wanted);
 }
 
 #[test]

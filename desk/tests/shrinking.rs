@@ -9,6 +9,18 @@ use desk::reference::blocks::{all_parts, blocks_of};
 use desk::reference::code::Parts;
 use desk::requests::{Call, Request};
 
+/// A text is made smaller by its tokens although a call refuses it for one of them.
+#[test]
+fn smaller_texts_keep_octal_numerals() {
+    let text = b"v == 0o7 // remark\n && true";
+    for call in [Call::Read, Call::FixOctal] {
+        let request = Request::new(call, text.to_vec(), Vec::new(), Vec::new());
+        assert_eq!(Division::Tokens.count(&request), 5);
+        let smaller = Division::Tokens.simpler(&request, Deed::Drop, 0..2);
+        assert_eq!(smaller.inputs[0], b"0o7 // remark\n && true");
+    }
+}
+
 /// Each skip lands where it did, or at the next instruction that is left.
 #[test]
 fn smaller_code_keeps_its_landings() {

@@ -3,7 +3,7 @@
 mod common;
 
 use common::*;
-use desk::reference::{check, explain, judge, load, print, read, run, translate};
+use desk::reference::{check, explain, fix_octal, judge, load, print, read, run, translate};
 
 const LONG: [u8; 4097] = [b' '; 4097];
 
@@ -14,6 +14,7 @@ fn text_length_comes_first() {
     assert_eq!(short(judge(&LONG, &[0; 3], &[])), "1@4096");
     assert_eq!(short(translate(&LONG, &[0; 3], &mut [])), "1@4096");
     assert_eq!(short(print(&LONG, &mut [])), "1@4096");
+    assert_eq!(short(fix_octal(&LONG, &mut [])), "1@4096");
 }
 
 #[test]
@@ -52,6 +53,25 @@ fn buffer_of_a_print_comes_after_grammar() {
     assert_eq!(short(print(b"zz true", &mut [])), "8@3");
     assert_eq!(short(print(b"ipv4('bad')", &mut [])), "10@5");
     assert_eq!(short(print(b"zz > true", &mut [])), "21 buffer 0");
+}
+
+/// The pass over octal numerals needs tokens first, and nothing else.
+#[test]
+fn buffer_of_a_fixed_text_comes_after_tokens() {
+    assert_eq!(short(fix_octal(b"0o7 @", &mut [])), "5@4");
+    assert_eq!(short(fix_octal(b"0o7 0o8", &mut [])), "5@4");
+    assert_eq!(short(fix_octal(b"0o7 true", &mut [])), "21 buffer 0");
+    assert_eq!(short(fix_octal(b"ipv4('bad')", &mut [])), "21 buffer 0");
+}
+
+/// An octal numeral is refused with the tokens: after the list, before the grammar.
+#[test]
+fn octal_between_list_and_grammar() {
+    assert_eq!(short(check(b"0o7", &[0; 3])), "2 list 3");
+    assert_eq!(short(check(b"0o7", &[0; 80])), "3 list 0");
+    assert_eq!(short(judge(b"true true 0o7", &list(), &[])), "22@10");
+    assert_eq!(short(translate(b"zz == 0o7", &list(), &mut [])), "22@6");
+    assert_eq!(short(print(b") 0o7", &mut [])), "22@2");
 }
 
 /// An explanation has the stages of a judgement.

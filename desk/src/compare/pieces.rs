@@ -6,7 +6,7 @@ use crate::reference::blocks::{all_parts, blocks_of, checked_layout, BLOCK};
 use crate::reference::code::{landing, Instruction, Parts};
 use crate::reference::entries::Entry;
 use crate::reference::keys::Key;
-use crate::reference::tokens::tokens;
+use crate::reference::tokens::old_tokens;
 use crate::reference::Input;
 use crate::requests::Request;
 
@@ -183,14 +183,18 @@ fn non_zeros(bytes: &[u8]) -> impl Iterator<Item = usize> + '_ {
     (0..bytes.len()).filter(|&place| bytes[place] != 0)
 }
 
-/// The text cut before each of its tokens; nothing if there are no good ones.
+/// The text cut before each of its tokens, octal numerals among them; nothing if
+/// there are no good ones.
 fn token_pieces(request: &Request) -> Vec<Vec<u8>> {
     let Some(input) = request.input(Input::Text) else {
         return Vec::new();
     };
     let text = &request.inputs[input];
-    let mut cuts: Vec<usize> = match tokens(text) {
-        Ok(found) => found.iter().map(|token| token.place).collect(),
+    let mut cuts: Vec<usize> = match old_tokens(text) {
+        Ok(found) => found
+            .into_iter()
+            .map(|(stretch, _)| stretch.start)
+            .collect(),
         Err(_) => return Vec::new(),
     };
     cuts.push(text.len());

@@ -5,6 +5,7 @@ use super::rng::Rng;
 use crate::reference;
 use crate::reference::blocks::bytes_needed;
 use crate::reference::calls::{text_tree, LONGEST_TEXT};
+use crate::reference::fixing::without_octal;
 use crate::reference::printing::print_of;
 use crate::reference::Answer;
 use crate::requests::LONGEST_INPUT;
@@ -28,15 +29,29 @@ pub fn for_translation(rng: &mut Rng, text: &[u8], list: &[u8]) -> Vec<u8> {
     filled(rng, length)
 }
 
+/// The bytes that a refused text is taken to need, so that it gets a buffer too.
+const FOR_A_REFUSED_TEXT: usize = 20;
+
 /// A buffer for the print of this text.
 pub fn for_print(rng: &mut Rng, text: &[u8]) -> Vec<u8> {
-    let needed = text_tree(text).map_or(20, |tree| print_of(&tree).len());
+    let needed = text_tree(text).map_or(FOR_A_REFUSED_TEXT, |tree| print_of(&tree).len());
+    for_text(rng, needed)
+}
+
+/// A buffer for this text without its octal numerals.
+pub fn for_fixed_text(rng: &mut Rng, text: &[u8]) -> Vec<u8> {
+    let needed = without_octal(text).map_or(FOR_A_REFUSED_TEXT, |fixed| fixed.len());
+    for_text(rng, needed)
+}
+
+/// A buffer for a text of so many bytes.
+fn for_text(rng: &mut Rng, needed: usize) -> Vec<u8> {
     let length = match rng.below(40) {
         0 => LONGEST_INPUT,
         1 | 2 => 0,
         3 | 4 => 1,
-        5..=7 => rng.below(needed),
-        8..=13 => needed - 1,
+        5..=7 => rng.below(needed.max(1)),
+        8..=13 => needed.saturating_sub(1),
         14..=23 => needed,
         24..=27 => needed + 1,
         28..=31 => needed + rng.below(600),

@@ -2,7 +2,7 @@
 
 use super::rng::Rng;
 use super::scenes::Scene;
-use super::{damage, limits, snippets, spelling, texts};
+use super::{damage, limits, octals, snippets, spelling, texts};
 use crate::requests::{Call, Request};
 use crate::show::hex;
 
@@ -36,6 +36,9 @@ fn text(rng: &mut Rng, scene: &Scene) -> Vec<u8> {
 
 fn short_text(rng: &mut Rng, scene: &Scene) -> Vec<u8> {
     let (keys, entry) = (&scene.keys, &scene.entry);
+    if rng.one_in(30) {
+        return octals::text(rng, keys, entry);
+    }
     let joins = rng.below(4);
     let fault_in = if rng.one_in(3) { 4 } else { 0 };
     let mut tokens = match rng.below(20) {

@@ -162,11 +162,11 @@ fn above_the_limit(rng: &mut Rng) -> Vec<u8> {
 /// A restriction with numerals on both sides of 2^128.
 pub fn large_numbers(rng: &mut Rng) -> Vec<u8> {
     let mut side = || -> String {
-        let numeral = match rng.below(6) {
-            0 => String::from_utf8_lossy(&too_large(rng)).into_owned(),
-            1 => format!("0x{}", "f".repeat(32)),
-            2 => format!("0b{}", "1".repeat(128)),
-            3 => format!("0o3{}", "7".repeat(42)),
+        let numeral = match rng.below(18) {
+            0..=2 => String::from_utf8_lossy(&too_large(rng)).into_owned(),
+            3..=6 => format!("0x{}", "f".repeat(32)),
+            7..=10 => format!("0b{}", "1".repeat(128)),
+            11 => format!("0o3{}", "7".repeat(42)),
             _ => "340282366920938463463374607431768211455".to_string(),
         };
         let sign = if rng.one_in(3) { "-" } else { "" };

@@ -8,6 +8,7 @@ pub mod entries;
 pub mod explanations;
 pub mod limits;
 pub mod lists;
+pub mod octals;
 pub mod prints;
 pub mod programs;
 pub mod rechecks;
@@ -35,6 +36,7 @@ pub const SHARES: &[(Call, usize)] = &[
     (Call::Explain, 4),
     (Call::Summarize, 2),
     (Call::Recheck, 4),
+    (Call::FixOctal, 3),
 ];
 
 /// Request `index` of the run with this seed.

@@ -117,10 +117,9 @@ fn short_operand(rng: &mut Rng) -> (String, String) {
 /// The largest number in any base, whose print is its own text in lower case.
 fn long_numeral(rng: &mut Rng) -> (String, String) {
     let number = u128::MAX;
-    match rng.below(4) {
+    match rng.below(3) {
         0 => (format!("0B{number:b}"), format!("0b{number:b}")),
-        1 => (format!("0O{number:o}"), format!("0o{number:o}")),
-        2 => (format!("0X{number:X}"), format!("0x{number:x}")),
+        1 => (format!("0X{number:X}"), format!("0x{number:x}")),
         _ => (format!("{number}"), format!("{number}")),
     }
 }

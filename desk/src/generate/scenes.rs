@@ -2,8 +2,8 @@
 
 use super::rng::Rng;
 use super::{
-    blocks, buffers, damage, entries, explanations, limits, lists, prints, programs, rechecks,
-    skips, snippets, spelling, texts,
+    blocks, buffers, damage, entries, explanations, limits, lists, octals, prints, programs,
+    rechecks, skips, snippets, spelling, texts,
 };
 use crate::lists::{list_bytes, NamedKey};
 use crate::reference;
@@ -65,6 +65,7 @@ impl Scene {
             Call::Explain => self.explain(rng),
             Call::Summarize => self.summarize(rng),
             Call::Recheck => self.recheck(rng),
+            Call::FixOctal => self.fix_octal(rng),
         }
     }
 
@@ -101,14 +102,19 @@ impl Scene {
         } else {
             self.text(rng)
         };
-        // A print takes no list, and passes over whatever stands in its place.
-        let passed_over = if rng.one_in(10) {
+        let passed_over = self.list_passed_over(rng);
+        let buffer = buffers::for_print(rng, &text);
+        Request::new(Call::Print, text, passed_over, buffer)
+    }
+
+    /// What stands in the place of a list, for a call that takes none and passes
+    /// over it; most often nothing.
+    fn list_passed_over(&self, rng: &mut Rng) -> Vec<u8> {
+        if rng.one_in(10) {
             self.list(rng)
         } else {
             Vec::new()
-        };
-        let buffer = buffers::for_print(rng, &text);
-        Request::new(Call::Print, text, passed_over, buffer)
+        }
     }
 
     fn explain(&self, rng: &mut Rng) -> Request {
@@ -170,6 +176,17 @@ impl Scene {
         Request::new(Call::Recheck, text, self.list(rng), third)
     }
 
+    fn fix_octal(&self, rng: &mut Rng) -> Request {
+        let text = if rng.one_in(4) {
+            self.text(rng)
+        } else {
+            octals::text(rng, &self.keys, &self.entry)
+        };
+        let passed_over = self.list_passed_over(rng);
+        let buffer = buffers::for_fixed_text(rng, &text);
+        Request::new(Call::FixOctal, text, passed_over, buffer)
+    }
+
     /// Most often a text in which it is the keys it names that count.
     fn naming_text(&self, rng: &mut Rng) -> Vec<u8> {
         if rng.one_in(4) {
@@ -212,6 +229,9 @@ impl Scene {
         }
         if rng.one_in(10) {
             return self.text_at_limit(rng);
+        }
+        if rng.one_in(24) {
+            return octals::text(rng, &self.keys, &self.entry);
         }
         let joins = match rng.below(20) {
             0 => rng.below(60),

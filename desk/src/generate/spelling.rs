@@ -4,26 +4,36 @@ use super::damage;
 use super::rng::Rng;
 use crate::reference::words::continues_id;
 
-/// One of the numeral's many spellings.
+/// One of the numeral's many spellings; none is octal.
 pub fn numeral(rng: &mut Rng, number: u128) -> Vec<u8> {
-    let zeros = if rng.one_in(8) {
-        "0".repeat(rng.between(1, 5))
-    } else {
-        String::new()
-    };
-    match rng.below(12) {
+    let zeros = zeros_before(rng);
+    match rng.below(10) {
         0 => format!("0d{zeros}{number}"),
         1 => format!("0D{zeros}{number}"),
         2 => format!("0b{zeros}{number:b}"),
         3 => format!("0B{zeros}{number:b}"),
-        4 => format!("0o{zeros}{number:o}"),
-        5 => format!("0O{zeros}{number:o}"),
-        6 | 7 => format!("0x{zeros}{number:x}"),
-        8 => format!("0X{zeros}{number:X}"),
-        9 => format!("{zeros}{number}"),
+        4 | 5 => format!("0x{zeros}{number:x}"),
+        6 => format!("0X{zeros}{number:X}"),
+        7 => format!("{zeros}{number}"),
         _ => format!("{number}"),
     }
     .into_bytes()
+}
+
+/// One of the octal numerals of a number.
+pub fn octal(rng: &mut Rng, number: u128) -> Vec<u8> {
+    let prefix = rng.pick(&["0o", "0O"]);
+    let zeros = zeros_before(rng);
+    format!("{prefix}{zeros}{number:o}").into_bytes()
+}
+
+/// Most often none.
+fn zeros_before(rng: &mut Rng) -> String {
+    if rng.one_in(8) {
+        "0".repeat(rng.between(1, 5))
+    } else {
+        String::new()
+    }
 }
 
 /// The word and the quoted string of an address for this number.
@@ -159,6 +169,8 @@ pub fn text_with(rng: &mut Rng, tokens: &[Vec<u8>], blanks: Blanks) -> Vec<u8> {
     text
 }
 
+const REMARKS: &[&[u8]] = &[b"", b" a remark", b"'", b"// (\xff;\0\r", b" 0o17"];
+
 fn wild_blank(rng: &mut Rng, text: &mut Vec<u8>) {
     match rng.below(16) {
         0 => text.extend_from_slice(b"  "),
@@ -166,7 +178,7 @@ fn wild_blank(rng: &mut Rng, text: &mut Vec<u8>) {
         2 => text.push(b'\n'),
         3 => text.extend_from_slice(b"\r\n"),
         4 => {
-            let remark: &[u8] = rng.pick(&[b"".as_slice(), b" a remark", b"'", b"// (\xff;\0\r"]);
+            let remark = rng.pick(REMARKS);
             text.extend_from_slice(b"//");
             text.extend_from_slice(remark);
             text.push(b'\n');

@@ -168,7 +168,17 @@ impl Writer<'_> {
         for _ in 0..self.rng.pick(&[0, 1, 1, 2]) {
             self.put("-");
         }
-        let numeral = spelling::numeral(self.rng, number);
+        self.put_numeral(number);
+    }
+
+    /// With a fault an octal one, now and then: it hides all other faults.
+    fn put_numeral(&mut self, number: u128) {
+        let octal = self.fault() && self.rng.one_in(4);
+        let numeral = if octal {
+            spelling::octal(self.rng, number)
+        } else {
+            spelling::numeral(self.rng, number)
+        };
         self.tokens.push(numeral);
     }
 
@@ -258,8 +268,7 @@ impl Writer<'_> {
         let width = index.map_or(8, |index| self.keys[index].width);
         let number = negate_bits(self.telling_number(index), width);
         self.put("-");
-        let numeral = spelling::numeral(self.rng, number);
-        self.tokens.push(numeral);
+        self.put_numeral(number);
     }
 
     fn bits(&mut self, width: u8, index: Option<usize>) {
@@ -379,8 +388,7 @@ impl Writer<'_> {
             self.tokens.push(quoted);
             self.put(")");
         } else {
-            let numeral = spelling::numeral(self.rng, number);
-            self.tokens.push(numeral);
+            self.put_numeral(number);
         }
     }
 
@@ -415,7 +423,7 @@ impl Writer<'_> {
 }
 
 const SOUP: &str = "true false ipv4 ipv6 mac :: :: ( ( ) ) ! - ; -> || && == != < <= > >= \
-                    '::' '1.2.3.4' 'bad' priority value mask 0 1 0x10 a.b k";
+                    '::' '1.2.3.4' 'bad' priority value mask 0 1 0x10 0o7 a.b k";
 
 /// Tokens that stand together for no reason.
 pub fn soup(rng: &mut Rng, keys: &[NamedKey], length: usize) -> Tokens {

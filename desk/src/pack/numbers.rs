@@ -14,6 +14,9 @@ pub fn number(text: &str) -> Result<u128, String> {
     match numeral(bytes) {
         Numeral::Number(literal) => Ok(literal.number),
         Numeral::TooLarge => Err(format!("{text} is above 2^128 - 1")),
+        Numeral::Octal(_) => Err(format!(
+            "{text} is octal; write the number in decimal, binary or hex"
+        )),
         Numeral::None if text.is_empty() => Err("a number is missing".to_string()),
         Numeral::None => Err(format!("{text} is not a number or an address")),
     }

@@ -44,6 +44,8 @@ pub enum Answer {
     Printed(usize),
     /// What the text names.
     Summary(Summary),
+    /// The text was copied without octal numerals, in this many bytes.
+    Fixed(usize),
     Refused {
         number: u8,
         input: Input,
@@ -107,6 +109,7 @@ impl fmt::Display for Answer {
             Answer::Loaded(count) => write!(out, "loaded {count}"),
             Answer::Printed(length) => write!(out, "printed {length}"),
             Answer::Summary(summary) => write!(out, "summary {summary}"),
+            Answer::Fixed(length) => write!(out, "fixed {length}"),
             Answer::Refused {
                 number,
                 input,

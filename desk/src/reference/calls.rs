@@ -2,13 +2,15 @@
 //! call has." "Stages: 1; 2; 3 and 4; 5 to 7; 8 to 10; 11 to 13; 14; 15; 16; 17;
 //! 18; 19; 20. A refusal changes nothing lent." Document 02, request a: "A print
 //! over 4,096 bytes, or over the lent buffer, is refused with number 21, placed
-//! in the buffer at its length".
+//! in the buffer at its length here and in every later request. Bytes after a
+//! print, or after a text that a later request writes, stay."
 
 use super::answers::{Answer, Input, Refusal};
 use super::blocks::{blocks_of, bytes_needed, checked_layout};
 use super::code::Instruction;
 use super::entries::Entry;
 use super::explaining::{first_false_part, key_of_record, Explanation};
+use super::fixing::without_octal;
 use super::grammar::tree;
 use super::keys::{key_list, Key};
 use super::loading::checked_code;
@@ -22,7 +24,7 @@ use super::translating::instructions;
 use super::tree::Node;
 use super::types::{typed_text, Typed};
 
-/// The longest text, and the longest print: a print is a text again.
+/// The longest text, and the longest that a call writes: that is a text again.
 pub const LONGEST_TEXT: usize = 4096;
 
 /// Reads a text; the answer is the number of nodes of its tree.
@@ -88,12 +90,7 @@ pub fn print(text: &[u8], buffer: &mut [u8]) -> Answer {
     let mut printing = || {
         text_length(text)?;
         let print = print_of(&text_tree(text)?);
-        let length = print.len();
-        if length > LONGEST_TEXT || length > buffer.len() {
-            return Err(Refusal::new(21, Input::Buffer, buffer.len()));
-        }
-        buffer[..length].copy_from_slice(&print);
-        Ok(Answer::Printed(length))
+        Ok(Answer::Printed(write_text(&print, buffer)?))
     };
     printing().into()
 }
@@ -130,6 +127,18 @@ pub fn recheck(text: &[u8], list: &[u8], old: &[u8], earlier: Answer, new: &[u8]
     }
 }
 
+/// Copies a text to the front of the buffer with its octal numerals in hex: "It
+/// refuses first with 1, 5, 6 or 7 by the old rules, then a result over the lent
+/// buffer with 21". Every later byte stays, and on a refusal every byte.
+pub fn fix_octal(text: &[u8], buffer: &mut [u8]) -> Answer {
+    let mut fixing = || {
+        text_length(text)?;
+        let fixed = without_octal(text)?;
+        Ok(Answer::Fixed(write_text(&fixed, buffer)?))
+    };
+    fixing().into()
+}
+
 /// Stage 1.
 fn text_length(text: &[u8]) -> Result<(), Refusal> {
     if text.len() > LONGEST_TEXT {
@@ -138,7 +147,17 @@ fn text_length(text: &[u8]) -> Result<(), Refusal> {
     Ok(())
 }
 
-/// Stages 5 to 7 and 8 to 10.
+/// Writes a text to the front of the buffer, and tells its length: refusal 21.
+fn write_text(text: &[u8], buffer: &mut [u8]) -> Result<usize, Refusal> {
+    let length = text.len();
+    if length > LONGEST_TEXT || length > buffer.len() {
+        return Err(Refusal::new(21, Input::Buffer, buffer.len()));
+    }
+    buffer[..length].copy_from_slice(text);
+    Ok(length)
+}
+
+/// Stages 5 to 7, with 22, and 8 to 10.
 pub fn text_tree(text: &[u8]) -> Result<Node<'_>, Refusal> {
     tree(&tokens(text)?, text.len())
 }

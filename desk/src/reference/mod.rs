@@ -5,7 +5,7 @@
 //! judging one entry directly from the text, translating a text into blocks,
 //! loading blocks, running loaded blocks on an entry." And document 02's "Print
 //! a restriction in house style", "Tell me on site what broke", "A summary beside
-//! each rule" and "Stop early, and count".
+//! each rule", "Stop early, and count" and "Octal goes".
 //!
 //! The files follow the documents' sections. Plainness comes before speed:
 //! what stands here is meant to be held against the paper, line by line.
@@ -18,6 +18,7 @@ pub mod code;
 pub mod entries;
 pub mod explaining;
 pub mod fields;
+pub mod fixing;
 pub mod grammar;
 pub mod keys;
 pub mod ladder;
@@ -37,7 +38,8 @@ pub mod values;
 pub mod words;
 
 pub use answers::{Answer, Input};
-pub use calls::{check, explain, judge, load, print, read, recheck, run, summarize, translate};
+pub use calls::{check, explain, fix_octal, judge, load, print};
+pub use calls::{read, recheck, run, summarize, translate};
 pub use explaining::Explanation;
 pub use rechecking::Rechecked;
 pub use running::Outcome;

@@ -61,12 +61,12 @@ pub fn negate_bits(number: u128, width: u8) -> u128 {
 }
 
 /// Document 02, request e: "A numeral that is read must also report how it was
-/// written: decimal, binary, octal or hex."
+/// written: decimal, binary, octal or hex." Request h: "The base list of e) loses
+/// octal."
 #[derive(Clone, Copy, PartialEq, Eq, Debug)]
 pub enum Base {
     Decimal,
     Binary,
-    Octal,
     Hex,
 }
 
@@ -75,11 +75,12 @@ impl Base {
         match self {
             Base::Decimal => 10,
             Base::Binary => 2,
-            Base::Octal => 8,
             Base::Hex => 16,
         }
     }
 }
+
+const OCTAL_RADIX: u32 = 8;
 
 /// A number, and how it is written.
 #[derive(Clone, Copy, PartialEq, Eq, Debug)]
@@ -92,10 +93,21 @@ pub struct Literal {
 #[derive(Clone, Copy, PartialEq, Eq, Debug)]
 pub enum Numeral {
     Number(Literal),
-    /// A numeral of 004, but above 2^128 − 1.
+    /// A decimal, binary or hex numeral of 004, but above 2^128 − 1.
     TooLarge,
+    /// An octal numeral of 004, of whatever size.
+    Octal(Octal),
     /// No numeral of 004.
     None,
+}
+
+/// The number of an octal numeral; only the pass that rewrites such numerals asks
+/// for it.
+#[derive(Clone, Copy, PartialEq, Eq, Debug)]
+pub enum Octal {
+    Number(u128),
+    /// Above 2^128 − 1.
+    TooLarge,
 }
 
 /// Reads a whole run as one numeral of 004.
@@ -103,30 +115,53 @@ pub fn numeral(run: &[u8]) -> Numeral {
     match run {
         [b'0', b'd' | b'D', digits @ ..] => digits_in_base(digits, Base::Decimal),
         [b'0', b'b' | b'B', digits @ ..] => digits_in_base(digits, Base::Binary),
-        [b'0', b'o' | b'O', digits @ ..] => digits_in_base(digits, Base::Octal),
+        [b'0', b'o' | b'O', digits @ ..] => octal_digits(digits),
         [b'0', b'x' | b'X', digits @ ..] => digits_in_base(digits, Base::Hex),
         digits => digits_in_base(digits, Base::Decimal),
     }
 }
 
 fn digits_in_base(digits: &[u8], base: Base) -> Numeral {
+    match spelled(digits, base.radix()) {
+        Spelled::Number(number) => Numeral::Number(Literal { base, number }),
+        Spelled::TooLarge => Numeral::TooLarge,
+        Spelled::Nothing => Numeral::None,
+    }
+}
+
+fn octal_digits(digits: &[u8]) -> Numeral {
+    match spelled(digits, OCTAL_RADIX) {
+        Spelled::Number(number) => Numeral::Octal(Octal::Number(number)),
+        Spelled::TooLarge => Numeral::Octal(Octal::TooLarge),
+        Spelled::Nothing => Numeral::None,
+    }
+}
+
+/// What bytes spell as the digits of a number.
+enum Spelled {
+    Number(u128),
+    /// A number above 2^128 − 1.
+    TooLarge,
+    Nothing,
+}
+
+fn spelled(digits: &[u8], radix: u32) -> Spelled {
     if digits.is_empty() {
-        return Numeral::None;
+        return Spelled::Nothing;
     }
     // All digits are looked at even after the number has grown too large: a
-    // later byte may show that the run is no numeral at all.
-    let radix = base.radix();
+    // later byte may show that they spell no number at all.
     let mut number = Some(0u128);
     for &byte in digits {
         let Some(digit) = char::from(byte).to_digit(radix) else {
-            return Numeral::None;
+            return Spelled::Nothing;
         };
         number = number
             .and_then(|n| n.checked_mul(u128::from(radix)))
             .and_then(|n| n.checked_add(u128::from(digit)));
     }
     match number {
-        Some(number) => Numeral::Number(Literal { base, number }),
-        None => Numeral::TooLarge,
+        Some(number) => Spelled::Number(number),
+        None => Spelled::TooLarge,
     }
 }

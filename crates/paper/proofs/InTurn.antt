@@ -35,3 +35,11 @@ module _ (test : ℕ → Answer (Unit {0})) where
 
   pub is-over : (n k : ℕ) → n ≤ k → inTurn test k (n - k) ≡ ok tt
   is-over n k l = let e : n - k ≡ 0 = omega arith in rw e
+
+-- tests that agree, one after another
+same-from : (f g : ℕ → Answer (Unit {0})) (n k : ℕ) → ((j : ℕ) → j < k + n → f j ≡ g j) → inTurn f k n ≡ inTurn g k n
+same-from f g zero k same = refl
+same-from f g (suc n) k same = rw (same k (omega arith), same-from f g n (suc k) (λ j l. same j (omega arith)))
+
+pub same-turn : (f g : ℕ → Answer (Unit {0})) (n : ℕ) → ((k : ℕ) → k < n → f k ≡ g k) → inTurn f 0 n ≡ inTurn g 0 n
+same-turn f g n same = same-from f g n 0 (λ k l. same k (omega arith))

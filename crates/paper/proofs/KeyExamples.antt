@@ -5,4 +5,4 @@ use Rattle.paper.specs.KeyExamples.{KeyExamples}
 
 pub keyExamples : KeyExamples
 unfolding keys
-keyExamples = record { laid-out = refl; with-names = refl; at-places = refl; by-name = refl }
+keyExamples = record { laid-out = refl; with-names = refl; at-places = refl; with-flags = refl; by-name = refl }

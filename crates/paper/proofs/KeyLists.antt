@@ -9,7 +9,7 @@ use lib.Dec.{eqb, leb}
 use borrow.Author.Tests.{leb-true}
 use Rattle.paper.specs.Answers.{ok, _>>=_, require, inTurn, inList}
 use Rattle.paper.specs.Numbers.{byteAt}
-use Rattle.paper.specs.Keys.{mostKeys, recordSize, recordsIn, recordAt, recordOk, isNew, keysFrom, recordTest, layoutRule, keys}
+use Rattle.paper.specs.Keys.{mostKeys, recordSize, recordsIn, recordAt, recordOk, isNew, keysFrom, RecordRule, recordTest, layoutRule, keys}
 use Rattle.paper.specs.BlocksRoundTrip.{All, Width, Listed, KeysListed}
 use Rattle.paper.proofs.Basics.{and-false, and-right}
 use Rattle.paper.proofs.Stages.{bind-ok, require-ok}
@@ -28,17 +28,17 @@ narrow-record r h = (leb-true 1 (byteAt r 2) (low (leb 1 (byteAt r 2)) refl), le
     high true e = refl
     high false e = (simp (e, and-false) at h)
 
--- a record that passes its test keeps its layout
-kept : (list : List ℕ) (k : ℕ) → recordTest layoutRule list k ≡ ok tt → recordOk (recordAt list k) ≡ true
-kept list k h =
-    let good = recordOk (recordAt list k) in
+-- a record that passes its test keeps its rule
+pub rule-kept : (rule : RecordRule) (list : List ℕ) (k : ℕ) → recordTest rule list k ≡ ok tt → rule k (recordAt list k) ≡ true
+rule-kept rule list k h =
+    let good = rule k (recordAt list k) in
     let (u, passed, _) = bind-ok (require good 3 inList (k * recordSize)) (λ _. require (isNew list k) 4 inList (k * recordSize)) tt h in
     require-ok good 3 inList (k * recordSize) u passed
 
 narrow-keys : (list : List ℕ) (n k : ℕ) → ((j : ℕ) → j < k + n → recordTest layoutRule list j ≡ ok tt) → All (λ x. Width (x .width)) (keysFrom list k n)
 narrow-keys list zero k each = tt
 narrow-keys list (suc n) k each =
-    (narrow-record (recordAt list k) (kept list k (each k (omega arith))), narrow-keys list n (suc k) (λ j l. each j (omega arith)))
+    (narrow-record (recordAt list k) (rule-kept layoutRule list k (each k (omega arith))), narrow-keys list n (suc k) (λ j l. each j (omega arith)))
 
 keys-length : (list : List ℕ) (n k : ℕ) → length (keysFrom list k n) ≡ n
 keys-length list zero k = refl

@@ -32,6 +32,7 @@ pub mod SkipExamples
 pub mod PrintExamples
 pub mod PartExamples
 pub mod SummaryExamples
+pub mod RequiredExamples
 pub mod FixExamples
 pub mod AnswerExamples
 pub mod FaultExamples
@@ -110,6 +111,7 @@ pub mod PartsTyped
 pub mod PartsInText
 pub mod RecordsRefused
 pub mod NamesInList
+pub mod Required
 pub mod KeySets
 pub mod Named
 pub mod Depends

@@ -46,6 +46,12 @@ module _ (list : List ℕ) (ks : List Key) (listed : keys list ≡ ok ks) where
       let (each, kept, last) = bind-ok tests (λ _. ok all) ks rest in
       sym (ok-same all ks last)
 
+  pub key-there : (k : ℕ) (x : Key) → getElem? ks k ≡ some x → (k < recordsIn list) × (x ≡ keyOf (recordAt list k))
+  key-there k x there =
+      let (l, same) = key-at list (recordsIn list) 0 k x (subst (λ (us : List Key). getElem? us k ≡ some x) are-records there) in
+      let zeroth : 0 + k ≡ k = omega arith in
+      (l, same ∙ ap (λ (j : ℕ). keyOf (recordAt list j)) zeroth)
+
   no-fault : Clear (listStages list)
   no-fault = subst (λ a. Follows (listStages list) a) listed (list-follows list)
 
@@ -86,12 +92,11 @@ name-in-list list ks k x listed there =
     let r = recordAt list k in
     let n = byteAt r 0 in
     let from = k * recordSize + nameStart in
-    let (l, same) = key-at list (recordsIn list) 0 k x (subst (λ (us : List Key). getElem? us k ≡ some x) (are-records list ks listed) there) in
+    let (l, same) = key-there list ks listed k x there in
     let kept = record-kept list ks listed k l in
     let low = some-byte r kept in
     let high = most-bytes r kept in
     let count : from + n - from ≡ n = omega arith in
-    let zeroth : 0 + k ≡ k = omega arith in
     record {
       stretch = record { some = omega (arith, low); inside = omega (arith, l, high) };
       ks = ks;
@@ -102,5 +107,5 @@ name-in-list list ks k x listed there =
           ap (bytesAt list from) count
           ∙ ap (take n) (sym (drop-drop nameStart (k * recordSize) list))
           ∙ sym (bytes-within nameStart recordSize n (drop (k * recordSize) list) (omega (arith, high)))
-          ∙ sym (ap (λ (y : Key). y .name) (same ∙ ap (λ (j : ℕ). keyOf (recordAt list j)) zeroth));
+          ∙ sym (ap (λ (y : Key). y .name) same);
     }

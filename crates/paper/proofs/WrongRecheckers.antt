@@ -141,7 +141,7 @@ one-bytes = all-bytes oneKey refl
 abbrev maskingRule : Restriction
 maskingRule =
     record {
-      keys = record { name = bytes "d"; kind = ternary; width = 8 } ∷ [];
+      keys = record { name = bytes "d"; kind = ternary; width = 8; required = false } ∷ [];
       root = compared 8 equal (field 0 (bytes "d") 3 (bytes "mask")) (number 11 (plain 0));
     }
 

@@ -21,7 +21,7 @@ use Rattle.paper.specs.Print.{print}
 abbrev pub sized : List ℕ → Answer (Unit {0})
 sized text = require (leb (length text) mostText) 1 inText mostText
 
--- 5 to 7; 8 to 10
+-- 5 to 7 and 22; 8 to 10
 unfoldable pub tree : List ℕ → Answer Tree
 unfolding tokens parsed
 tree text = tokens text >>= parsed (length text)

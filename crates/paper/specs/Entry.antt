@@ -2,6 +2,7 @@
 -- "An entry for n keys has exactly 4 + 36n bytes, numbers big-endian. Bytes 0 to 3: priority, below 2^31. Each key's record:
 -- byte 0 present (0 or 1); byte 1 prefix length; bytes 2, 3 zero; 16 bytes first number (value or low); 16 bytes second
 -- number (mask or high). Fields a kind lacks are zero. Numbers are below 2^W."
+-- 02 i, of a key's flag: "with 1 the key must be present, and its absence is number 20"
 use Prim.Native.Nat.{ℕ, suc, _+_, _*_, _-_, _%_, _^_}
 use mathlib.Core.Bool.{Bool, true, false, not, cond, _&&_, _||_}
 use mathlib.Core.Option.{Option, none, some}
@@ -59,9 +60,9 @@ isExact lpm = false
 isExact range = false
 isExact optional = false
 
--- "An absent key has 35 zero bytes after byte 0 and may not be exact."
+-- "An absent key has 35 zero bytes after byte 0 and may not be exact." Nor may it be one that must be present
 abbrev pub absentRule : Key → List ℕ → Bool
-absentRule k r = not (isExact (k .kind)) && allZero (drop 1 r)
+absentRule k r = not (isExact (k .kind)) && not (k .required) && allZero (drop 1 r)
 
 abbrev pub presentRule : Key → List ℕ → Bool
 presentRule k r =

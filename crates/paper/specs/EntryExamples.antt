@@ -1,12 +1,12 @@
--- 01, "Key list and entry", from "An entry for n keys", by example: entries with what they read as, and each rule of each kind, kept and
--- broken.
+-- 01, "Key list and entry", from "An entry for n keys", and keys that must be present (02 i), by example: entries with what they read
+-- as, and each rule of each kind, kept and broken.
 use Prim.Native.Nat.{ℕ, _-_, _^_}
 use mathlib.Core.List.{List, [], _∷_, _++_}
 use lib.ListN.{replicate}
 use Rattle.paper.specs.Answers.{Answer, ok, refused, _>>=_, inEntry}
 use Rattle.paper.specs.Numbers.{bigEndian}
 use Rattle.paper.specs.Tokens.{bytes}
-use Rattle.paper.specs.Keys.{keyRecord, keys}
+use Rattle.paper.specs.Keys.{keyRecord, requiredKey, keys}
 use Rattle.paper.specs.Entry.{matchRecord, Match, Entry, entryOf}
 use Rattle.paper.specs.MarkedJudgements.{theKeys, theEntry}
 use Rattle.paper.specs.Examples.{on, Agree, On, numbersFrom}
@@ -76,10 +76,37 @@ places =
     ∷ on (bigEndian 4 3 ++ first ++ badSecond) (refused 20 inEntry 40)
     ∷ []
 
+-- 02 i: "with 1 the key must be present, and its absence is number 20": with a ternary key of 8 that must, one that may be absent, and a
+-- range of 8 that must
+
+abbrev pub threeKeys : List ℕ
+threeKeys = requiredKey (bytes "t") 1 8 ++ keyRecord (bytes "u") 1 8 ++ requiredKey (bytes "r") 3 8
+
+abbrev pub noRecord : List ℕ
+noRecord = matchRecord 0 0 0 0
+
+abbrev pub absences : List (On Entry)
+absences =
+    on (bigEndian 4 3 ++ second ++ second ++ second) (reads 3 (match 5 7 0 ∷ match 5 7 0 ∷ match 5 7 0 ∷ []))
+    ∷ on (bigEndian 4 3 ++ second ++ noRecord ++ second) (reads 3 (match 5 7 0 ∷ match 0 0 0 ∷ match 5 7 0 ∷ []))
+    ∷ on (bigEndian 4 3 ++ noRecord ++ second ++ second) (refused 20 inEntry 4)
+    ∷ on (bigEndian 4 3 ++ second ++ second ++ noRecord) (refused 20 inEntry 76)
+    ∷ on (bigEndian 4 3 ++ noRecord ++ noRecord ++ noRecord) (refused 20 inEntry 4)
+    -- "the earliest place wins"
+    ∷ on (bigEndian 4 3 ++ second ++ badSecond ++ noRecord) (refused 20 inEntry 40)
+    ∷ on (bigEndian 4 3 ++ noRecord ++ badSecond ++ second) (refused 20 inEntry 4)
+    ∷ on (bigEndian 4 (2 ^ 31) ++ noRecord ++ second ++ noRecord) (refused 20 inEntry 0)
+    ∷ on (bigEndian 4 3 ++ noRecord ++ second) (refused 19 inEntry 76)
+    ∷ []
+
 -- a record of one key, of a kind's number and a width: kept, with what it reads as, or broken
 
 abbrev pub Rules : ℕ → ℕ → List (On Entry) → Type 0
 Rules kind width es = Agree (λ r. readWith (keyRecord (bytes "k") kind width) (bigEndian 4 0 ++ r)) es
+
+-- of one that must be present
+abbrev pub RequiredRules : ℕ → ℕ → List (On Entry) → Type 0
+RequiredRules kind width es = Agree (λ r. readWith (requiredKey (bytes "k") kind width) (bigEndian 4 0 ++ r)) es
 
 abbrev pub kept : List ℕ → Match → On Entry
 kept r m = on r (reads 0 (m ∷ []))
@@ -175,12 +202,62 @@ optionalRules =
     ∷ broken (matchRecord 0 0 0 255)
     ∷ []
 
+-- of keys that must be present: absent, and present with what absence would read as, which is not absence; the other rules stay
+
+abbrev pub exactRequired : List (On Entry)
+exactRequired =
+    kept (matchRecord 1 0 255 0) (match 255 0 0)
+    ∷ kept (matchRecord 1 0 0 0) (match 0 0 0)
+    ∷ broken noRecord
+    ∷ broken (matchRecord 1 0 256 0)
+    ∷ []
+
+abbrev pub ternaryRequired : List (On Entry)
+ternaryRequired =
+    broken noRecord
+    ∷ kept (matchRecord 1 0 0 0) (match 0 0 0)
+    ∷ kept (matchRecord 1 0 0x20 0xF0) (match 0x20 0xF0 0)
+    ∷ broken (matchRecord 1 0 0x21 0xF0)
+    ∷ broken (matchRecord 2 0 0 0)
+    ∷ broken (matchRecord 0 0 0 1)
+    ∷ []
+
+abbrev pub lpmRequired : List (On Entry)
+lpmRequired =
+    broken noRecord
+    ∷ kept (matchRecord 1 0 0 0) (match 0 0 0)
+    ∷ kept (matchRecord 1 2 0xC0 0) (match 0xC0 0 2)
+    ∷ broken (matchRecord 1 2 0xE0 0)
+    ∷ []
+
+abbrev pub rangeRequired : List (On Entry)
+rangeRequired =
+    broken noRecord
+    ∷ kept (matchRecord 1 0 0 255) (match 0 255 0)
+    ∷ kept (matchRecord 1 0 0 0) (match 0 0 0)
+    ∷ broken (matchRecord 1 0 6 5)
+    ∷ []
+
+abbrev pub optionalRequired : List (On Entry)
+optionalRequired =
+    broken noRecord
+    ∷ kept (matchRecord 1 0 0 0) (match 0 0 0)
+    ∷ kept (matchRecord 1 0 5 255) (match 5 255 0)
+    ∷ broken (matchRecord 1 0 5 7)
+    ∷ []
+
 pub record EntryExamples : Type 0 where
   pub in-bytes : Agree (readWith (keyRecord (bytes "k") 3 128)) bytesRead
   pub marked : Agree (readWith theKeys) markedRead
   pub at-places : Agree (readWith twoKeys) places
+  pub with-absences : Agree (readWith threeKeys) absences
   pub exact-of-8 : Rules 0 8 exactRules
   pub ternary-of-8 : Rules 1 8 ternaryRules
   pub lpm-of-8 : Rules 2 8 lpmRules
   pub range-of-8 : Rules 3 8 rangeRules
   pub optional-of-8 : Rules 4 8 optionalRules
+  pub exact-required : RequiredRules 0 8 exactRequired
+  pub ternary-required : RequiredRules 1 8 ternaryRequired
+  pub lpm-required : RequiredRules 2 8 lpmRequired
+  pub range-required : RequiredRules 3 8 rangeRequired
+  pub optional-required : RequiredRules 4 8 optionalRequired

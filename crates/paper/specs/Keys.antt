@@ -2,6 +2,8 @@
 -- "A key list is 0 to 32 records of 80 bytes. Byte 0: name length, 1 to 64. Byte 1: kind, 0 exact, 1 ternary, 2 lpm, 3 range,
 -- 4 optional. Byte 2: width W, 1 to 128. Bytes 3 to 15 zero. Bytes 16 to 79: the name, a key by 004's grammar and neither
 -- "true" nor "false", then zeros."
+-- 02 i: "Byte 3 of a key record becomes a flag, 0 or 1; with 1 the key must be present, and its absence is number 20. Other values are
+-- number 3." Bytes 4 to 15 stay zero. What the flag changes stands in Required.
 use Prim.Native.Nat.{ℕ, zero, suc, _+_, _*_, _-_, _/_, _%_}
 use mathlib.Core.Bool.{Bool, true, false, not, cond, _&&_}
 use mathlib.Core.Option.{Option, none, some}
@@ -34,6 +36,8 @@ pub record Key : Type 0 where
   pub name : List ℕ
   pub kind : Kind
   pub width : ℕ
+  -- "with 1 the key must be present"
+  pub required : Bool
 
 abbrev pub allZero : List ℕ → Bool
 allZero [] = true
@@ -47,10 +51,13 @@ recordSize = 80
 abbrev pub mostKeys : ℕ
 mostKeys = 32
 
--- writing: "Byte 0: name length, 1 to 64. Byte 1: kind, ... Byte 2: width W, 1 to 128. Bytes 3 to 15 zero. Bytes 16 to 79: the
--- name, ... then zeros." Of a name, a kind's number and a width
+-- writing: "Byte 0: name length, 1 to 64. Byte 1: kind, ... Byte 2: width W, 1 to 128. .. Bytes 16 to 79: the name, ... then zeros."
+-- Of a name, a kind's number and a width: a key that may be absent, and one that must be present
 abbrev pub keyRecord : List ℕ → ℕ → ℕ → List ℕ
 keyRecord name kind width = length name ∷ kind ∷ width ∷ (replicate 13 0 ++ name ++ replicate (64 - length name) 0)
+
+abbrev pub requiredKey : List ℕ → ℕ → ℕ → List ℕ
+requiredKey name kind width = length name ∷ kind ∷ width ∷ 1 ∷ (replicate 12 0 ++ name ++ replicate (64 - length name) 0)
 
 -- reading
 
@@ -64,14 +71,14 @@ abbrev pub nameOf : List ℕ → List ℕ
 nameOf r = bytesAt r 16 (byteAt r 0)
 
 abbrev pub keyOf : List ℕ → Key
-keyOf r = record { name = nameOf r; kind = kindOf (byteAt r 1); width = byteAt r 2 }
+keyOf r = record { name = nameOf r; kind = kindOf (byteAt r 1); width = byteAt r 2; required = eqb (byteAt r 3) 1 }
 
 abbrev pub recordOk : List ℕ → Bool
 recordOk r =
     leb 1 (byteAt r 0) && leb (byteAt r 0) 64
     && leb (byteAt r 1) 4
     && leb 1 (byteAt r 2) && leb (byteAt r 2) 128
-    && allZero (bytesAt r 3 13)
+    && leb (byteAt r 3) 1 && allZero (bytesAt r 4 12)
     && isKey (nameOf r) && not (sameBytes (nameOf r) (bytes "true")) && not (sameBytes (nameOf r) (bytes "false"))
     && allZero (drop (16 + byteAt r 0) r)
 

@@ -54,12 +54,14 @@ pub mod SkipExamples
 pub mod PrintExamples
 pub mod PartExamples
 pub mod SummaryExamples
+pub mod RequiredExamples
 pub mod FixExamples
 pub mod AnswerExamples
 pub mod FaultExamples
 pub mod Promised
 pub mod Pieces
 pub mod Faults
+pub mod Required
 pub mod Table
 pub mod Demands
 pub mod WrongPrints

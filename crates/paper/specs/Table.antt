@@ -143,6 +143,6 @@ pub record TableHolds : Type 0 where
   pub summarize : (text list : List ℕ) → ByTable (summaryAnswer text list) (checkStages text list)
   pub fix : (text buffer : List ℕ) → ByTable (fixAnswer text buffer) (fixStages text buffer)
 
--- and a text that passes 5 to 7 is cut into its tokens
+-- and a text that passes 5 to 7 and 22 is cut into its tokens
 abbrev pub TokensAreCut : Type 0
 TokensAreCut = (text : List ℕ) (ts : List Token) → (tokens text ≡ ok ts) ↔ Cuts text ts

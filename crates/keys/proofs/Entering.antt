@@ -6,11 +6,10 @@ use mathlib.Core.List.{List}
 use lib.ListN.{length}
 use borrow.Author.Tests.{eq-eqb, ne-eqb, lt-ltb, le-ltb}
 use Rattle.paper.specs.Answers.{Answer, ok, refused, _>>=_, inTurn, inEntry}
-use Rattle.paper.specs.Numbers.{byteAt}
-use Rattle.paper.specs.Keys.{recordsIn, recordAt}
+use Rattle.paper.specs.Keys.{recordsIn}
 use Rattle.paper.specs.Entry.{headSize, matchSize, matchAt, matchOk, priorityOf, ruleTest, entryOf}
 use Rattle.keys.specs.declared.record.KeyRecord.{KeyRecord}
-use Rattle.keys.specs.Says.{keysIn, unnamed, conforms}
+use Rattle.keys.specs.Says.{keysIn, KeyRead, unnamed, conforms}
 use Rattle.keys.proofs.Records.{keys-length, key-at}
 
 dropped : {A : Type 0} (x : A) (a : Answer (Unit {0})) → (a >>= (λ _. ok x) >>= λ _. ok tt) ≡ a
@@ -39,10 +38,10 @@ module _ (list entry : List ℕ) where
 
 -- what is found of the record of key k decides its test
 module _ (list entry : List ℕ) (k : ℕ) (h : k < recordsIn list) {r : List ℕ} (at : r ≡ matchAt entry k) (key : KeyRecord)
-    (kind : key .kind ≡ byteAt (recordAt list k) 1) (width : key .width ≡ byteAt (recordAt list k) 2) where
+    (read : KeyRead list k key) where
   pub rule-broken : matchOk (unnamed key) r ≡ false
       → ruleTest (keysIn list) entry k ≡ refused 20 inEntry (headSize + k * matchSize)
-  rule-broken e = rw (key-at list (recordsIn list) k h, ← at, ← kind, ← width, e)
+  rule-broken e = rw (key-at list (recordsIn list) k h, ← at, ← read .kind, ← read .width, ← read .required, e)
 
   pub rule-kept : matchOk (unnamed key) r ≡ true → ruleTest (keysIn list) entry k ≡ ok tt
-  rule-kept e = rw (key-at list (recordsIn list) k h, ← at, ← kind, ← width, e)
+  rule-kept e = rw (key-at list (recordsIn list) k h, ← at, ← read .kind, ← read .width, ← read .required, e)

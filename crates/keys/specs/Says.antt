@@ -1,10 +1,13 @@
 -- What each answer of this crate says, in the paper's words.
 use Prim.Native.Nat.{ℕ, _/_}
+use mathlib.Core.Path.{_≡_}
 use mathlib.Core.Option.{Option, none, some}
 use mathlib.Core.List.{List, []}
+use lib.Dec.{eqb}
 use lib.ListN.{length}
 use Rattle.paper.specs.Answers.{Answer, ok, _>>=_}
-use Rattle.paper.specs.Keys.{Key, recordSize, kindOf, keys, keysFrom}
+use Rattle.paper.specs.Numbers.{byteAt}
+use Rattle.paper.specs.Keys.{Key, recordSize, recordAt, kindOf, keys, keysFrom}
 use Rattle.paper.specs.Entry.{Match, entryOf}
 use Rattle.number.specs.Values.{value}
 use Rattle.keys.specs.declared.find.Found.{Found}
@@ -23,9 +26,15 @@ found F.Nothing = none
 abbrev pub keyCount : List ℕ → Answer ℕ
 keyCount list = keys list >>= λ ks. ok (length ks)
 
+-- what is read of key k's record
+pub record KeyRead (list : List ℕ) (k : ℕ) (r : KeyRecord) : Type 0 where
+  pub kind : r .kind ≡ byteAt (recordAt list k) 1
+  pub width : r .width ≡ byteAt (recordAt list k) 2
+  pub required : r .required ≡ eqb (byteAt (recordAt list k) 3) 1
+
 -- a key but for its name, on which no rule of an entry depends
 abbrev pub unnamed : KeyRecord → Key
-unnamed k = record { name = []; kind = kindOf (k .kind); width = k .width }
+unnamed k = record { name = []; kind = kindOf (k .kind); width = k .width; required = k .required }
 
 abbrev pub meant : Matched → Match
 meant m = record { first = value (m .first); second = value (m .second); length = m .length }

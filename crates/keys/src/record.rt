@@ -2,9 +2,9 @@
 ghost use mathlib.Core.Path.{_≡_};
 ghost use Prim.Native.Nat.{_<_, _/_};
 ghost use lib.ListN.{length};
-ghost use Rattle.paper.specs.Numbers.{byteAt};
 ghost use Rattle.paper.specs.Keys.{recordAt, recordSize, recordOk, nameOf};
 ghost use Rattle.keys.specs.Names.{nameOk};
+ghost use Rattle.keys.specs.Says.{KeyRead};
 use paper::kinds;
 use spelling::bytes;
 use spelling::word;
@@ -12,12 +12,23 @@ use spelling::word;
 pub struct KeyRecord {
     pub kind: u8,
     pub width: u8,
+    // Whether an entry must hold the key.
+    pub required: bool,
 }
 
 impl KeyRecord {
     pub const SIZE: usize = 80;
 
     pub const MOST: usize = 32;
+
+    // Where the flag stands that says whether the key must be present.
+    pub const FLAG: usize = 3;
+
+    // The flag of a key that must be present, and the greatest that there is.
+    pub const REQUIRED: u8 = 1;
+
+    // Where the zeros between the flag and the name begin.
+    pub const ZEROS: usize = 4;
 
     // Where the name begins.
     pub const NAME: usize = 16;
@@ -26,16 +37,16 @@ impl KeyRecord {
 
     pub const WIDEST: u8 = 128;
 
-    // Reads the kind and the width of key k.
+    // Reads the kind and the width of key k, and whether it must be present.
     pub fn read(list: &[u8], k: usize) -> KeyRecord
         requires { ⌜ k < length (now list) / recordSize ⌝ }
-        ensures { λ r. ⌜ r .kind ≡ byteAt (recordAt (now (list .entry)) k) 1 ⌝ }
-        ensures { λ r. ⌜ r .width ≡ byteAt (recordAt (now (list .entry)) k) 2 ⌝ }
+        ensures { λ r. ⌜ KeyRead (now (list .entry)) k r ⌝ }
     {
         let key = record_at(list, k);
         KeyRecord {
             kind: key[1],
             width: key[2],
+            required: key[KeyRecord::FLAG] == KeyRecord::REQUIRED,
         }
     }
 
@@ -102,7 +113,10 @@ pub(crate) fn record_ok(key: &[u8]) -> bool
     if !bytes::within(1, KeyRecord::WIDEST, key[2]) {
         return false;
     }
-    if !bytes::all_zero(&key[3..KeyRecord::NAME]) {
+    if KeyRecord::REQUIRED < key[KeyRecord::FLAG] {
+        return false;
+    }
+    if !bytes::all_zero(&key[KeyRecord::ZEROS..KeyRecord::NAME]) {
         return false;
     }
     if !name_ok(name_of(key)) {

@@ -95,11 +95,15 @@ fn kind_ok(key: KeyRecord, m: Matched) -> bool
     }
 }
 
+// Whether a key may be absent, and its record in the entry is that of an absent one.
 fn absent_ok(key: KeyRecord, bytes: &[u8]) -> bool
     requires { ⌜ length (now bytes) ≡ matchSize ⌝ }
     ensures { λ r. ⌜ r ≡ absentRule (unnamed key) (now (bytes .entry)) ⌝ }
 {
     if key.kind == kinds::EXACT {
+        return false;
+    }
+    if key.required {
         return false;
     }
     bytes::all_zero(&bytes[1..])

@@ -74,7 +74,7 @@ returns-3 c =
     let key = m .before .before .read2 in
     let bad = refuted (m .match-ok .ensures) (c .if3 .taken) in
     sym (decided l (stops (test l) (n l) (k l) (search needs)
-    (rule-broken (list l) (entry l) (k l) (search needs) (m .before .match-at .ensures .0) (key .result) (key .ensures .0) (key .ensures .1) bad)))
+    (rule-broken (list l) (entry l) (k l) (search needs) (m .before .match-at .ensures .0) (key .result) (key .ensures) bad)))
 
 loop-again : tie.Need-loop-again Inv-loop μ-loop
 loop-again c =
@@ -82,7 +82,7 @@ loop-again c =
     let l = loop-of m in
     let key = m .before .before .read2 in
     let good = granted (m .match-ok .ensures) (c .if3 .left) in
-    let passes = rule-kept (list l) (entry l) (k l) (search needs) (m .before .match-at .ensures .0) (key .result) (key .ensures .0) (key .ensures .1) good in
+    let passes = rule-kept (list l) (entry l) (k l) (search needs) (m .before .match-at .ensures .0) (key .result) (key .ensures) good in
     (search needs, sym (goes-on (test l) (n l) (k l) (search needs) passes) ∙ l .loop .inv .1)
 
 returns-4 : tie.Need-returns-4 Inv-loop μ-loop

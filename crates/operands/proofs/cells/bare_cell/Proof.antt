@@ -22,7 +22,7 @@ read-requires-2 c κs =
 matched-requires : tie.Need-matched-requires
 matched-requires c κs =
     let s = c .before .before .before .before .before in
-    rw (c .before .read .ensures .1) (readable (s .args .list .now) (s .args .entry .now) (s .pre) (s .args .k) (search needs) .1 .0)
+    rw (c .before .read .ensures .width) (readable (s .args .list .now) (s .args .entry .now) (s .pre) (s .args .k) (search needs) .1 .0)
 
 returns-2 : tie.Need-returns-2
 returns-2 c =
@@ -30,7 +30,7 @@ returns-2 c =
     let key = c .before .before .read in
     let n = length (a .list .now) / 80 in
     let h : a .k < n = search needs in
-    rw (key-at (a .list .now) n (a .k) h, match-at (a .list .now) (a .entry .now) n (a .k) h, ← c .before .read2 .ensures, ← key .ensures .0, ← key .ensures .1) (c .matched .ensures)
+    rw (key-at (a .list .now) n (a .k) h, match-at (a .list .now) (a .entry .now) n (a .k) h, ← c .before .read2 .ensures, ← key .ensures .kind, ← key .ensures .width) (c .matched .ensures)
 
 pub bare-cell-spec : {M : Type 1} → statement M
 bare-cell-spec =

@@ -15,7 +15,7 @@ returns c =
 returns-2 : tie.Need-returns-2
 returns-2 c =
     let a = c .before .before .before .args in
-    rw (key-at (a .list .now) (length (a .list .now) / 80) (a .k) (search needs), ← c .read .ensures .0, ← c .read .ensures .1)
+    rw (key-at (a .list .now) (length (a .list .now) / 80) (a .k) (search needs), ← c .read .ensures .kind, ← c .read .ensures .width)
 
 pub bare-type-spec : {M : Type 1} → statement M
 bare-type-spec = tie.close (tie.spec returns (λ c κs. search needs) returns-2)

@@ -15,7 +15,7 @@ returns c =
 returns-2 : tie.Need-returns-2
 returns-2 c =
     let a = c .before .before .before .before .args in
-    rw (key-at (a .list .now) (length (a .list .now) / 80) (a .k) (search needs), ← c .before .read .ensures .0, ← c .before .read .ensures .1) (c .field-type .ensures)
+    rw (key-at (a .list .now) (length (a .list .now) / 80) (a .k) (search needs), ← c .before .read .ensures .kind, ← c .before .read .ensures .width) (c .field-type .ensures)
 
 pub field-type-at-spec : {M : Type 1} → statement M
 field-type-at-spec = tie.close (tie.spec returns (λ c κs. search needs) (λ c κs. search needs) returns-2)

@@ -9,8 +9,8 @@ returns c =
     rw (
       ← c .before .before .before .before .match-at .ensures .0,
       eq-eqb _ _ (c .before .before .if1 .taken),
-      ← c .before .read .ensures .0,
-      ← c .before .read .ensures .1,
+      ← c .before .read .ensures .kind,
+      ← c .before .read .ensures .width,
       c .absent .ensures,
     )
 

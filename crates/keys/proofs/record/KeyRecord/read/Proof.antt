@@ -4,8 +4,8 @@ use Rattle.keys.proofs.record.KeyRecord.read.Tie as tie
 
 returns : tie.Need-returns
 returns c =
-    let e = c .before .before .record-at .ensures .0 in
-    (rw e, rw e)
+    let e = c .before .before .before .record-at .ensures .0 in
+    record { kind = rw e; width = rw e; required = rw e }
 
 pub read-spec : {M : Type 1} → statement M
-read-spec = tie.close (tie.spec (λ c κs. search needs) (λ c. search needs) (λ c. search needs) returns)
+read-spec = tie.close (tie.spec (λ c κs. search needs) (λ c. search needs) (λ c. search needs) (λ c. search needs) returns)

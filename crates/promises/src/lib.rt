@@ -11,6 +11,7 @@ mod parts;
 mod pieces;
 mod printing;
 mod reading;
+mod required;
 mod rules;
 mod running;
 mod summaries;

@@ -10,6 +10,7 @@ ghost use Rattle.paper.specs.TreeExamples.{TreeExamples};
 ghost use Rattle.paper.specs.SentenceExamples.{SentenceExamples};
 ghost use Rattle.paper.specs.KeyExamples.{KeyExamples};
 ghost use Rattle.paper.specs.EntryExamples.{EntryExamples};
+ghost use Rattle.paper.specs.RequiredExamples.{RequiredExamples};
 ghost use Rattle.paper.specs.TypeExamples.{TypeExamples};
 ghost use Rattle.paper.specs.MeaningExamples.{MeaningExamples};
 ghost use Rattle.paper.specs.BlockExamples.{BlockExamples};
@@ -91,6 +92,11 @@ pub fn examples_of_key_lists()
 // Entries with what they read as, and each rule of each kind, kept and broken.
 pub fn examples_of_entries()
     ensures { λ _. ⌜ EntryExamples ⌝ }
+{}
+
+// Keys that must be present: every call with them, with the marked entry, which lacks one, and with one that spells it out.
+pub fn examples_of_required_keys()
+    ensures { λ _. ⌜ RequiredExamples ⌝ }
 {}
 
 // Every pair of operand types under every operator, every field of every kind, and the places of refusals 11 to 14.

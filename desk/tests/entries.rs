@@ -31,7 +31,7 @@ fn list_of_32_and_33_keys() {
 
 #[test]
 fn every_part_of_a_record() {
-    let breakages: [(usize, u8); 14] = [
+    let breakages: [(usize, u8); 16] = [
         (0, 0),
         (0, 2),
         (0, 65),
@@ -40,7 +40,9 @@ fn every_part_of_a_record() {
         (1, 255),
         (2, 0),
         (2, 129),
-        (3, 1),
+        (3, 2),
+        (3, 255),
+        (4, 1),
         (15, 1),
         (16, b'1'),
         (16, b'.'),

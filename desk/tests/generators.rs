@@ -148,7 +148,7 @@ fn ranges_reach_their_limit() {
 fn prefixes_reach_the_borders_of_words() {
     let keys = [NamedKey::new(b"p", Kind::Lpm, 128)];
     let mut counts = BTreeMap::new();
-    for index in 0..6_000 {
+    for index in 0..8_000 {
         let mut rng = Rng::for_item(9, index);
         let entry = entries::good(&mut rng, &keys);
         let damaged = entries::damaged(&mut rng, &keys, &entry);
@@ -333,7 +333,7 @@ fn conforming(old: &[u8], new: &[u8], keys: &[Key]) -> Result<(Entry, Entry), &'
 #[test]
 fn rechecks_reach_their_limits() {
     let mut counts = BTreeMap::new();
-    for index in 0..8_000 {
+    for index in 0..12_000 {
         let request = common::generated(Call::Recheck, 15, index);
         let [text, list, _] = &request.inputs;
         let Answer::Summary(summary) = summarize(text, list) else {

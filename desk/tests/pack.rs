@@ -80,15 +80,107 @@ fn key_lists_with_remarks_and_blanks() {
     assert!(keys_from_text(b"").unwrap().is_empty());
 }
 
+/// The flag of every key, and the word that stands for it.
 #[test]
-fn wrong_key_lists() {
+fn required_keys_there_and_back() {
+    for kind in ["exact", "ternary", "lpm", "range", "optional"] {
+        for width in [1, 128] {
+            let free = format!("ipv6.dst {kind} {width}\n");
+            let required = format!("ipv6.dst {kind} {width} required\n");
+            for (text, flag) in [(free, 0), (required, 1)] {
+                let list = list_of(&text);
+                assert_eq!(list[Key::FLAG], flag, "{text}");
+                assert_eq!(keys_to_text(&key_list(&list).unwrap()), text);
+            }
+        }
+    }
+    let text = "a lpm 8 required  # a route\nb lpm 8  # required\n\tc\tlpm\t8\trequired\r\n";
+    let keys = keys_from_text(text.as_bytes()).unwrap();
+    let flags: Vec<u8> = keys.iter().map(|key| key.presence.byte()).collect();
+    assert_eq!(flags, [1, 0, 1]);
+    // The word names a key as well as any other.
+    let text = "required lpm 8 required\n";
+    assert_eq!(keys_to_text(&key_list(&list_of(text)).unwrap()), text);
+}
+
+/// A required key that is left out is refused by name, a spelled out one is not.
+#[test]
+fn required_keys_in_entries() {
+    let keys = "v exact 1 required\nipv6.dst lpm 128 required\nr range 16 required\no optional 4";
+    let cases = [
+        ("v 1", "line 1: ipv6.dst: a required key must be given"),
+        (
+            "v 1; ipv6.dst *",
+            "line 1: ipv6.dst: a required key must be given",
+        ),
+        (
+            "v 1; ipv6.dst ::/0",
+            "line 1: r: a required key must be given",
+        ),
+        ("v 1; r 1", "line 1: ipv6.dst: a required key must be given"),
+        (
+            "ipv6.dst ::/0; r 1",
+            "line 1: v: an exact key must be given",
+        ),
+        (
+            "\nv 1; r *; ipv6.dst ::/0",
+            "line 2: r: a required key must be given",
+        ),
+        (
+            "priority 2147483648",
+            "line 1: priority 2147483648 is not below 2^31",
+        ),
+    ];
+    for (text, wanted) in cases {
+        assert_eq!(entry_problem(keys, text), wanted, "{text}");
+    }
+    let spelled = "v 1; ipv6.dst ::/0; r 0..65535";
+    let named = keys_from_text(keys.as_bytes()).unwrap();
+    let packed = entries_from_text(spelled.as_bytes(), &named, Rules::Kept).unwrap();
+    let lent: Vec<Key> = named.iter().map(NamedKey::key).collect();
     assert_eq!(
-        key_problem("v exact"),
-        "line 1: a line is a name, a kind and a width"
+        entries_to_text(&packed, &lent).unwrap(),
+        "priority 0; v 1; ipv6.dst 0x0/0; r 0..65535; o *\n"
+    );
+}
+
+/// An entry that leaves a required key out unpacks by an old list only.
+#[test]
+fn a_missing_key_does_not_unpack() {
+    let unpacked = |keys: &str| {
+        let (list, entry) = (list_of(keys), entry_of(keys, "v 1"));
+        entries_to_text(&entry, &key_list(&list).unwrap())
+    };
+    assert_eq!(
+        unpacked("v exact 1\nd lpm 8").unwrap(),
+        "priority 0; v 1; d *\n"
     );
     assert_eq!(
-        key_problem("\n\nv exact 1 1"),
-        "line 3: a line is a name, a kind and a width"
+        unpacked("v exact 1\nd lpm 8 required").unwrap_err(),
+        "entry 1: the record of key d breaks its rule"
+    );
+}
+
+#[test]
+fn wrong_key_lists() {
+    for (text, line) in [
+        ("v exact", 1),
+        ("\n\nv exact 1 1", 3),
+        ("v required exact 1", 1),
+        ("v exact 1 Required", 1),
+        ("v exact 1 required required", 1),
+        ("v exact 1 required 1", 1),
+    ] {
+        let wanted = "a line is a name, a kind and a width, and may end in required";
+        assert_eq!(
+            key_problem(text),
+            format!("line {line}: {wanted}"),
+            "{text}"
+        );
+    }
+    assert_eq!(
+        key_problem("v exact required"),
+        "line 1: required is no width from 1 to 128"
     );
     assert_eq!(
         key_problem("v exakt 1"),

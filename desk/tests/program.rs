@@ -186,6 +186,20 @@ fn show_a_request() {
 }
 
 #[test]
+fn show_required_keys() {
+    let keys = "v exact 1\nd ternary 8 required";
+    let (list, entry) = (list_of(keys), entry_of(keys, "v 1"));
+    let request = Request::new(Call::Judge, b"true".to_vec(), list, entry);
+    let shown = text_of(&desk(&["show"], &bytes(&[request])).stdout);
+    let list = "  key list, 160 bytes:\n    v exact 1\n    d ternary 8 required\n";
+    assert!(shown.contains(list), "{shown}");
+    assert!(
+        shown.ends_with("  answer: refused 20 entry 40\n\n"),
+        "{shown}"
+    );
+}
+
+#[test]
 fn show_a_print() {
     let request = |between| Request::new(Call::Print, b"a;b".to_vec(), between, vec![1; 9]);
     let requests = bytes(&[request(Vec::new()), request(vec![2; 3])]);
@@ -312,7 +326,7 @@ fn compare_with_sed(script: &str) -> String {
 
 #[test]
 fn differences_are_found_and_made_small() {
-    let found = compare_with_sed("s/refused 13/refused 11/");
+    let found = compare_with_sed("s/^refused 13/refused 11/");
     assert!(found.contains("difference at request"));
     let smallest = found
         .split("the smallest found:")
@@ -398,6 +412,37 @@ fn pack_and_unpack() {
     let packed = file("packed", &packed);
     let text = desk(&["unpack", "entries", &keys, &packed], &[]).stdout;
     assert_eq!(text_of(&text), format!("{ENTRY}\n"));
+}
+
+/// The word for a required key goes there and back; an entry without the key is
+/// refused, and packed all the same where that is asked for.
+#[test]
+fn pack_and_unpack_required_keys() {
+    let text = "v exact 1\nipv6.dst lpm 128 required\n";
+    let keys = file("keys-required", text.as_bytes());
+    let packed = desk(&["pack", "keys", &keys], &[]).stdout;
+    assert_eq!((packed[3], packed[83]), (0, 1));
+    let list = file("list-required", &packed);
+    assert_eq!(text_of(&desk(&["unpack", "keys", &list], &[]).stdout), text);
+    let entries = file("entries-required", b"v 1; ipv6.dst ::/0\nv 1\n");
+    let output = desk(&["pack", "entries", &keys, &entries], &[]);
+    assert_eq!(output.status.code(), Some(2));
+    assert!(output.stdout.is_empty());
+    let told = text_of(&output.stderr);
+    let wanted = "entries-required:2: ipv6.dst: a required key must be given\n";
+    assert!(told.ends_with(wanted), "{told}");
+    let any = desk(&["pack", "entries", "--any", &keys, &entries], &[]).stdout;
+    assert_eq!(any.len(), 2 * 76);
+    let missing = file("missing-required", &any);
+    let output = desk(&["unpack", "entries", &keys, &missing], &[]);
+    assert_eq!(output.status.code(), Some(2));
+    let told = text_of(&output.stderr);
+    let wanted = "missing-required: entry 2: the record of key ipv6.dst breaks its rule\n";
+    assert!(told.ends_with(wanted), "{told}");
+    let mut wrong = packed;
+    wrong[83] = 2;
+    let output = desk(&["unpack", "keys", &file("list-wrong-flag", &wrong)], &[]);
+    assert!(text_of(&output.stderr).contains("byte 80: this record breaks its layout (refusal 3)"));
 }
 
 #[test]

@@ -1,7 +1,7 @@
 //! Random entries: conforming, nearly conforming, cut and extended.
 
-use super::damage;
 use super::rng::Rng;
+use super::{damage, required};
 use crate::lists::NamedKey;
 use crate::reference::entries::{Entry, Record};
 use crate::reference::keys::Kind;
@@ -36,8 +36,8 @@ pub fn value(rng: &mut Rng, width: u8) -> u128 {
 
 /// A record that conforms to this key.
 pub fn good_record(rng: &mut Rng, key: &NamedKey) -> Record {
-    if key.kind != Kind::Exact && rng.one_in(5) {
-        return Record::ABSENT;
+    if let Some(record) = required::matching_all(key).filter(|_| rng.one_in(5)) {
+        return record;
     }
     let first = value(rng, key.width);
     let plain = Record {
@@ -111,12 +111,15 @@ fn range(rng: &mut Rng, width: u8, plain: Record) -> Record {
 /// An entry with one thing wrong, or nearly so.
 pub fn damaged(rng: &mut Rng, keys: &[NamedKey], entry: &Entry) -> Vec<u8> {
     let mut bytes = entry.to_bytes();
-    match rng.below(12) {
+    match rng.below(14) {
         0 | 1 => damage::cut_or_extend(rng, &mut bytes),
         2 => bytes.truncate(rng.below(bytes.len() + 1)),
         3 => bytes.extend_from_slice(&[0; Record::SIZE]),
         4 => break_priority(&mut bytes),
         5 => damage::any(rng, &mut bytes),
+        6 | 7 if !required::flagged(keys).is_empty() => {
+            required::leave_out(rng, keys, &mut bytes);
+        }
         _ if keys.is_empty() => bytes[0] = rng.byte(),
         _ => {
             let index = rng.below(keys.len());

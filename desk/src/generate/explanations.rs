@@ -1,12 +1,12 @@
 //! Inputs that an explainer is likely to get wrong: texts of several parts, with
 //! ";" in parentheses and remarks; as many parts as there may be; a part that
-//! ends where the longest text does; and entries that are refused at the first
-//! key, at the last, or at the priority.
+//! ends where the longest text does; and entries that are refused at a key that they
+//! must not leave out, at the first key, at the last, or at the priority.
 
 use super::rng::Rng;
 use super::spelling::{self, Blanks};
 use super::texts::{self, Tokens};
-use super::{entries, snippets};
+use super::{entries, required, snippets};
 use crate::lists::{list_bytes, NamedKey};
 use crate::reference::calls::LONGEST_TEXT;
 use crate::reference::entries::Entry;
@@ -113,10 +113,14 @@ fn to_the_end(rng: &mut Rng) -> Vec<u8> {
 }
 
 /// An entry for these keys, of which there is one at least, that is most often
-/// refused with 20: at the first key, at the last, or at the priority, which
-/// hides the keys.
+/// refused with 20: at a key that must not be left out, at the first key, at the
+/// last, or at the priority, which hides the keys.
 pub fn broken_entry(rng: &mut Rng, keys: &[NamedKey], entry: &Entry) -> Vec<u8> {
     let mut bytes = entry.to_bytes();
+    if rng.one_in(3) {
+        required::leave_out(rng, keys, &mut bytes);
+        return bytes;
+    }
     if rng.one_in(5) {
         entries::break_priority(&mut bytes);
     }

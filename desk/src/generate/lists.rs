@@ -1,9 +1,9 @@
 //! Random key lists, good and damaged.
 
-use super::damage;
 use super::rng::Rng;
+use super::{damage, required};
 use crate::lists::{list_bytes, NamedKey};
-use crate::reference::keys::{Key, Kind};
+use crate::reference::keys::{Key, Kind, Presence};
 
 /// Names that are good keys, those among them that look like something else.
 const NAMES: [&str; 28] = [
@@ -54,8 +54,9 @@ pub fn good(rng: &mut Rng, about: usize) -> Vec<NamedKey> {
         let name = fresh_name(rng, &keys);
         let kind = rng.pick(&Kind::ALL);
         let width = width(rng, &keys);
-        keys.push(NamedKey { name, kind, width });
+        keys.push(NamedKey::new(&name, kind, width));
     }
+    required::set_flags(rng, &mut keys);
     keys
 }
 
@@ -63,19 +64,14 @@ pub fn good(rng: &mut Rng, about: usize) -> Vec<NamedKey> {
 /// as there may be.
 pub fn full(rng: &mut Rng) -> Vec<NamedKey> {
     const INITIALS: &[u8; Key::MOST] = b"abcdefghijklmnopqrstuvwxyzABCDE_";
-    INITIALS
-        .iter()
-        .map(|&initial| {
-            let length = rng.pick(&[1, 1, 2, Key::LONGEST_NAME - 1, Key::LONGEST_NAME]);
-            let mut name = vec![initial];
-            name.resize(length, b'x');
-            NamedKey {
-                name,
-                kind: rng.pick(&Kind::ALL),
-                width: rng.pick(&WIDTHS),
-            }
-        })
-        .collect()
+    let mut keys = INITIALS.map(|initial| {
+        let length = rng.pick(&[1, 1, 2, Key::LONGEST_NAME - 1, Key::LONGEST_NAME]);
+        let mut name = vec![initial];
+        name.resize(length, b'x');
+        NamedKey::new(&name, rng.pick(&Kind::ALL), rng.pick(&WIDTHS))
+    });
+    required::set_flags(rng, &mut keys);
+    keys.to_vec()
 }
 
 /// Widths repeat often, so that keys of one list can be compared.
@@ -120,12 +116,16 @@ fn any_name(rng: &mut Rng) -> Vec<u8> {
 /// The bytes of these keys, most often with one thing wrong.
 pub fn damaged(rng: &mut Rng, keys: &[NamedKey]) -> Vec<u8> {
     let mut list = list_bytes(keys);
-    match rng.below(10) {
+    match rng.below(12) {
         0 => damage::cut_or_extend(rng, &mut list),
         1 => list.extend_from_slice(&[0; Key::SIZE]),
         2 => list = too_many(rng),
         3 | 4 => repeat_a_name(rng, &mut list),
         5 => damage::any(rng, &mut list),
+        6 | 7 => {
+            let record = any_record(rng, &mut list);
+            record[Key::FLAG] = required::other_flag(rng, record[Key::FLAG]);
+        }
         _ => break_a_record(rng, &mut list),
     }
     list
@@ -151,19 +151,25 @@ fn repeat_a_name(rng: &mut Rng, list: &mut Vec<u8>) {
     let mut copy = list[start..start + Key::SIZE].to_vec();
     copy[1] = rng.below(5) as u8;
     copy[2] = rng.between(1, 128) as u8;
+    copy[Key::FLAG] = rng.pick(&Presence::ALL).byte();
     if rng.one_in(4) {
         // Two faults at one place.
-        copy[rng.pick(&[1, 2, 3])] = 200;
+        copy[rng.pick(&[1, 2, Key::FLAG])] = 200;
     }
     list.extend_from_slice(&copy);
 }
 
-fn break_a_record(rng: &mut Rng, list: &mut Vec<u8>) {
+/// One of the records of a list; an empty list gets one first.
+fn any_record<'l>(rng: &mut Rng, list: &'l mut Vec<u8>) -> &'l mut [u8] {
     if list.is_empty() {
         list.extend_from_slice(&NamedKey::new(b"k", Kind::Exact, 8).key().to_record());
     }
     let start = rng.below(list.len() / Key::SIZE) * Key::SIZE;
-    let record = &mut list[start..start + Key::SIZE];
+    &mut list[start..start + Key::SIZE]
+}
+
+fn break_a_record(rng: &mut Rng, list: &mut Vec<u8>) {
+    let record = any_record(rng, list);
     let length = usize::from(record[0]);
     match rng.below(9) {
         0 => record[0] = rng.pick(&[0, 65, 66, 255]),
@@ -171,7 +177,11 @@ fn break_a_record(rng: &mut Rng, list: &mut Vec<u8>) {
         2 => record[0] = record[0].wrapping_sub(1),
         3 => record[1] = rng.pick(&[5, 6, 128, 255]),
         4 => record[2] = rng.pick(&[0, 129, 255]),
-        5 => record[rng.pick(&[3, 3, 4, 8, 14, 15])] = rng.pick(&[1, 2, 255]),
+        5 => {
+            let (first, last) = (Key::RESERVED, Key::NAME_START - 1);
+            let any = rng.between(first, last);
+            record[rng.pick(&[first, any, any, last])] = rng.pick(&[1, 2, 255]);
+        }
         6 => record[16 + rng.below(length)] = rng.pick(b". 0-\0\xff'"),
         7 => record[rng.between(16, 79)] ^= 1 << rng.below(8),
         _ => record.copy_from_slice(&reserved_name(rng)),

@@ -12,6 +12,7 @@ pub mod octals;
 pub mod prints;
 pub mod programs;
 pub mod rechecks;
+pub mod required;
 pub mod rng;
 pub mod scenes;
 pub mod skips;

@@ -1,17 +1,17 @@
 //! Inputs that a summary or a recheck is likely to get wrong: texts that name no
 //! key, all, or all but one, by key or by field, once or twice, with ::priority or
 //! without; and entries that differ in one record, named or not, in the priority,
-//! or in that one spells out what the other leaves absent.
+//! or in that one spells out what the other leaves absent, or leaves out a key that
+//! must be present.
 
-use super::entries;
 use super::rng::Rng;
 use super::spelling::{self, Blanks};
 use super::texts::Tokens;
+use super::{entries, required};
 use crate::changes::{Change, ACCEPTED, VIOLATED};
 use crate::lists::{list_bytes, NamedKey};
 use crate::reference::entries::{Entry, Record};
 use crate::reference::fields::Field;
-use crate::reference::keys::Kind;
 use crate::reference::{judge, summarize, Answer, Summary};
 
 /// A text of a part for each key that it names.
@@ -101,12 +101,19 @@ pub fn change(rng: &mut Rng, text: &[u8], keys: &[NamedKey], entry: &Entry) -> C
     };
     let (old, new) = two_entries(rng, keys, entry, summary);
     let (mut old, mut new) = (old.to_bytes(), new.to_bytes());
-    match rng.below(16) {
+    match rng.below(20) {
         0 => old = entries::damaged(rng, keys, entry),
         1 => new = entries::damaged(rng, keys, entry),
         2 => {
             // Equal, and both damaged alike.
             old = entries::damaged(rng, keys, entry);
+            new = old.clone();
+        }
+        3 => required::leave_out(rng, keys, &mut old),
+        4 => required::leave_out(rng, keys, &mut new),
+        5 => {
+            // Both leave out the same.
+            required::leave_out(rng, keys, &mut old);
             new = old.clone();
         }
         _ => {}
@@ -183,7 +190,7 @@ fn other_record(rng: &mut Rng, key: &NamedKey, record: Record) -> Record {
 /// Leaves one of these keys absent in the old entry, and spells that out in the
 /// new one.
 fn spell_out(rng: &mut Rng, keys: &[NamedKey], among: &[usize], old: &mut Entry, new: &mut Entry) {
-    let may_be_absent = |&index: &usize| keys[index].kind != Kind::Exact;
+    let may_be_absent = |&index: &usize| keys[index].key().may_be_absent();
     let among: Vec<usize> = among.iter().copied().filter(may_be_absent).collect();
     if !among.is_empty() {
         let index = rng.pick(&among);

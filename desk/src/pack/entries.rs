@@ -127,7 +127,10 @@ fn conforming(entry: Entry, keys: &[NamedKey]) -> Result<Entry, String> {
 fn broken_rule(record: &Record, key: &NamedKey) -> String {
     let largest = all_ones(key.width);
     if !record.present {
-        return "an exact key must be given".to_string();
+        return match key.kind {
+            Kind::Exact => "an exact key must be given".to_string(),
+            _ => "a required key must be given".to_string(),
+        };
     }
     for number in [record.first, record.second] {
         if number > largest {

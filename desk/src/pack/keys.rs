@@ -2,7 +2,10 @@
 
 use super::lines::{lines, Problem};
 use crate::lists::NamedKey;
-use crate::reference::keys::{is_key_name, Key, Kind};
+use crate::reference::keys::{is_key_name, Key, Kind, Presence};
+
+/// The word after the width of a key that no entry may leave out.
+const REQUIRED: &str = "required";
 
 /// The keys that a readable list names.
 pub fn keys_from_text(text: &[u8]) -> Result<Vec<NamedKey>, Problem> {
@@ -19,8 +22,14 @@ pub fn keys_from_text(text: &[u8]) -> Result<Vec<NamedKey>, Problem> {
 
 fn key_from_line(content: &str) -> Result<NamedKey, String> {
     let words: Vec<&str> = content.split_whitespace().collect();
-    let [name, kind, width] = words[..] else {
-        return Err("a line is a name, a kind and a width".to_string());
+    let (name, kind, width, presence) = match words[..] {
+        [name, kind, width] => (name, kind, width, Presence::Free),
+        [name, kind, width, REQUIRED] => (name, kind, width, Presence::Required),
+        _ => {
+            return Err(format!(
+                "a line is a name, a kind and a width, and may end in {REQUIRED}"
+            ))
+        }
     };
     if !is_key_name(name.as_bytes()) {
         return Err(format!("{name} cannot name a key"));
@@ -35,7 +44,7 @@ fn key_from_line(content: &str) -> Result<NamedKey, String> {
     };
     match width.parse() {
         Ok(width) if (1..=Key::WIDEST).contains(&width) => {
-            Ok(NamedKey::new(name.as_bytes(), kind, width))
+            Ok(NamedKey::new(name.as_bytes(), kind, width).with(presence))
         }
         _ => Err(format!("{width} is no width from 1 to 128")),
     }
@@ -54,10 +63,14 @@ fn fits_after(keys: &[NamedKey], key: NamedKey) -> Result<NamedKey, String> {
 
 /// The readable list of these keys.
 pub fn keys_to_text(keys: &[Key]) -> String {
-    keys.iter()
-        .map(|key| {
-            let name = String::from_utf8_lossy(key.name);
-            format!("{name} {} {}\n", key.kind.name(), key.width)
-        })
-        .collect()
+    keys.iter().map(key_to_line).collect()
+}
+
+fn key_to_line(key: &Key) -> String {
+    let name = String::from_utf8_lossy(key.name);
+    let key_alone = format!("{name} {} {}", key.kind.name(), key.width);
+    match key.presence {
+        Presence::Free => format!("{key_alone}\n"),
+        Presence::Required => format!("{key_alone} {REQUIRED}\n"),
+    }
 }

@@ -3,6 +3,8 @@
 //! record: byte 0 present (0 or 1); byte 1 prefix length; bytes 2, 3 zero; 16
 //! bytes first number (value or low); 16 bytes second number (mask or high).
 //! Fields a kind lacks are zero. Numbers are below 2^W." Refusals 19 and 20.
+//! Document 02, request i: where the key's flag is 1, "the key must be present, and
+//! its absence is number 20."
 
 use super::answers::{Input, Refusal};
 use super::keys::{all_zero, Key, Kind};
@@ -107,10 +109,12 @@ impl Record {
         bytes
     }
 
-    /// "An absent key has 35 zero bytes after byte 0 and may not be exact."
+    /// "An absent key has 35 zero bytes after byte 0 and may not be exact", nor may
+    /// it be one that must be present. "A present record that spells these out is
+    /// allowed", whatever the flag.
     pub fn conforms(&self, key: &Key) -> bool {
         if !self.present {
-            return *self == Record::ABSENT && key.kind != Kind::Exact;
+            return *self == Record::ABSENT && key.may_be_absent();
         }
         let largest = all_ones(key.width);
         self.first <= largest && self.second <= largest && self.keeps_kind_rule(key)

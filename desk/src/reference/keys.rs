@@ -2,6 +2,10 @@
 //! bytes. Byte 0: name length, 1 to 64. Byte 1: kind [...]. Byte 2: width W, 1
 //! to 128. Bytes 3 to 15 zero. Bytes 16 to 79: the name, a key by 004's grammar
 //! and neither "true" nor "false", then zeros." Refusals 2, 3 and 4.
+//!
+//! Document 02, request i: "Byte 3 of a key record becomes a flag, 0 or 1; with 1
+//! the key must be present, and its absence is number 20. Other values are number
+//! 3. Old lists have 0 there and read as before." Bytes 4 to 15 stay zero.
 
 use super::answers::{Input, Refusal};
 use super::types::Type;
@@ -45,16 +49,43 @@ impl Kind {
     }
 }
 
+/// The flag of a key: what the list asks of every entry.
+#[derive(Clone, Copy, PartialEq, Eq, Debug)]
+pub enum Presence {
+    /// Nothing: an entry may leave the key out, as far as its kind allows that.
+    Free,
+    /// The key must be present.
+    Required,
+}
+
+impl Presence {
+    /// Both flags; each stands at the index that its byte names.
+    pub const ALL: [Presence; 2] = [Presence::Free, Presence::Required];
+
+    pub fn from_byte(byte: u8) -> Option<Presence> {
+        Presence::ALL.get(usize::from(byte)).copied()
+    }
+
+    pub fn byte(self) -> u8 {
+        self as u8
+    }
+}
+
 /// One good record of a key list.
 #[derive(Clone, Copy, PartialEq, Eq, Debug)]
 pub struct Key<'l> {
     pub name: &'l [u8],
     pub kind: Kind,
     pub width: u8,
+    pub presence: Presence,
 }
 
 impl<'l> Key<'l> {
     pub const SIZE: usize = 80;
+    /// The byte of the flag.
+    pub const FLAG: usize = 3;
+    /// The first of the bytes that are zero in every record.
+    pub const RESERVED: usize = 4;
     pub const NAME_START: usize = 16;
     pub const LONGEST_NAME: usize = 64;
     pub const WIDEST: u8 = 128;
@@ -65,15 +96,21 @@ impl<'l> Key<'l> {
         let length = usize::from(record[0]);
         let kind = Kind::from_byte(record[1])?;
         let width = record[2];
+        let presence = Presence::from_byte(record[Key::FLAG])?;
         if !(1..=Key::LONGEST_NAME).contains(&length) || !(1..=Key::WIDEST).contains(&width) {
             return None;
         }
         let (name, rest) = record[Key::NAME_START..].split_at(length);
-        let reserved = &record[3..Key::NAME_START];
+        let reserved = &record[Key::RESERVED..Key::NAME_START];
         if !is_key_name(name) || !all_zero(reserved) || !all_zero(rest) {
             return None;
         }
-        Some(Key { name, kind, width })
+        Some(Key {
+            name,
+            kind,
+            width,
+            presence,
+        })
     }
 
     /// The record of 80 bytes that describes this key.
@@ -82,8 +119,14 @@ impl<'l> Key<'l> {
         record[0] = u8::try_from(self.name.len()).expect("names are short");
         record[1] = self.kind.byte();
         record[2] = self.width;
+        record[Key::FLAG] = self.presence.byte();
         record[Key::NAME_START..Key::NAME_START + self.name.len()].copy_from_slice(self.name);
         record
+    }
+
+    /// May an entry leave this key out? An exact key it may not, flag or no flag.
+    pub fn may_be_absent(&self) -> bool {
+        self.kind != Kind::Exact && self.presence == Presence::Free
     }
 
     /// The type of the bare key.

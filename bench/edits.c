@@ -62,7 +62,8 @@ static size_t first_key(const struct table *table, bool named)
     return key;
 }
 
-/* Another record that conforms: an exact key's other lowest bit, or present for absent, or absent for present. */
+/* Another record that conforms: an exact key's other lowest bit, or present for absent, or absent for present. The keys that are
+   changed here may be absent. */
 static void change(uint8_t record[POLLUX_RECORD_SIZE], bool exact)
 {
     enum { LAST_OF_FIRST_NUMBER = 19 };

@@ -35,7 +35,8 @@ static bool good_record(const uint8_t *record)
     const uint8_t *name = record + 16;
     size_t length = record[0];
     return length >= 1 && length <= POLLUX_MAX_NAME && record[1] <= OPTIONAL && record[2] >= 1 &&
-           record[2] <= POLLUX_MAX_WIDTH && all_zero(record + 3, 13) && word_length(name, length) == length &&
+           record[2] <= POLLUX_MAX_WIDTH && record[POLLUX_KEY_FLAG] <= POLLUX_REQUIRED && all_zero(record + 4, 12) &&
+           word_length(name, length) == length &&
            all_zero(name + length, POLLUX_MAX_NAME - length) && !is(name, length, "true") && !is(name, length, "false");
 }
 
@@ -89,10 +90,17 @@ static bool keeps_kind_rule(struct type key, unsigned prefix_length, number firs
     }
 }
 
-static bool conforms(struct type key, const uint8_t *record)
+static bool may_be_absent(const uint8_t *list, size_t key)
+{
+    const uint8_t *record = list + key * POLLUX_KEY_SIZE;
+    return record[1] != EXACT && record[POLLUX_KEY_FLAG] != POLLUX_REQUIRED;
+}
+
+static bool conforms(const uint8_t *list, size_t index, const uint8_t *record)
 {
     if (record[0] == 0)
-        return key.kind != EXACT && all_zero(record, POLLUX_RECORD_SIZE);
+        return may_be_absent(list, index) && all_zero(record, POLLUX_RECORD_SIZE);
+    struct type key = key_type(list, index);
     number first = number_at(record + 4), second = number_at(record + 20);
     number largest = all_ones(key.width);
     return record[0] == 1 && record[2] == 0 && record[3] == 0 && first <= largest && second <= largest &&
@@ -108,7 +116,7 @@ bool check_entry(const uint8_t *list, size_t list_length, const uint8_t *entry, 
         return refuse(answer, POLLUX_ENTRY_RULE, POLLUX_ENTRY, 0);
     for (size_t key = 0; key < keys; key++) {
         size_t at = POLLUX_ENTRY_SIZE(key);
-        if (!conforms(key_type(list, key), entry + at))
+        if (!conforms(list, key, entry + at))
             return refuse(answer, POLLUX_ENTRY_RULE, POLLUX_ENTRY, at);
     }
     return true;

@@ -50,7 +50,14 @@ extern "C" {
 #define POLLUX_MAX_LEVELS 64 /* parentheses and prefix operators that are open at one time */
 #define POLLUX_MAX_PARTS 512 /* what stands between the ";" signs outside parentheses */
 
-#define POLLUX_KEY_SIZE 80 /* one record of a key list */
+/*
+ * One record of a key list. Byte 0: the length of the name, 1 to 64. Byte 1: the kind, 0 exact, 1 ternary, 2 lpm, 3 range, 4 optional.
+ * Byte 2: the width in bits, 1 to 128. Byte 3: 1 if every entry must have the key present, else 0, as older lists have it. Bytes 4 to 15
+ * are zero. From byte 16 on: the name, then zeros.
+ */
+#define POLLUX_KEY_SIZE 80
+#define POLLUX_KEY_FLAG 3 /* the byte of a record that says whether the key must be present */
+#define POLLUX_REQUIRED 1 /* what stands there if it must; nothing above it may */
 #define POLLUX_MAX_KEYS 32
 #define POLLUX_MAX_LIST (POLLUX_MAX_KEYS * POLLUX_KEY_SIZE) /* bytes */
 #define POLLUX_MAX_NAME 64                                  /* bytes of a key's name */
@@ -93,7 +100,7 @@ enum pollux_input {
 enum pollux_refusal {
     POLLUX_TEXT_TOO_LONG = 1,   /* at 4096 */
     POLLUX_LIST_LENGTH = 2,     /* not a multiple of 80, or over 2,560; at its length */
-    POLLUX_KEY_LAYOUT = 3,      /* at the record */
+    POLLUX_KEY_LAYOUT = 3,      /* a byte 3 that is neither 0 nor 1 included; at the record */
     POLLUX_KEY_REPEATED = 4,    /* at the later record */
     POLLUX_NO_TOKEN = 5,        /* at the first byte that forms no token */
     POLLUX_NUMERAL_LARGE = 6,   /* above 2^128 - 1; at the numeral */
@@ -111,7 +118,7 @@ enum pollux_refusal {
     POLLUX_INSTRUCTION = 18,    /* at the instruction, a skip whose landing does not fit included, or at the blocks' length if what is
                                    left at the end is not one bool */
     POLLUX_ENTRY_LENGTH = 19,   /* at its length */
-    POLLUX_ENTRY_RULE = 20,     /* at the priority (0) or at the key's record */
+    POLLUX_ENTRY_RULE = 20,     /* at the priority (0) or at the key's record, the absence of a key that must be present included */
     POLLUX_PRINT_LONG = 21,     /* over 4,096 bytes, or what is written over the buffer; at the buffer's length */
     POLLUX_OCTAL = 22           /* a well-formed octal numeral; at its first byte */
 };

@@ -2,19 +2,21 @@
 -- same value and code, and the same type or a refusal whose place went through p (`types-moved`). Two texts with one such tree pass the
 -- stages of a call together, or are refused with one number (`after`).
 use Prim.Native.Nat.{ℕ, _*_, _≤_}
-use mathlib.Core.Path.{_≡_, refl, sym, ap, ap₂, _∙_}
-use mathlib.Core.Option.{Option, none, some}
+use mathlib.Core.Path.{_≡_, refl, sym, ap, ap₂, fun-ext, _∙_}
+use mathlib.Core.Bool.{Bool, true, false, _&&_}
+use mathlib.Core.Option.{Option, none, some, Option·map}
 use mathlib.Core.List.{List}
 use lib.ListN.{length}
 use lib.Dec.{leb}
+use lib.IntN.{negℤ}
 use borrow.Author.Tests.{le-leb}
 use Rattle.paper.specs.Answers.{inText, inList, inEntry, inBlocks, inBuffer, Answer, ok, refused, _>>=_, require}
-use Rattle.paper.specs.Tokens.{plain, bytes, sameBytes, mostText}
+use Rattle.paper.specs.Tokens.{plain, bytes, sameBytes, notSign, minusSign, Comparison, mostText}
 use Rattle.paper.specs.Keys.{Key, keys, find}
 use Rattle.paper.specs.Entry.{Entry, entryOf}
 use Rattle.paper.specs.Grammar.{Tree, truth, number, key, field, attribute, prefixed, joined, compared, placeOf}
-use Rattle.paper.specs.Types.{Ty, bool, int, of, when, andThen, bareType, fieldNamed, fieldType, prefixType, joinType, comparisonType, operatorType, known, namedType, rootType, typeOf, typed}
-use Rattle.paper.specs.Meaning.{valueOf, isTrue}
+use Rattle.paper.specs.Types.{Ty, bool, int, of, when, andThen, bareType, fieldNamed, fieldType, prefixType, joinType, comparisonType, spelled, holdsAll, keepsBits, bitsKept, operatorType, comparedType, known, namedType, rootType, typeOf, typed}
+use Rattle.paper.specs.Meaning.{tyOf, comparisonValue, valueOf, isTrue}
 use Rattle.paper.specs.Blocks.{blockSize, blocksNeeded, blocksOf}
 use Rattle.paper.specs.Translating.{hasType, codeOf}
 use Rattle.paper.specs.Print.{bare}
@@ -60,6 +62,46 @@ module _ (p : ℕ → ℕ) where
   operator-moved at none = refl
   operator-moved at (some a) = refl
 
+  place-moved : (t : Tree) → placeOf (moved t) ≡ p (placeOf t)
+  place-moved (truth at b) = refl
+  place-moved (number at n) = refl
+  place-moved (key at w) = refl
+  place-moved (field at w to f) = refl
+  place-moved (attribute at to f) = refl
+  place-moved (prefixed at o t) = refl
+  place-moved (joined at o l r) = refl
+  place-moved (compared at c l r) = refl
+
+  spelled-moved : (t : Tree) → spelled (moved t) ≡ spelled t
+  spelled-moved (truth at b) = refl
+  spelled-moved (number at n) = refl
+  spelled-moved (key at w) = refl
+  spelled-moved (field at w to f) = refl
+  spelled-moved (attribute at to f) = refl
+  spelled-moved (prefixed at notSign t) = refl
+  spelled-moved (prefixed at minusSign t) = ap (Option·map negℤ) (spelled-moved t)
+  spelled-moved (joined at o l r) = refl
+  spelled-moved (compared at c l r) = refl
+
+  keeps-moved : (t : Tree) (a : Ty) → keepsBits (moved t) a ≡ keepsBits t a
+  keeps-moved t bool = refl
+  keeps-moved t int = refl
+  keeps-moved t (of k w) = ap (holdsAll w) (spelled-moved t)
+
+  require-moved : (b : Bool) (n at : ℕ) → require b n inText (p at) ≡ placed p (require b n inText at)
+  require-moved true n at = refl
+  require-moved false n at = refl
+
+  bits-moved : (t : Tree) (a : Ty) → bitsKept (moved t) a ≡ placed p (bitsKept t a)
+  bits-moved t a = rw (keeps-moved t a, place-moved t) (require-moved (keepsBits t a) 23 (placeOf t))
+
+  compared-moved : (at : ℕ) (c : Comparison) (l r : Tree) (a b : Ty)
+      → comparedType (p at) c (moved l) (moved r) a b ≡ placed p (comparedType at c l r a b)
+  compared-moved at c l r a b =
+      rw (operator-moved at (comparisonType c a b), bits-moved l b, bits-moved r a)
+      (bind-placed (operatorType at (comparisonType c a b)) _ _
+      (λ t. bind-placed (bitsKept l b) _ _ (λ _. bind-placed (bitsKept r a) _ _ (λ _. refl))))
+
   types-moved : (ks : List Key) (t : Tree) → typeOf ks (moved t) ≡ placed p (typeOf ks t)
   unfolding typeOf
   types-moved ks (truth at b) = refl
@@ -76,17 +118,7 @@ module _ (p : ℕ → ℕ) where
   types-moved ks (compared at c l r) =
       rw (types-moved ks l)
       (bind-placed (typeOf ks l) _ _
-      (λ a. rw (types-moved ks r) (bind-placed (typeOf ks r) _ _ (λ b. operator-moved at (comparisonType c a b)))))
-
-  place-moved : (t : Tree) → placeOf (moved t) ≡ p (placeOf t)
-  place-moved (truth at b) = refl
-  place-moved (number at n) = refl
-  place-moved (key at w) = refl
-  place-moved (field at w to f) = refl
-  place-moved (attribute at to f) = refl
-  place-moved (prefixed at o t) = refl
-  place-moved (joined at o l r) = refl
-  place-moved (compared at c l r) = refl
+      (λ a. rw (types-moved ks r) (bind-placed (typeOf ks r) _ _ (λ b. compared-moved at c l r a b))))
 
   root-moved : (t : Tree) (a : Ty) → rootType (moved t) a ≡ placed p (rootType t a)
   root-moved t bool = refl
@@ -111,7 +143,13 @@ module _ (p : ℕ → ℕ) where
   values-moved ks e (attribute at to f) = refl
   values-moved ks e (prefixed at o t) = rw (values-moved ks e t)
   values-moved ks e (joined at o l r) = rw (values-moved ks e l, values-moved ks e r)
-  values-moved ks e (compared at c l r) = rw (values-moved ks e l, values-moved ks e r)
+  values-moved ks e (compared at c l r) =
+      rw (values-moved ks e l, values-moved ks e r)
+      (ap₂
+      (λ (left right : Ty → Bool).
+      andThen (valueOf ks e l)
+      (λ a. andThen (valueOf ks e r) (λ b. andThen (comparisonValue c a b) (when (left (tyOf b) && right (tyOf a))))))
+      (fun-ext (keeps-moved l)) (fun-ext (keeps-moved r)))
 
   code-moved : (ks : List Key) (t : Tree) → codeOf ks (moved t) ≡ codeOf ks t
   unfolding codeOf

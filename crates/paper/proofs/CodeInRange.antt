@@ -11,7 +11,7 @@ use Rattle.paper.specs.Answers.{Answer, ok, refused, _>>=_}
 use Rattle.paper.specs.Tokens.{bytes, sameBytes, Prefix, notSign, minusSign}
 use Rattle.paper.specs.Keys.{Key, findFrom, find}
 use Rattle.paper.specs.Grammar.{Tree, truth, number, key, field, attribute, prefixed, joined, compared}
-use Rattle.paper.specs.Types.{Ty, bool, int, of, sameTy, when, andThen, Field, value, mask, prefixLength, low, high, has, fieldTy, fieldNamed, bareType, fieldType, prefixType, isNumber, joinType, meetKind, meet, compares, comparisonType, operatorType, known, namedType, typeOf}
+use Rattle.paper.specs.Types.{Ty, bool, int, of, sameTy, when, andThen, Field, value, mask, prefixLength, low, high, has, fieldTy, fieldNamed, bareType, fieldType, prefixType, isNumber, joinType, meetKind, meet, compares, comparisonType, bitsKept, operatorType, known, namedType, typeOf}
 use Rattle.paper.specs.Meaning.{connective}
 use Rattle.paper.specs.Code.{pushKey, pushField, compare}
 use Rattle.paper.specs.Translating.{hasType, meeting, convertTo, changed, conversion, operation, pushing, codeOf}
@@ -77,6 +77,12 @@ known-narrow : (at to : ℕ) (o : Option ℕ) (f : ℕ → Option Ty) → ((k : 
 known-narrow at to none f h = tt
 known-narrow at to (some k) f h = of-named to (f k) (h k)
 
+-- two tests that pass a type on
+of-tests : (x y : Answer (Unit {0})) (a : Ty) → Narrow a → Of Narrow (x >>= λ _. y >>= λ _. ok a)
+of-tests (ok _) (ok _) a n = n
+of-tests (ok _) (refused m i at) a n = tt
+of-tests (refused m i at) y a n = tt
+
 type-narrow : (ks : List Key) → All (λ x. Width (x .width)) ks → (t : Tree) → Of Narrow (typeOf ks t)
 unfolding typeOf
 type-narrow ks h (truth at b) = tt
@@ -102,7 +108,10 @@ type-narrow ks h (compared at c l r) =
     of-bind Narrow Narrow (typeOf ks l) _ (type-narrow ks h l)
     (λ a _.
     of-bind Narrow Narrow (typeOf ks r) _ (type-narrow ks h r)
-    (λ b _. of-operator at (comparisonType c a b) (if-when Narrow (compares c a b) bool tt)))
+    (λ b _.
+    of-bind Narrow Narrow (operatorType at (comparisonType c a b)) _
+    (of-operator at (comparisonType c a b) (if-when Narrow (compares c a b) bool tt))
+    (of-tests (bitsKept l b) (bitsKept r a))))
 
 -- indices of keys
 

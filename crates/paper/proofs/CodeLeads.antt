@@ -4,7 +4,7 @@ use Prim.Native.Nat.{ℕ, _+_, _≤_, _<_}
 use native.Mathlib.Omega.{arith}
 use mathlib.Core.Path.{_≡_, refl, sym, subst, _∙_}
 use mathlib.Core.Logic.{inl, inr}
-use mathlib.Core.Bool.{Bool, true, false, cond, Bool·beq, false≢true}
+use mathlib.Core.Bool.{Bool, true, false, cond, _&&_, Bool·beq, false≢true}
 use mathlib.Core.Option.{Option, none, some, Option·map}
 use mathlib.Core.List.{List, [], _∷_, _++_}
 use lib.ListN.{length, length-append}
@@ -15,7 +15,7 @@ use Rattle.paper.specs.Keys.{Key, find}
 use Rattle.paper.specs.Entry.{Entry}
 use Rattle.paper.specs.Grammar as G
 use Rattle.paper.specs.Grammar.{Tree}
-use Rattle.paper.specs.Types.{Ty, bool, int, of, sameTy, when, andThen, Field, fieldNamed, meet, takes, typeOf}
+use Rattle.paper.specs.Types.{Ty, bool, int, of, sameTy, when, andThen, Field, fieldNamed, meet, takes, keepsBits, typeOf}
 use Rattle.paper.specs.Meaning.{Value, truth, whole, matched, tyOf, bareValue, fieldValue, prefixValue, Connective, both, either, ifThen, connective, connect, joinValue, inType, compareValue, comparisonValue, isTrue, valueOf}
 use Rattle.paper.specs.Code.{Skip, Instruction, pushBool, pushInt, pushKey, pushField, pushPriority, convert, compare, connects, skip, mostHeld, put, act, valueAction, skipOf}
 use Rattle.paper.specs.Translating.{hasType, changed, convertTo, pushing, operation, settledBy, settledTo, skipFor, codeOf, stepsOf}
@@ -77,6 +77,13 @@ module _ (ks : List Key) (e : Entry) (way : Way ks e) where
   gives-then xs ys n m s t u none g h k = tt
   gives-then xs ys n m s t u (some a) g h k = leads-gives xs ys n m s (a ∷ t) u (g a) h (k a)
 
+  -- a value that a test takes away leaves nothing to show
+  gives-when : (xs : List Instruction) (n : ℕ) (s t : List Value) (o : Option Value) (b : Bool) → Gives xs n s t o
+      → Gives xs n s t (andThen o (when b))
+  gives-when xs n s t none b h = tt
+  gives-when xs n s t (some a) true h = h
+  gives-when xs n s t (some a) false h = tt
+
   -- a value is converted where its type is not the one that is met
 
   converts-to : (m : Ty) (a : Value) (s : List Value) → length s < mostHeld → takes m (tyOf a) ≡ true
@@ -118,16 +125,19 @@ module _ (ks : List Key) (e : Entry) (way : Way ks e) where
       (converts m b (x ∷ s) (omega arith) (both .1)))
       (gives-one (compare c) (y ∷ x ∷ s) s (compareValue c x y) refl refl (omega arith)))
 
-  comparison-gives : (c : Comparison) (xs ys : List Instruction) (n k : ℕ) (ta tb : Option Ty) (va vb : Option Value)
+  comparison-gives : (c : Comparison) (xs ys : List Instruction) (n k : ℕ) (keeps : Value → Value → Bool)
+      → (ta tb : Option Ty) (va vb : Option Value)
       → ta ≡ Option·map tyOf va → tb ≡ Option·map tyOf vb → (s : List Value) → length s + 1 < mostHeld
       → Gives xs n s s va → ((t : List Value) → length t ≡ length s + 1 → Gives ys k t t vb)
       → let m = andThen ta (λ a. andThen tb (meet a)) in
       Gives (xs ++ changed ta m ++ ys ++ changed tb m ++ (compare c ∷ [])) (n + length (changed ta m) + k + length (changed tb m) + 1) s s
-      (andThen va (λ a. andThen vb (comparisonValue c a)))
-  comparison-gives c xs ys n k ta tb none vb p q s room left right = tt
-  comparison-gives c xs ys n k ta tb (some a) none p q s room left right = tt
-  comparison-gives c xs ys n k ta tb (some a) (some b) p q s room left right =
-      rw (p, q) (compared-gives c xs ys n k a b s room left right (meet (tyOf a) (tyOf b)) refl)
+      (andThen va (λ a. andThen vb (λ b. andThen (comparisonValue c a b) (when (keeps a b)))))
+  comparison-gives c xs ys n k keeps ta tb none vb p q s room left right = tt
+  comparison-gives c xs ys n k keeps ta tb (some a) none p q s room left right = tt
+  comparison-gives c xs ys n k keeps ta tb (some a) (some b) p q s room left right =
+      rw (p, q)
+      (gives-when _ _ s s (comparisonValue c a b) (keeps a b)
+      (compared-gives c xs ys n k a b s room left right (meet (tyOf a) (tyOf b)) refl))
 
   -- a bool on each side, the skip after the left one, over the right one and the join
 
@@ -194,8 +204,9 @@ module _ (ks : List Key) (e : Entry) (way : Way ks e) where
         joined-gives (connective o) (codeOf ks l) (codeOf ks r) (stepsOf ks e l) (stepsOf ks e r) (valueOf ks e l) (valueOf ks e r) s
         (omega (arith, needs-some r)) (code-gives l s (omega arith)) (λ t h. code-gives r t (omega arith))
     code-gives (G.compared at c l r) s room =
-        comparison-gives c (codeOf ks l) (codeOf ks r) (stepsOf ks e l) (stepsOf ks e r) (hasType (typeOf ks l)) (hasType (typeOf ks r))
-        (valueOf ks e l) (valueOf ks e r) (values-have-types ks e covers l) (values-have-types ks e covers r) s (omega (arith, needs-some r))
+        comparison-gives c (codeOf ks l) (codeOf ks r) (stepsOf ks e l) (stepsOf ks e r)
+        (λ a b. keepsBits l (tyOf b) && keepsBits r (tyOf a)) (hasType (typeOf ks l)) (hasType (typeOf ks r)) (valueOf ks e l) (valueOf ks e r)
+        (values-have-types ks e covers l) (values-have-types ks e covers r) s (omega (arith, needs-some r))
         (code-gives l s (omega arith)) (λ t h. code-gives r t (omega arith))
 
     pub code-leads : (t : Tree) (v : Value) → valueOf ks e t ≡ some v → (s : List Value) → length s + needs t ≤ mostHeld

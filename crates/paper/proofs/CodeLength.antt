@@ -9,7 +9,7 @@ use lib.ListN.{length, length-append}
 use Rattle.paper.specs.Answers.{ok, _>>=_}
 use Rattle.paper.specs.Keys.{find}
 use Rattle.paper.specs.Grammar.{truth, number, key, field, attribute, prefixed, joined, compared}
-use Rattle.paper.specs.Types.{Ty, bool, int, of, sameTy, when, andThen, Field, fieldNamed, takes, meet, fieldType, prefixType, joinType, comparisonType, operatorType, known, namedType, typeOf}
+use Rattle.paper.specs.Types.{Ty, bool, int, of, sameTy, when, andThen, Field, fieldNamed, takes, meet, fieldType, prefixType, joinType, operatorType, comparedType, known, namedType, typeOf}
 use Rattle.paper.specs.Code.{pushKey, pushField}
 use Rattle.paper.specs.Translating.{hasType, changed, convertTo, pushing, codeOf, conversions}
 use Rattle.paper.specs.CodeCorrect.{CodeCounted, FewBesideNodes, CodeFits}
@@ -45,8 +45,8 @@ code-counted ks (joined at o l r) a h =
     let y = bind-ok (typeOf ks r) (λ b. operatorType at (joinType (x .0) b)) a (x .2) in
     simp length-append (omega (arith, code-counted ks l (x .0) (x .1), code-counted ks r (y .0) (y .1)))
 code-counted ks (compared at c l r) a h =
-    let x = bind-ok (typeOf ks l) (λ a. typeOf ks r >>= λ b. operatorType at (comparisonType c a b)) a h in
-    let y = bind-ok (typeOf ks r) (λ b. operatorType at (comparisonType c (x .0) b)) a (x .2) in
+    let x = bind-ok (typeOf ks l) (λ a. typeOf ks r >>= λ b. comparedType at c l r a b) a h in
+    let y = bind-ok (typeOf ks r) (comparedType at c l r (x .0)) a (x .2) in
     simp length-append (omega (arith, code-counted ks l (x .0) (x .1), code-counted ks r (y .0) (y .1)))
 
 -- one of the operands has the type that is met

@@ -80,11 +80,11 @@ module _ (text list : List ℕ) where
         refl,
       )
 
-  checkable-answer : Checkable text list → checkAnswer text list ≡ ok tt
+  pub checkable-answer : Checkable text list → checkAnswer text list ≡ ok tt
   unfolding checkAnswer
   checkable-answer c = rw (checkable-restriction c)
 
-  answer-checkable : checkAnswer text list ≡ ok tt → Checkable text list
+  pub answer-checkable : checkAnswer text list ≡ ok tt → Checkable text list
   unfolding checkAnswer
   answer-checkable e =
       let (r, passed, _) = bind-ok (restriction text list) (λ _. ok tt) tt e in

@@ -5,7 +5,7 @@ use native.Mathlib.Nat.{add-zero}
 use native.Mathlib.Omega.{arith}
 use mathlib.Core.Path.{_≡_, refl, sym, ap, ap₂, subst, _∙_, fun-ext}
 use mathlib.Core.Logic.{Or·inl, Or·inr}
-use mathlib.Core.Bool.{Bool, true, false, _||_, or-eq-true-iff}
+use mathlib.Core.Bool.{Bool, true, false, _&&_, _||_, or-eq-true-iff}
 use mathlib.Core.Option.{Option, none, some, Option·map}
 use mathlib.Core.List.{List, [], _∷_}
 use lib.ListN.{length, getElem?}
@@ -18,8 +18,8 @@ use Rattle.paper.specs.Keys.{Key, find}
 use Rattle.paper.specs.Entry.{Match, Entry, headSize, matchSize, matchAt, matchOf, matchesFrom, ruleTest, priorityOf, entryOf}
 use Rattle.paper.specs.Grammar as G
 use Rattle.paper.specs.Grammar.{Tree}
-use Rattle.paper.specs.Types.{when, andThen, Field, fieldNamed}
-use Rattle.paper.specs.Meaning.{Value, valueOf, bareValue, fieldValue, prefixValue, joinValue, connective, comparisonValue, isTrue, whole}
+use Rattle.paper.specs.Types.{when, andThen, Field, fieldNamed, keepsBits}
+use Rattle.paper.specs.Meaning.{Value, tyOf, valueOf, bareValue, fieldValue, prefixValue, joinValue, connective, comparisonValue, isTrue, whole}
 use Rattle.paper.specs.Calls.{Restriction, restriction, judgeAnswer}
 use Rattle.paper.specs.Named.{isIt, names, marked}
 use Rattle.paper.specs.RecheckedRight.{SameNamed}
@@ -85,7 +85,8 @@ module _ (ks : List Key) (e f : Entry) where
       (agree-value l (left-agree l r (G.joined at o l r) j h)) (agree-value r (right-agree l r (G.joined at o l r) j h))
   agree-value (G.compared at c l r) h =
       let j : Joins l r (G.compared at c l r) = record { named = λ k. refl; mark = refl } in
-      ap₂ (λ (v w : Option Value). andThen v (λ x. andThen w (comparisonValue c x)))
+      let keeps : Value → Value → Bool = λ x y. keepsBits l (tyOf y) && keepsBits r (tyOf x) in
+      ap₂ (λ (v w : Option Value). andThen v (λ x. andThen w (λ y. andThen (comparisonValue c x y) (when (keeps x y)))))
       (agree-value l (left-agree l r (G.compared at c l r) j h)) (agree-value r (right-agree l r (G.compared at c l r) j h))
 
 -- a conforming entry reads as its bytes say

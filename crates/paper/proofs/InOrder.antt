@@ -7,7 +7,7 @@ use mathlib.Core.List.{List, [], _∷_, _++_}
 use lib.ListN.{length}
 use Rattle.paper.specs.Answers.{ok}
 use Rattle.paper.specs.Tokens.{join, comparison, closing, Token, tokens}
-use Rattle.paper.specs.Grammar.{Tree, truth, number, key, field, attribute, prefixed, joined, compared, parsed}
+use Rattle.paper.specs.Grammar.{Tree, truth, number, key, field, attribute, prefixed, joined, compared, placeOf, parsed}
 use Rattle.paper.specs.Sentences.{signAt}
 use Rattle.paper.specs.Places.{Everywhere, Rising}
 use Rattle.paper.specs.Calls.{tree}
@@ -28,6 +28,17 @@ InOrder (attribute at to f) = Unit {0}
 InOrder (prefixed at o t) = InOrder t
 InOrder (joined at o l r) = Apart l r × InOrder l × InOrder r
 InOrder (compared at c l r) = Apart l r × InOrder l × InOrder r
+
+-- a tree's own place is one of its places
+pub root-place : (P : ℕ → Type 0) (t : Tree) → Everywhere P t → P (placeOf t)
+root-place P (truth at b) h = h
+root-place P (number at n) h = h
+root-place P (key at w) h = h
+root-place P (field at w to f) h = h .0
+root-place P (attribute at to f) h = h .0
+root-place P (prefixed at o t) h = h .0
+root-place P (joined at o l r) h = h .0
+root-place P (compared at c l r) h = h .0
 
 pub everywhere : (P Q : ℕ → Type 0) → ((p : ℕ) → P p → Q p) → (t : Tree) → Everywhere P t → Everywhere Q t
 everywhere P Q f (truth at b) h = f at h

@@ -33,6 +33,7 @@ pub mod PrintExamples
 pub mod PartExamples
 pub mod SummaryExamples
 pub mod RequiredExamples
+pub mod BitsExamples
 pub mod FixExamples
 pub mod AnswerExamples
 pub mod FaultExamples
@@ -112,6 +113,7 @@ pub mod PartsInText
 pub mod RecordsRefused
 pub mod NamesInList
 pub mod Required
+pub mod BitsKept
 pub mod KeySets
 pub mod Named
 pub mod Depends
@@ -127,6 +129,7 @@ pub mod WrongRecheckers
 pub mod WrongRunners
 pub mod WrongFixers
 pub mod WrongFixersExist
+pub mod WrongCheckers
 pub mod WrongRecheckersExist
 pub mod WrongExplainersExist
 pub mod PiecesRight

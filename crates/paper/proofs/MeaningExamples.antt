@@ -35,6 +35,7 @@ meaningExamples =
       bits = bits;
       matches = matches;
       on-the-marked-entry = refl;
+      of-ints-reduced = refl;
       of-one-value = refl;
       one-value = one-value;
       of-ports = ports;

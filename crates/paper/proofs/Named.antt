@@ -12,7 +12,7 @@ use Rattle.paper.specs.Answers.{Answer, ok, _>>=_}
 use Rattle.paper.specs.Tokens.{bytes, sameBytes}
 use Rattle.paper.specs.Keys.{Key, find}
 use Rattle.paper.specs.Grammar.{Tree, truth, number, key, field, attribute, prefixed, joined, compared}
-use Rattle.paper.specs.Types.{Ty, int, when, prefixType, joinType, comparisonType, operatorType, namedType, typeOf}
+use Rattle.paper.specs.Types.{Ty, int, when, prefixType, joinType, operatorType, comparedType, namedType, typeOf}
 use Rattle.paper.specs.Named.{isIt, names, marked}
 use Rattle.paper.specs.RecheckedRight.{namesPriority}
 use Rattle.paper.proofs.Basics.{If}
@@ -55,12 +55,11 @@ module _ (ks : List Key) where
   attribute-priority to false a h = absurd (never-ok h)
 
   -- both operands have types
-  operands : (at : ℕ) (l r : Tree) (f : Ty → Ty → Option Ty) (a : Ty)
-      → (typeOf ks l >>= λ x. typeOf ks r >>= λ y. operatorType at (f x y)) ≡ ok a
+  operands : (l r : Tree) (f : Ty → Ty → Answer Ty) (a : Ty) → (typeOf ks l >>= λ x. typeOf ks r >>= λ y. f x y) ≡ ok a
       → ((x : Ty) × (typeOf ks l ≡ ok x)) × ((y : Ty) × (typeOf ks r ≡ ok y))
-  operands at l r f a h =
-      let (x, left, rest) = bind-ok (typeOf ks l) (λ x. typeOf ks r >>= λ y. operatorType at (f x y)) a h in
-      let (y, right, _) = bind-ok (typeOf ks r) (λ y. operatorType at (f x y)) a rest in
+  operands l r f a h =
+      let (x, left, rest) = bind-ok (typeOf ks l) (λ x. typeOf ks r >>= λ y. f x y) a h in
+      let (y, right, _) = bind-ok (typeOf ks r) (λ y. f x y) a rest in
       ((x, left), (y, right))
 
   pub mark-is-priority : (t : Tree) (a : Ty) → typeOf ks t ≡ ok a → marked t ≡ namesPriority t
@@ -74,8 +73,8 @@ module _ (ks : List Key) where
       let (x, has, _) = bind-ok (typeOf ks t) (λ x. operatorType at (prefixType o x)) a h in
       mark-is-priority t x has
   mark-is-priority (joined at o l r) a h =
-      let ((x, left), (y, right)) = operands at l r joinType a h in
+      let ((x, left), (y, right)) = operands l r (λ x y. operatorType at (joinType x y)) a h in
       ap₂ (λ (p q : Bool). p || q) (mark-is-priority l x left) (mark-is-priority r y right)
   mark-is-priority (compared at c l r) a h =
-      let ((x, left), (y, right)) = operands at l r (comparisonType c) a h in
+      let ((x, left), (y, right)) = operands l r (comparedType at c l r) a h in
       ap₂ (λ (p q : Bool). p || q) (mark-is-priority l x left) (mark-is-priority r y right)

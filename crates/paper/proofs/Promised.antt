@@ -292,13 +292,18 @@ summarizing-same = same-says summarizingSays summaries
 pub explanation-same : (r s : Explanation) → explanationSays r ≡ explanationSays s → r ≡ s
 explanation-same r s h = sym (says-for r) ∙ ap explanationFor h ∙ says-for s
 
+-- and each answer is that of a result
+
+pub one-checking : (a : Answer (Unit {0})) → Sole (λ r. checkingSays r ≡ a)
+one-checking = one-says checkingSays checkings
+
 -- calls
 
 pub no-second-result : NoSecondResult
 no-second-result =
     record {
       read = λ text. one-says readingSays readings (readAnswer text);
-      check = λ text list. one-says checkingSays checkings (checkAnswer text list);
+      check = λ text list. one-checking (checkAnswer text list);
       judge = λ text list entry. one-says judgementSays judgements (judgeAnswer text list entry);
       translate = λ text list buffer.
           let answer = one-says translationSays translations (translateAnswer text list buffer) in

@@ -12,7 +12,7 @@ use Rattle.paper.specs.Keys.{Key, layoutRule, keys}
 use Rattle.paper.specs.Grammar.{Tree}
 use Rattle.paper.specs.Sentences.{Number, text-ends, no-sentence, too-deep, bad-string}
 use Rattle.paper.specs.Calls.{tree, judgeAnswer}
-use Rattle.paper.specs.Faults.{TextSize, text-over, ListSize, list-uneven, list-over, ListRecords, record-broken, name-repeated, TextTokens, no-token, numeral-large, one-more-token, one-more-octal, octal-numeral, TextGrammar, TreeTypes, key-unknown, key-of-field-unknown, field-unknown, attribute-unknown, prefix-wrong, join-wrong, comparison-wrong, in-operand, join-left, join-right, comparison-left, comparison-right, RootType, not-bool, EntrySize, entry-wrong, EntryRules, priority-broken, match-broken}
+use Rattle.paper.specs.Faults.{TextSize, text-over, ListSize, list-uneven, list-over, ListRecords, record-broken, name-repeated, TextTokens, no-token, numeral-large, one-more-token, one-more-octal, octal-numeral, TextGrammar, TreeTypes, key-unknown, key-of-field-unknown, field-unknown, attribute-unknown, prefix-wrong, join-wrong, comparison-wrong, left-loses-bits, right-loses-bits, in-operand, join-left, join-right, comparison-left, comparison-right, RootType, not-bool, EntrySize, entry-wrong, EntryRules, priority-broken, match-broken}
 use Rattle.paper.specs.Table.{Stage, Given, Decided, treeStages, typeStages, checkStages, entryStages}
 use Rattle.paper.specs.ExplainedRight.{recordPlace}
 use Rattle.paper.proofs.Table.{table-holds}
@@ -66,6 +66,8 @@ not-of-types ks t m at (attribute-unknown to past d) e = omega arith
 not-of-types ks t m at (prefix-wrong to o a d h) e = omega arith
 not-of-types ks t m at (join-wrong to o a b c d h) e = omega arith
 not-of-types ks t m at (comparison-wrong to c a b d f h) e = omega arith
+not-of-types ks t m at (left-loses-bits to c a b d f h k) e = omega arith
+not-of-types ks t m at (right-loses-bits to c a b d f h k) e = omega arith
 not-of-types ks t m at (in-operand {t = s} to o h) e = not-of-types ks s m at h e
 not-of-types ks t m at (join-left {l = l} to o h) e = not-of-types ks l m at h e
 not-of-types ks t m at (join-right {r = r} to o h) e = not-of-types ks r m at h e

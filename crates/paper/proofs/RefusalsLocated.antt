@@ -11,7 +11,7 @@ use Rattle.paper.specs.Answers.{Input, inText, inList, inEntry, inBlocks
 use Rattle.paper.specs.Tokens.{Token, Scanner, scan, tokens}
 use Rattle.paper.specs.Keys.{Key, layoutRule, keys}
 use Rattle.paper.specs.Entry.{headSize, matchSize}
-use Rattle.paper.specs.Grammar.{Tree, truth, number, key, field, attribute, prefixed, joined, compared, parsed, placeOf}
+use Rattle.paper.specs.Grammar.{Tree, parsed}
 use Rattle.paper.specs.Sentences.{Number, text-ends, no-sentence, too-deep, bad-string}
 use Rattle.paper.specs.Places.{Everywhere}
 use Rattle.paper.specs.Code.{Instruction, skip}
@@ -20,7 +20,7 @@ use Rattle.paper.specs.Loading.{instructionAt, program}
 use Rattle.paper.specs.Print.{print}
 use Rattle.paper.specs.Calls.{tree, restriction}
 use Rattle.paper.specs.Fixing.{oldScan, fixed}
-use Rattle.paper.specs.Faults.{TextSize, text-over, ListSize, list-uneven, list-over, ListRecords, record-broken, name-repeated, TokenFaults, no-token, numeral-large, one-more-token, one-more-octal, octal-numeral, TextGrammar, TreeTypes, key-unknown, key-of-field-unknown, field-unknown, attribute-unknown, prefix-wrong, join-wrong, comparison-wrong, in-operand, join-left, join-right, comparison-left, comparison-right, RootType, not-bool, BufferSize, buffer-short, BlocksSize, no-blocks, blocks-uneven, blocks-over, BlocksLayout, block-broken, BlocksCode, instruction-fails, skip-misfits, end-not-bool, EntrySize, entry-wrong, EntryRules, priority-broken, match-broken, LendingSize, over-limit, over-buffer}
+use Rattle.paper.specs.Faults.{TextSize, text-over, ListSize, list-uneven, list-over, ListRecords, record-broken, name-repeated, TokenFaults, no-token, numeral-large, one-more-token, one-more-octal, octal-numeral, TextGrammar, TreeTypes, key-unknown, key-of-field-unknown, field-unknown, attribute-unknown, prefix-wrong, join-wrong, comparison-wrong, left-loses-bits, right-loses-bits, in-operand, join-left, join-right, comparison-left, comparison-right, RootType, not-bool, BufferSize, buffer-short, BlocksSize, no-blocks, blocks-uneven, blocks-over, BlocksLayout, block-broken, BlocksCode, instruction-fails, skip-misfits, end-not-bool, EntrySize, entry-wrong, EntryRules, priority-broken, match-broken, LendingSize, over-limit, over-buffer}
 use Rattle.paper.specs.Table.{lastNumber, Free, Stage, Given, Decided, Clear, sizeStages, listStages, treeStages, typeStages, bufferStages, blockStages, entryStages, printingStages, fixingStages, checkStages}
 use Rattle.paper.specs.Demands.{Lent, lent}
 use Rattle.paper.proofs.Basics.{some-below}
@@ -29,6 +29,7 @@ use Rattle.paper.proofs.Offsets.{places-in-text, place-in-text}
 use Rattle.paper.proofs.LoadedBlocksRun.{program-length}
 use Rattle.paper.proofs.LayoutPassed.{each-block, counts-within}
 use Rattle.paper.proofs.StagesInOrder.{free-passes}
+use Rattle.paper.proofs.InOrder.{root-place}
 use Rattle.paper.proofs.BlockFaults.{blocks-layout-tells}
 use Rattle.paper.proofs.CodeFaults.{inside-blocks}
 use Rattle.paper.proofs.TypeFaults.{placed}
@@ -113,6 +114,8 @@ type-number ks t n at (attribute-unknown to past d) = (omega arith, omega arith)
 type-number ks t n at (prefix-wrong to o a e h) = (omega arith, omega arith)
 type-number ks t n at (join-wrong to o a b d e h) = (omega arith, omega arith)
 type-number ks t n at (comparison-wrong to c a b d e h) = (omega arith, omega arith)
+type-number ks t n at (left-loses-bits to c a b d e h k) = (omega arith, omega arith)
+type-number ks t n at (right-loses-bits to c a b d e h k) = (omega arith, omega arith)
 type-number ks t n at (in-operand {t = s} to o h) = type-number ks s n at h
 type-number ks t n at (join-left {l = l} to o h) = type-number ks l n at h
 type-number ks t n at (join-right {r = r} to o h) = type-number ks r n at h
@@ -124,16 +127,6 @@ types-bounded text list n at (ks, listed, (t, read, h)) =
     let (low, high) = type-number ks t n at h in
     let inside = placed ks (λ at. at < length text) t n at h (all-inside text t read) in
     bound low high (omega arith)
-
-root-place : (P : ℕ → Type 0) (t : Tree) → Everywhere P t → P (placeOf t)
-root-place P (truth at b) h = h
-root-place P (number at n) h = h
-root-place P (key at w) h = h
-root-place P (field at w to f) h = h .0
-root-place P (attribute at to f) h = h .0
-root-place P (prefixed at o t) h = h .0
-root-place P (joined at o l r) h = h .0
-root-place P (compared at c l r) h = h .0
 
 root-bounded : (text list : List ℕ) (n at : ℕ) → Given (keys list) (λ ks. Given (tree text) (RootType ks)) n at → Bounded text n at
 root-bounded text list n at (ks, listed, (t, read, h)) = go n at h

@@ -1,26 +1,27 @@
--- Refusals 11 to 14 by the table. "Operands are typed left, right, then the operator": so the earliest place wins.
+-- Refusals 11 to 14 and 23 by the table. "Operands are typed left, right, then the operator": so the earliest place wins. Number 23 stands
+-- at an operand, but only where both operands have types: then no other fault lies inside them, and the left one's place comes first.
 use Prim.Native.Nat.{ℕ, suc, _+_, _<_}
 use native.Mathlib.Nat.{add-zero}
 use native.Mathlib.Omega.{arith}
-use mathlib.Core.Path.{_≡_, refl, sym, ap, ap₂, subst, _∙_}
+use mathlib.Core.Path.{_≡_, refl, sym, ap, subst, _∙_}
 use mathlib.Core.Logic.{_≢_, _⊎_, inl, inr}
-use mathlib.Core.Bool.{Bool, true, false, cond}
+use mathlib.Core.Bool.{Bool, true, false, cond, true≢false}
 use mathlib.Core.Option.{Option, none, some, Option·map, Option·none-ne-some, Option·some-injective}
 use mathlib.Core.List.{List, [], _∷_}
 use lib.ListN.{getElem?}
-use Rattle.paper.specs.Answers.{Input, inText, Answer, ok, refused, _>>=_}
-use Rattle.paper.specs.Tokens.{bytes, sameBytes}
+use Rattle.paper.specs.Answers.{Input, inText, Answer, ok, refused, _>>=_, require}
+use Rattle.paper.specs.Tokens.{bytes, sameBytes, Join, Comparison}
 use Rattle.paper.specs.Keys.{Kind, Key, findFrom, find, keys}
 use Rattle.paper.specs.Grammar.{Tree, truth, number, key, field, attribute, prefixed, joined, compared, placeOf}
 use Rattle.paper.specs.Places.{Everywhere}
-use Rattle.paper.specs.Types.{Ty, bool, int, of, when, andThen, fieldNamed, fieldType, bareType, prefixType, joinType, comparisonType, operatorType, known, namedType, typeOf, rootType, typed}
+use Rattle.paper.specs.Types.{Ty, bool, int, of, when, andThen, fieldNamed, fieldType, bareType, prefixType, joinType, compares, comparisonType, keepsBits, operatorType, comparedType, known, namedType, typeOf, rootType, typed}
 use Rattle.paper.specs.Calls.{tree}
-use Rattle.paper.specs.Faults.{Faults, TreeTypes, key-unknown, key-of-field-unknown, field-unknown, attribute-unknown, prefix-wrong, join-wrong, comparison-wrong, in-operand, join-left, join-right, comparison-left, comparison-right, RootType, not-bool}
+use Rattle.paper.specs.Faults.{Faults, TreeTypes, key-unknown, key-of-field-unknown, field-unknown, attribute-unknown, prefix-wrong, join-wrong, comparison-wrong, left-loses-bits, right-loses-bits, in-operand, join-left, join-right, comparison-left, comparison-right, RootType, not-bool}
 use Rattle.paper.specs.Table.{Sooner, Wins, Free, stage, Given, typeStages}
 use Rattle.paper.proofs.Stages.{never-ok, ok-same}
 use Rattle.paper.proofs.Words.{same-bytes, not-bytes}
 use Rattle.paper.proofs.StagesInOrder.{only-wins, Tells, given-tells, Follows, follows-one, follows-then}
-use Rattle.paper.proofs.InOrder.{InOrder, text-in-order}
+use Rattle.paper.proofs.InOrder.{InOrder, root-place, text-in-order}
 
 -- a key that is found has a type
 
@@ -43,9 +44,18 @@ bare-found ks w k h =
 
 -- what is known of a tree with a fault
 
--- 13 of an operator over two operands
-abbrev Operator : ℕ → (Ty → Ty → Option Ty) → Answer Ty → Answer Ty → ℕ → ℕ → Type 0
-Operator at op x y n to = (a b : Ty) × (n ≡ 13) × (to ≡ at) × (x ≡ ok a) × (y ≡ ok b) × (op a b ≡ none)
+-- the faults of an operator itself, by the types of its operands
+data JoinFaults (at : ℕ) (a b : Ty) : ℕ → ℕ → Type 0 where
+  unjoined : joinType a b ≡ none → JoinFaults at a b 13 at
+
+data ComparisonFaults (at : ℕ) (c : Comparison) (l r : Tree) (a b : Ty) : ℕ → ℕ → Type 0 where
+  unsuited : comparisonType c a b ≡ none → ComparisonFaults at c l r a b 13 at
+  left-loses : comparisonType c a b ≡ some bool → keepsBits l b ≡ false → ComparisonFaults at c l r a b 23 (placeOf l)
+  right-loses : comparisonType c a b ≡ some bool → keepsBits r a ≡ false → ComparisonFaults at c l r a b 23 (placeOf r)
+
+-- "An operator is judged only when its operands have types."
+abbrev Operator : (Ty → Ty → Faults) → Answer Ty → Answer Ty → Faults
+Operator Own x y n to = (a b : Ty) × (x ≡ ok a) × (y ≡ ok b) × Own a b n to
 
 module _ (ks : List Key) where
   abbrev FaultTells : Tree → ℕ → ℕ → Type 0
@@ -58,9 +68,9 @@ module _ (ks : List Key) where
   FaultTells (attribute at past f) n to = (n ≡ 12) × (to ≡ past) × (f ≢ bytes "priority")
   FaultTells (prefixed at o t) n to =
       ((a : Ty) × (n ≡ 13) × (to ≡ at) × (typeOf ks t ≡ ok a) × (prefixType o a ≡ none)) ⊎ TreeTypes ks t n to
-  FaultTells (joined at o l r) n to = Operator at joinType (typeOf ks l) (typeOf ks r) n to ⊎ (TreeTypes ks l n to ⊎ TreeTypes ks r n to)
+  FaultTells (joined at o l r) n to = Operator (JoinFaults at) (typeOf ks l) (typeOf ks r) n to ⊎ (TreeTypes ks l n to ⊎ TreeTypes ks r n to)
   FaultTells (compared at c l r) n to =
-      Operator at (comparisonType c) (typeOf ks l) (typeOf ks r) n to ⊎ (TreeTypes ks l n to ⊎ TreeTypes ks r n to)
+      Operator (ComparisonFaults at c l r) (typeOf ks l) (typeOf ks r) n to ⊎ (TreeTypes ks l n to ⊎ TreeTypes ks r n to)
 
   fault-tells : (t : Tree) (n to : ℕ) → TreeTypes ks t n to → FaultTells t n to
   fault-tells t n to (key-unknown at e) = (refl, refl, e)
@@ -68,8 +78,10 @@ module _ (ks : List Key) where
   fault-tells t n to (field-unknown at past k e h) = inr (k, refl, refl, e, h)
   fault-tells t n to (attribute-unknown at past d) = (refl, refl, d)
   fault-tells t n to (prefix-wrong at o a e h) = inl (a, refl, refl, e, h)
-  fault-tells t n to (join-wrong at o a b d e h) = inl (a, b, refl, refl, d, e, h)
-  fault-tells t n to (comparison-wrong at c a b d e h) = inl (a, b, refl, refl, d, e, h)
+  fault-tells t n to (join-wrong at o a b d e h) = inl (a, b, d, e, unjoined h)
+  fault-tells t n to (comparison-wrong at c a b d e h) = inl (a, b, d, e, unsuited h)
+  fault-tells t n to (left-loses-bits at c a b d e h k) = inl (a, b, d, e, left-loses h k)
+  fault-tells t n to (right-loses-bits at c a b d e h k) = inl (a, b, d, e, right-loses h k)
   fault-tells t n to (in-operand at o h) = inr h
   fault-tells t n to (join-left at o h) = inr (inl h)
   fault-tells t n to (join-right at o h) = inr (inr h)
@@ -85,6 +97,8 @@ module _ (ks : List Key) where
   placed P t n to (prefix-wrong at o a e h) p = p .0
   placed P t n to (join-wrong at o a b d e h) p = p .0
   placed P t n to (comparison-wrong at c a b d e h) p = p .0
+  placed P t n to (left-loses-bits {l = l} at c a b d e h k) p = root-place P l (p .1)
+  placed P t n to (right-loses-bits {r = r} at c a b d e h k) p = root-place P r (p .2)
   placed P t n to (in-operand {t = s} at o h) p = placed P s n to h (p .1)
   placed P t n to (join-left {l = l} at o h) p = placed P l n to h (p .1)
   placed P t n to (join-right {r = r} at o h) p = placed P r n to h (p .2)
@@ -99,56 +113,108 @@ module _ (ks : List Key) where
 same-ok : {A : Type 0} (x : Answer A) (a b : A) → x ≡ ok a → x ≡ ok b → a ≡ b
 same-ok x a b d e = ok-same a b (sym d ∙ e)
 
-module _ (L R F : Faults) (at : ℕ) (op : Ty → Ty → Option Ty) (x y : Answer Ty)
-    (wrong : (a b : Ty) → x ≡ ok a → y ≡ ok b → op a b ≡ none → F 13 at) (left : (n to : ℕ) → L n to → F n to)
-    (right : (n to : ℕ) → R n to → F n to) (whence : (n to : ℕ) → F n to → Operator at op x y n to ⊎ (L n to ⊎ R n to))
-    (order : (n p m q : ℕ) → L n p → R m q → p < q) where
+-- `say` answers for it where both have types, and tells of its own faults
+module _ (L R F : Faults) (Own : Ty → Ty → Faults) (say : Ty → Ty → Answer Ty) (x y : Answer Ty)
+    (itself : (a b : Ty) → Tells inText (Own a b) (say a b)) (own : (a b : Ty) (n to : ℕ) → x ≡ ok a → y ≡ ok b → Own a b n to → F n to)
+    (left : (n to : ℕ) → L n to → F n to) (right : (n to : ℕ) → R n to → F n to)
+    (whence : (n to : ℕ) → F n to → Operator Own x y n to ⊎ (L n to ⊎ R n to)) (order : (n p m q : ℕ) → L n p → R m q → p < q) where
   left-wins : (n : ℕ) (j : Input) (p : ℕ) → x ≡ refused n j p → Wins L n p → Wins F n p
   left-wins n j p e h = record { fault = left n p (h .fault); first = λ m q f. go m q (whence m q f) }
     where
-      go : (m q : ℕ) → Operator at op x y m q ⊎ (L m q ⊎ R m q) → Sooner n p m q
-      go m q (inl (a, b, _, _, passed, _, _)) = absurd (never-ok (sym e ∙ passed))
+      go : (m q : ℕ) → Operator Own x y m q ⊎ (L m q ⊎ R m q) → Sooner n p m q
+      go m q (inl (a, b, passed, _, _)) = absurd (never-ok (sym e ∙ passed))
       go m q (inr (inl f)) = h .first m q f
       go m q (inr (inr f)) = inl (order n p m q (h .fault) f)
 
   right-wins : (n : ℕ) (j : Input) (p : ℕ) → Free L → y ≡ refused n j p → Wins R n p → Wins F n p
   right-wins n j p none-left e h = record { fault = right n p (h .fault); first = λ m q f. go m q (whence m q f) }
     where
-      go : (m q : ℕ) → Operator at op x y m q ⊎ (L m q ⊎ R m q) → Sooner n p m q
-      go m q (inl (a, b, _, _, _, passed, _)) = absurd (never-ok (sym e ∙ passed))
+      go : (m q : ℕ) → Operator Own x y m q ⊎ (L m q ⊎ R m q) → Sooner n p m q
+      go m q (inl (a, b, _, passed, _)) = absurd (never-ok (sym e ∙ passed))
       go m q (inr (inl f)) = absurd (none-left m q f)
       go m q (inr (inr f)) = h .first m q f
 
-  operator-only : Free L → Free R → (m q : ℕ) → Operator at op x y m q ⊎ (L m q ⊎ R m q) → (m ≡ 13) × (q ≡ at)
-  operator-only none-left none-right m q (inl (a, b, d, e, _, _, _)) = (d, e)
-  operator-only none-left none-right m q (inr (inl f)) = absurd (none-left m q f)
-  operator-only none-left none-right m q (inr (inr f)) = absurd (none-right m q f)
+  -- where neither operand has a fault, all are the operator's own
+  module _ (a b : Ty) (d : x ≡ ok a) (e : y ≡ ok b) (none-left : Free L) (none-right : Free R) where
+    own-only : (m q : ℕ) → F m q → Own a b m q
+    own-only m q f = go (whence m q f)
+      where
+        go : Operator Own x y m q ⊎ (L m q ⊎ R m q) → Own a b m q
+        go (inl (a′, b′, d′, e′, h)) =
+            subst (λ t. Own t b m q) (same-ok x a′ a d′ d) (subst (λ t. Own a′ t m q) (same-ok y b′ b e′ e) h)
+        go (inr (inl h)) = absurd (none-left m q h)
+        go (inr (inr h)) = absurd (none-right m q h)
 
-  operator-free : (a b c : Ty) → x ≡ ok a → y ≡ ok b → op a b ≡ some c → Free L → Free R → (m q : ℕ)
-      → Operator at op x y m q ⊎ (L m q ⊎ R m q) → ⊥
-  operator-free a b c d e h none-left none-right m q (inl (a′, b′, _, _, d′, e′, h′)) =
-      Option·none-ne-some c (sym h′ ∙ ap₂ op (same-ok x a′ a d′ d) (same-ok y b′ b e′ e) ∙ h)
-  operator-free a b c d e h none-left none-right m q (inr (inl f)) = none-left m q f
-  operator-free a b c d e h none-left none-right m q (inr (inr f)) = none-right m q f
+    own-tells : (v : Answer Ty) → Tells inText (Own a b) v → Tells inText F v
+    own-tells (ok t) free = λ m q f. free m q (own-only m q f)
+    own-tells (refused n j p) (same, wins) =
+        (same, record { fault = own a b n p d e (wins .fault); first = λ m q f. wins .first m q (own-only m q f) })
 
-  operator-tells : Tells inText L x → Tells inText R y → Tells inText F (x >>= λ a. y >>= λ b. operatorType at (op a b))
+  operator-tells : Tells inText L x → Tells inText R y → Tells inText F (x >>= λ a. y >>= λ b. say a b)
   operator-tells l r = first x refl l
     where
-      third : (a b : Ty) → x ≡ ok a → y ≡ ok b → Free L → Free R → (o : Option Ty) → op a b ≡ o → Tells inText F (operatorType at o)
-      third a b d e none-left none-right none h =
-          (refl, only-wins (wrong a b d e h) (λ m q f. operator-only none-left none-right m q (whence m q f)))
-      third a b d e none-left none-right (some c) h = λ m q f. operator-free a b c d e h none-left none-right m q (whence m q f)
-
-      second : (a : Ty) → x ≡ ok a → Free L → (v : Answer Ty) → y ≡ v → Tells inText R v
-          → Tells inText F (v >>= λ b. operatorType at (op a b))
-      second a d none-left (ok b) e h = third a b d e none-left h (op a b) refl
+      second : (a : Ty) → x ≡ ok a → Free L → (v : Answer Ty) → y ≡ v → Tells inText R v → Tells inText F (v >>= λ b. say a b)
+      second a d none-left (ok b) e h = own-tells a b d e none-left h (say a b) (itself a b)
       second a d none-left (refused n j p) e h = (h .0, right-wins n j p none-left e (h .1))
 
-      first : (v : Answer Ty) → x ≡ v → Tells inText L v → Tells inText F (v >>= λ a. y >>= λ b. operatorType at (op a b))
+      first : (v : Answer Ty) → x ≡ v → Tells inText L v → Tells inText F (v >>= λ a. y >>= λ b. say a b)
       first (ok a) e h = second a e h y refl r
       first (refused n j p) e h = (h .0, left-wins n j p e (h .1))
 
--- and over one
+-- a join itself
+join-tells : (at : ℕ) (a b : Ty) → Tells inText (JoinFaults at a b) (operatorType at (joinType a b))
+join-tells at a b = go (joinType a b) refl
+  where
+    only : (m q : ℕ) → JoinFaults at a b m q → (m ≡ 13) × (q ≡ at)
+    only m q (unjoined h) = (refl, refl)
+
+    free : (t : Ty) → joinType a b ≡ some t → (m q : ℕ) → JoinFaults at a b m q → ⊥
+    free t there m q (unjoined h) = Option·none-ne-some t (sym h ∙ there)
+
+    go : (o : Option Ty) → joinType a b ≡ o → Tells inText (JoinFaults at a b) (operatorType at o)
+    go none h = (refl, only-wins (unjoined h) only)
+    go (some t) h = free t h
+
+-- a comparison itself: the left operand is looked at first, and its place comes first
+module _ (at : ℕ) (c : Comparison) (l r : Tree) (before : placeOf l < placeOf r) (a b : Ty) where
+  abbrev Own : Faults
+  Own = ComparisonFaults at c l r a b
+
+  has-type : {s : Bool} → compares c a b ≡ s → comparisonType c a b ≡ when s bool
+  has-type h = ap (λ u. when u bool) h
+
+  unsuited-only : compares c a b ≡ false → (m q : ℕ) → Own m q → (m ≡ 13) × (q ≡ at)
+  unsuited-only unlike m q (unsuited h) = (refl, refl)
+  unsuited-only unlike m q (left-loses h k) = absurd (Option·none-ne-some bool (sym (has-type unlike) ∙ h))
+  unsuited-only unlike m q (right-loses h k) = absurd (Option·none-ne-some bool (sym (has-type unlike) ∙ h))
+
+  left-first : compares c a b ≡ true → (m q : ℕ) → Own m q → Sooner 23 (placeOf l) m q
+  left-first suits m q (unsuited h) = absurd (Option·none-ne-some bool (sym h ∙ has-type suits))
+  left-first suits m q (left-loses h k) = inr (refl, omega arith)
+  left-first suits m q (right-loses h k) = inl before
+
+  right-only : compares c a b ≡ true → keepsBits l b ≡ true → (m q : ℕ) → Own m q → (m ≡ 23) × (q ≡ placeOf r)
+  right-only suits kept m q (unsuited h) = absurd (Option·none-ne-some bool (sym h ∙ has-type suits))
+  right-only suits kept m q (left-loses h k) = absurd (true≢false (sym kept ∙ k))
+  right-only suits kept m q (right-loses h k) = (refl, refl)
+
+  none-lost : compares c a b ≡ true → keepsBits l b ≡ true → keepsBits r a ≡ true → Free Own
+  none-lost suits kept too m q (unsuited h) = Option·none-ne-some bool (sym h ∙ has-type suits)
+  none-lost suits kept too m q (left-loses h k) = true≢false (sym kept ∙ k)
+  none-lost suits kept too m q (right-loses h k) = true≢false (sym too ∙ k)
+
+  comparison-tells : Tells inText Own (comparedType at c l r a b)
+  comparison-tells = go (compares c a b) refl (keepsBits l b) refl (keepsBits r a) refl
+    where
+      go : (s : Bool) → compares c a b ≡ s → (x : Bool) → keepsBits l b ≡ x → (y : Bool) → keepsBits r a ≡ y
+          → Tells inText Own
+          (operatorType at (when s bool) >>= λ t. require x 23 inText (placeOf l) >>= λ _. require y 23 inText (placeOf r) >>= λ _. ok t)
+      go false h x d y e = (refl, only-wins (unsuited (has-type h)) (unsuited-only h))
+      go true h false d y e = (refl, record { fault = left-loses (has-type h) d; first = left-first h })
+      go true h true d false e = (refl, only-wins (right-loses (has-type h) e) (right-only h d))
+      go true h true d true e = none-lost h d e
+
+-- an operator over one operand
 module _ (L F : Faults) (at : ℕ) (op : Ty → Option Ty) (x : Answer Ty) (wrong : (a : Ty) → x ≡ ok a → op a ≡ none → F 13 at)
     (inner : (n to : ℕ) → L n to → F n to)
     (whence : (n to : ℕ) → F n to → ((a : Ty) × (n ≡ 13) × (to ≡ at) × (x ≡ ok a) × (op a ≡ none)) ⊎ L n to) where
@@ -231,6 +297,19 @@ module _ (ks : List Key) where
       let other = attribute-unknown at past (not-bytes f (bytes "priority") e) in
       (refl, only-wins other (λ m q h. let (d, g, _) = fault-tells ks (attribute at past f) m q h in (d, g)))
 
+  join-fault : (at : ℕ) (o : Join) (l r : Tree) (a b : Ty) (n to : ℕ) → typeOf ks l ≡ ok a → typeOf ks r ≡ ok b → JoinFaults at a b n to
+      → TreeTypes ks (joined at o l r) n to
+  join-fault at o l r a b n to d e (unjoined h) = join-wrong at o a b d e h
+
+  comparison-fault : (at : ℕ) (c : Comparison) (l r : Tree) (a b : Ty) (n to : ℕ) → typeOf ks l ≡ ok a → typeOf ks r ≡ ok b
+      → ComparisonFaults at c l r a b n to → TreeTypes ks (compared at c l r) n to
+  comparison-fault at c l r a b n to d e (unsuited h) = comparison-wrong at c a b d e h
+  comparison-fault at c l r a b n to d e (left-loses h k) = left-loses-bits at c a b d e h k
+  comparison-fault at c l r a b n to d e (right-loses h k) = right-loses-bits at c a b d e h k
+
+  roots-apart : (l r : Tree) → Everywhere (λ p. Everywhere (λ q. p < q) r) l → placeOf l < placeOf r
+  roots-apart l r h = root-place (λ q. placeOf l < q) r (root-place (λ p. Everywhere (λ q. p < q) r) l h)
+
   types-tell : (t : Tree) → InOrder t → Tells inText (TreeTypes ks t) (typeOf ks t)
   unfolding typeOf
   types-tell (truth at b) o = λ m q h. fault-tells ks (truth at b) m q h
@@ -242,12 +321,14 @@ module _ (ks : List Key) where
       prefix-tells (TreeTypes ks t) (TreeTypes ks (prefixed at o t)) at (prefixType o) (typeOf ks t)
       (prefix-wrong at o) (λ n to. in-operand at o) (fault-tells ks (prefixed at o t)) (types-tell t h)
   types-tell (joined at o l r) h =
-      operator-tells (TreeTypes ks l) (TreeTypes ks r) (TreeTypes ks (joined at o l r)) at joinType (typeOf ks l) (typeOf ks r)
-      (join-wrong at o) (λ n to. join-left at o) (λ n to. join-right at o) (fault-tells ks (joined at o l r))
+      operator-tells (TreeTypes ks l) (TreeTypes ks r) (TreeTypes ks (joined at o l r)) (JoinFaults at)
+      (λ a b. operatorType at (joinType a b)) (typeOf ks l) (typeOf ks r) (join-tells at) (join-fault at o l r)
+      (λ n to. join-left at o) (λ n to. join-right at o) (fault-tells ks (joined at o l r))
       (apart ks l r (h .0)) (types-tell l (h .1)) (types-tell r (h .2))
   types-tell (compared at c l r) h =
-      operator-tells (TreeTypes ks l) (TreeTypes ks r) (TreeTypes ks (compared at c l r)) at (comparisonType c) (typeOf ks l) (typeOf ks r)
-      (comparison-wrong at c) (λ n to. comparison-left at c) (λ n to. comparison-right at c) (fault-tells ks (compared at c l r))
+      operator-tells (TreeTypes ks l) (TreeTypes ks r) (TreeTypes ks (compared at c l r)) (ComparisonFaults at c l r)
+      (comparedType at c l r) (typeOf ks l) (typeOf ks r) (comparison-tells at c l r (roots-apart l r (h .0))) (comparison-fault at c l r)
+      (λ n to. comparison-left at c) (λ n to. comparison-right at c) (fault-tells ks (compared at c l r))
       (apart ks l r (h .0)) (types-tell l (h .1)) (types-tell r (h .2))
 
   -- 14

@@ -6,13 +6,13 @@ use mathlib.Core.Logic.{_⊎_, inl, inr}
 use mathlib.Core.Bool.{Bool, true, false, not, cond, _&&_, and-false, false≢true}
 use mathlib.Core.Option.{Option, none, some, Option·map, Option·some-injective, Option·none-ne-some, Option·some-ne-none}
 use borrow.Author.Tests.{eq-eqb}
-use Rattle.paper.specs.Answers.{Answer, ok, refused, _>>=_}
+use Rattle.paper.specs.Answers.{Answer, ok, refused, _>>=_, require, inText}
 use Rattle.paper.specs.Tokens.{bytes, sameBytes, Prefix, notSign, minusSign, Comparison}
 use Rattle.paper.specs.Keys.{kindNo, find}
 use Rattle.paper.specs.Entry.{isExact}
 use Rattle.paper.specs.Grammar as G
-use Rattle.paper.specs.Grammar.{Tree}
-use Rattle.paper.specs.Types.{Ty, bool, int, of, sameTy, when, andThen, Field, fieldNamed, fieldType, bareType, prefixType, joinType, meet, compares, comparisonType, takes, suits, compareType, operatorType, known, namedType, typeOf, rootType, typed}
+use Rattle.paper.specs.Grammar.{Tree, placeOf}
+use Rattle.paper.specs.Types.{Ty, bool, int, of, sameTy, when, andThen, Field, fieldNamed, fieldType, bareType, prefixType, joinType, meet, compares, comparisonType, takes, suits, compareType, keepsBits, operatorType, comparedType, known, namedType, typeOf, rootType, typed}
 use Rattle.paper.specs.Meaning.{Value, truth, whole, matched, tyOf, bareValue, fieldValue, prefixValue, connective, inType, holds, compareValue, comparisonValue, valueOf}
 use Rattle.paper.specs.Translating.{hasType}
 use Rattle.paper.specs.TypeSoundness.{ValuesHaveTypes, TypedMeant, Judged}
@@ -130,6 +130,28 @@ operand-typed (ok a) (some v) f g same h = rw (Option·some-injective a (tyOf v)
 operand-typed (refused n i at) none f g same h = refl
 operand-typed (refused n i at) (some v) f g same h = absurd (Option·none-ne-some (tyOf v) h)
 
+-- a comparison has a type where its operands' types suit it and both operands keep their bits
+has-compared : (at p q : ℕ) (o : Option Ty) (x y : Bool)
+    → hasType (operatorType at o >>= λ t. require x 23 inText p >>= λ _. require y 23 inText q >>= λ _. ok t) ≡ andThen o (when (x && y))
+has-compared at p q none x y = refl
+has-compared at p q (some a) true true = refl
+has-compared at p q (some a) true false = refl
+has-compared at p q (some a) false y = refl
+
+kept-typed : (o : Option Value) (b : Bool) → andThen (Option·map tyOf o) (when b) ≡ Option·map tyOf (andThen o (when b))
+kept-typed none b = refl
+kept-typed (some v) b = map-when tyOf b v
+
+compared-typed : (at : ℕ) (c : Comparison) (l r : Tree) (a b : Value)
+    → hasType (comparedType at c l r (tyOf a) (tyOf b))
+    ≡ Option·map tyOf (andThen (comparisonValue c a b) (when (keepsBits l (tyOf b) && keepsBits r (tyOf a))))
+compared-typed at c l r a b =
+    let left = keepsBits l (tyOf b) in
+    let right = keepsBits r (tyOf a) in
+    has-compared at (placeOf l) (placeOf r) (comparisonType c (tyOf a) (tyOf b)) left right
+    ∙ ap (λ o. andThen o (when (left && right))) (comparison-follows c a b)
+    ∙ kept-typed (comparisonValue c a b) (left && right)
+
 pub values-have-types : ValuesHaveTypes
 unfolding typeOf valueOf
 values-have-types ks e covers (G.truth at b) = refl
@@ -158,7 +180,7 @@ values-have-types ks e covers (G.compared at c l r) =
     operand-typed (typeOf ks l) (valueOf ks e l) _ _
     (λ a.
     operand-typed (typeOf ks r) (valueOf ks e r) _ _
-    (λ b. has-operator at (comparisonType c (tyOf a) (tyOf b)) ∙ comparison-follows c a b)
+    (λ b. compared-typed at c l r a b)
     (values-have-types ks e covers r))
     (values-have-types ks e covers l)
 

@@ -1,6 +1,6 @@
 -- The wrong programs fail, each at an input: the cases 2 and 7 of the marked judgements, `true` with no keys, `true; v == 0`, for printers
 -- `a;b`, `!(a==b)`, `0x10` and `ipv4('0.0.0.16')`, for explainers the texts of WrongExplainers, for summaries and rechecks those of
--- WrongRecheckers, and for ways with skips the blocks of WrongRunners.
+-- WrongRecheckers, for ways with skips the blocks of WrongRunners, and for passes and checkers the texts of WrongFixers and WrongCheckers.
 use Prim.Native.Nat.{ℕ, zero, suc, _+_, _*_, _≤_}
 use native.Mathlib.Omega.{arith}
 use mathlib.Core.Path.{_≡_, refl, sym, ap, subst, _∙_}
@@ -36,7 +36,7 @@ use Rattle.paper.specs.RecheckedRight.{Summarizes}
 use Rattle.paper.specs.WrongExplainers.{Right}
 use Rattle.paper.specs.WrongRecheckers.{RechecksRight, SummarizesRight}
 use Rattle.paper.specs.WrongRunners.{RunsRight}
-use Rattle.paper.specs.WrongPrograms.{RefusesAll, AcceptsAll, WritesNothing, FirstPartOnly, PassesNothing, PassesAll, WantsAllBlocks, CountsRight, Lends, CopiesText, LeavesParentheses, EnclosesAll, WritesAndForSequel, ForgetsBases, WritesAddressesInHex, explainer, NamesLastPart, FollowsLeftSpine, ShowsKeyForPriority, RechecksNever, RechecksAlways, RechecksEqual, RechecksUnranked, RechecksReadings, NamesPriority, NamesBareOnly, StepsByCode, SkipsKeepBool, LandsByHeight, FixesStrings, FixesComments, FixesWithZeros, FixesToDecimal, WrongProgramsFail, NoWrongProgram, paddedText, paddedBlocks, PaddingSeen}
+use Rattle.paper.specs.WrongPrograms.{RefusesAll, AcceptsAll, WritesNothing, FirstPartOnly, PassesNothing, PassesAll, WantsAllBlocks, CountsRight, Lends, CopiesText, LeavesParentheses, EnclosesAll, WritesAndForSequel, ForgetsBases, WritesAddressesInHex, explainer, NamesLastPart, FollowsLeftSpine, ShowsKeyForPriority, RechecksNever, RechecksAlways, RechecksEqual, RechecksUnranked, RechecksReadings, NamesPriority, NamesBareOnly, StepsByCode, SkipsKeepBool, LandsByHeight, FixesStrings, FixesComments, FixesWithZeros, FixesToDecimal, ChecksReduced, ChecksRightOperands, ChecksAtOperator, ChecksAboveZero, WrongProgramsFail, NoWrongProgram, paddedText, paddedBlocks, PaddingSeen}
 use Rattle.paper.proofs.Stages.{never-ok, ok-same}
 use Rattle.paper.proofs.LayoutPassed.{first-counted}
 use Rattle.paper.proofs.Table.{table-holds}
@@ -52,6 +52,7 @@ use Rattle.paper.proofs.WrongExplainers.{wrong-explainers-fail}
 use Rattle.paper.proofs.WrongRecheckers.{wrong-recheckers-fail}
 use Rattle.paper.proofs.WrongRunners.{wrong-runners-fail}
 use Rattle.paper.proofs.WrongFixers.{wrong-fixers-fail}
+use Rattle.paper.proofs.WrongCheckers.{keys-bytes, wrong-checkers-fail}
 
 -- what demand 2 says of an entry that is judged
 by-demand-two : (p : Programs) → DemandTwo p → (text list entry : List ℕ) → Bytes text → Bytes list → Bytes entry → (b : Bool) → judgeAnswer text list entry ≡ ok b
@@ -72,9 +73,6 @@ by-demand-two p two text list entry bt bl be b e = go b e
 
 not-both : J.Accepted ≡ J.Violated → ⊥
 not-both e = true≢false (ok-same true false (ap judgementSays e))
-
-keys-bytes : Bytes theKeys
-keys-bytes = all-bytes theKeys refl
 
 entry-bytes : Bytes theEntry
 entry-bytes = all-bytes theEntry refl
@@ -397,6 +395,20 @@ fixing-with-zeros-fails p two keeps = wrong-fixers-fail .zeros (p .fix) keeps (t
 fixing-to-decimal-fails : (p : Programs) → DemandTwo p → ¬ FixesToDecimal p
 fixing-to-decimal-fails p two drops = wrong-fixers-fail .dropped (p .fix) drops (two .fixes)
 
+-- and of checkers of numbers that lose bits
+
+reducing-still-fails : (p : Programs) → DemandTwo p → ¬ ChecksReduced p
+reducing-still-fails p two reduces = wrong-checkers-fail .reducing (p .check) reduces (two .checks)
+
+looking-right-fails : (p : Programs) → DemandTwo p → ¬ ChecksRightOperands p
+looking-right-fails p two looks = wrong-checkers-fail .looking-right (p .check) looks (two .checks)
+
+placing-at-operator-fails : (p : Programs) → KeepsCheck p → ¬ ChecksAtOperator p
+placing-at-operator-fails p checks places = wrong-checkers-fail .at-operator (p .check) places checks
+
+taking-none-below-fails : (p : Programs) → DemandTwo p → ¬ ChecksAboveZero p
+taking-none-below-fails p two takes = wrong-checkers-fail .above-zero (p .check) takes (two .checks)
+
 pub wrong-programs-fail : WrongProgramsFail
 wrong-programs-fail p =
     record {
@@ -431,6 +443,10 @@ wrong-programs-fail p =
       fixing-comments = fixing-comments-fails p;
       fixing-with-zeros = fixing-with-zeros-fails p;
       fixing-to-decimal = fixing-to-decimal-fails p;
+      reducing-still = reducing-still-fails p;
+      looking-right = looking-right-fails p;
+      placing-at-operator = placing-at-operator-fails p;
+      taking-none-below = taking-none-below-fails p;
     }
 
 pub no-wrong-program : NoWrongProgram
@@ -469,6 +485,10 @@ no-wrong-program p kept =
       fixing-comments = fixing-comments-fails p two;
       fixing-with-zeros = fixing-with-zeros-fails p two;
       fixing-to-decimal = fixing-to-decimal-fails p two;
+      reducing-still = reducing-still-fails p two;
+      looking-right = looking-right-fails p two;
+      placing-at-operator = placing-at-operator-fails p (kept .check);
+      taking-none-below = taking-none-below-fails p two;
     }
 
 padded-loads : loadAnswer theKeys paddedBlocks ≡ ok 3

@@ -36,7 +36,9 @@ use Rattle.paper.specs.WrongExplainers.{Explainer, Names}
 use Rattle.paper.specs.WrongRecheckers.{Rechecker, Summarizer}
 use Rattle.paper.specs.WrongRunners.{Runner, keepingAnswer, LeavesOldBool, heightsFrom, Loader, ComparesHeights}
 use Rattle.paper.specs.WrongFixers.{Fixer}
-use Rattle.paper.specs.WrongPrograms.{FirstPartOnly, WantsAllBlocks, StepsByCode, CountsRight, Lends, partOf, judging, translating, loading, running, printing, explaining, summarizing, rechecking, fixing, OthersKept, ThereIs, WrongProgramsExist}
+use Rattle.paper.specs.BitsKept.{ComparisonRule, ruleBefore}
+use Rattle.paper.specs.WrongCheckers.{Checker, TypesBy, rightAlone, atOperator, aboveZero}
+use Rattle.paper.specs.WrongPrograms.{FirstPartOnly, WantsAllBlocks, StepsByCode, CountsRight, Lends, partOf, checking, judging, translating, loading, running, printing, explaining, summarizing, rechecking, fixing, OthersKept, ThereIs, WrongProgramsExist}
 use Rattle.paper.proofs.Promised.{placeAt, explanationFor, translation-same, can-be-kept}
 use Rattle.paper.proofs.ByteLists.{zero-bytes, all-bytes}
 use Rattle.paper.proofs.LoadedBlocksRun.{load-counts}
@@ -45,6 +47,7 @@ use Rattle.paper.proofs.DemandThree.{demand-three-met}
 use Rattle.paper.proofs.WrongExplainersExist.{wrong-explainers-exist}
 use Rattle.paper.proofs.WrongRecheckersExist.{never-real, always-real, equal-real, unranked-real, readings-real, priority-counted-real, fields-missed-real}
 use Rattle.paper.proofs.WrongFixersExist.{strings-real, comments-real, dropped-real, zeros-real}
+use Rattle.paper.proofs.WrongCheckers.{checker-real}
 use Rattle.paper.proofs.WrongPrograms.{little, plain-written}
 
 -- a program that cuts: it translates what stands before the first ";"
@@ -76,6 +79,37 @@ plain-counts = refl
 -- each wrong program is one that keeps all promises but that of one call
 
 module _ (q : Programs) (kept : Kept q) where
+  -- with another check
+  checkers : Checker → Programs
+  checkers check =
+      record {
+        read = q .read;
+        check = check;
+        judge = q .judge;
+        translate = q .translate;
+        load = q .load;
+        run = q .run;
+        print = q .print;
+        explain = q .explain;
+        summarize = q .summarize;
+        recheck = q .recheck;
+        fix = q .fix;
+      }
+
+  others-than-check : (check : Checker) → OthersKept checking (checkers check)
+  unfolding checkers
+  others-than-check check = (
+    (kept .read, kept .judge, kept .translate, kept .load, kept .run),
+    (kept .print, kept .explain, kept .summarize, kept .recheck, kept .fix),
+  )
+
+  -- one that types by a rule of its own
+  there-checks : (rule : ComparisonRule) → ThereIs (λ p. TypesBy rule (p .check)) checking
+  unfolding checkers
+  there-checks rule =
+      let (x, types) = checker-real rule in
+      (checkers x, types, others-than-check x)
+
   -- with other calls of document 01, or another printer
   abbrev with-calls : (List ℕ → List ℕ → List ℕ → Judgement) → (List ℕ → List ℕ → List ℕ → TranslateResult) → Loader → Runner
       → (List ℕ → List ℕ → PrintResult) → Programs
@@ -404,4 +438,8 @@ wrong-programs-exist =
       fixing-comments = let (x, changes) = comments-real (q .fix) in (fixers q kept x, changes, others-than-fix q kept x);
       fixing-with-zeros = let (x, keeps) = zeros-real (q .fix) in (fixers q kept x, keeps, others-than-fix q kept x);
       fixing-to-decimal = let (x, drops) = dropped-real (q .fix) in (fixers q kept x, drops, others-than-fix q kept x);
+      reducing-still = there-checks q kept ruleBefore;
+      looking-right = there-checks q kept rightAlone;
+      placing-at-operator = there-checks q kept atOperator;
+      taking-none-below = there-checks q kept aboveZero;
     }

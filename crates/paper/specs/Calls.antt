@@ -1,5 +1,6 @@
 -- What each public call answers for any bytes, and what the buffer holds after `translate` and `print`.
 -- 01, "Stages run in the order below, those that a call has": 1; 2; 3 and 4; 5 to 7; 8 to 10; 11 to 13; 14; 15; 16; 17; 18; 19; 20.
+-- 22 (02 h) is with 5 to 7, and 23 (02 j) with 11 to 13.
 use Prim.Native.Nat.{ℕ, _*_}
 use mathlib.Core.Bool.{Bool, _&&_}
 use mathlib.Core.List.{List, _++_}
@@ -31,7 +32,7 @@ pub record Restriction : Type 0 where
   pub keys : List Key
   pub root : Tree
 
--- 1; 2; 3 and 4; 5 to 10; 11 to 14
+-- 1; 2; 3 and 4; 5 to 10 and 22; 11 to 14 and 23
 unfoldable pub restriction : List ℕ → List ℕ → Answer Restriction
 unfolding keys tree typed
 restriction text list =

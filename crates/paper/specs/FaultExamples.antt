@@ -91,16 +91,17 @@ pub record Order : Type 0 where
   pub decided : Decided (stage inText noneOf ∷ stage inList (oneOf 4 80) ∷ stage inEntry (oneOf 19 0) ∷ []) 4 inList 80
   pub clear : Clear (stage inText noneOf ∷ stage inList noneOf ∷ [])
 
--- "Stages: 1; 2; 3 and 4; 5 to 7; 8 to 10; 11 to 13; 14; 15; 16; 17; 18; 19; 20", "those that a call has": the input of each
+-- "Stages: 1; 2; 3 and 4; 5 to 7; 8 to 10; 11 to 13; 14; 15; 16; 17; 18; 19; 20", "those that a call has": the input of each. 22 is with 5
+-- to 7, and 23 with 11 to 13
 
 abbrev pub inputs : List Stage → List Input
 inputs [] = []
 inputs (s ∷ ss) = s .input ∷ inputs ss
 
 pub record InputsInOrder : Type 0 where
-  -- 1; 5 to 7; 8 to 10
+  -- 1; 5 to 7 and 22; 8 to 10
   pub read : inputs (readStages []) ≡ inText ∷ inText ∷ inText ∷ []
-  -- 1; 2; 3 and 4; 5 to 7; 8 to 10; 11 to 13; 14
+  -- 1; 2; 3 and 4; 5 to 7 and 22; 8 to 10; 11 to 13 and 23; 14
   pub check : inputs (checkStages [] []) ≡ inText ∷ inList ∷ inList ∷ inText ∷ inText ∷ inText ∷ inText ∷ []
   -- and 19; 20
   pub judge : inputs (judgeStages [] [] []) ≡ inputs (checkStages [] []) ++ (inEntry ∷ inEntry ∷ [])

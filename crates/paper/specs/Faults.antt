@@ -13,7 +13,7 @@ use Rattle.paper.specs.Keys.{Key, recordSize, mostKeys, recordsIn, recor
 use Rattle.paper.specs.Entry.{headSize, matchSize, matchAt, matchOk, priorityOf}
 use Rattle.paper.specs.Grammar.{Tree, key, field, attribute, prefixed, joined, compared, placeOf}
 use Rattle.paper.specs.Sentences.{Stops, placeFrom}
-use Rattle.paper.specs.Types.{Ty, bool, andThen, fieldNamed, fieldType, prefixType, joinType, comparisonType, typeOf}
+use Rattle.paper.specs.Types.{Ty, bool, andThen, fieldNamed, fieldType, prefixType, joinType, comparisonType, keepsBits, typeOf}
 use Rattle.paper.specs.Code.{Skip, Instruction, skip, act, ends, typeAction, actionOf}
 use Rattle.paper.specs.Blocks.{blockSize, mostBlocks, blocksNeeded, blocksIn, blockOk}
 use Rattle.paper.specs.Loading.{instructionAt, program}
@@ -95,6 +95,7 @@ TextGrammar size ts n at = (us : List Token) × Stops ts us n × (at ≡ placeFr
 -- 11: "unknown key"; its token
 -- 12: "unknown field for that kind, or unknown attribute"; the field or attribute name
 -- 13: "operator with wrong operand types"; operator. "An operator is judged only when its operands have types."
+-- 23: a number that loses bits, "at the operand's place, .. once both operands have types that suit the operator"
 pub data TreeTypes (ks : List Key) : Tree → ℕ → ℕ → Type 0 where
   key-unknown : {w : List ℕ} (at : ℕ) → find ks w ≡ none → TreeTypes ks (key at w) 11 at
   key-of-field-unknown : {w f : List ℕ} (at to : ℕ) → find ks w ≡ none → TreeTypes ks (field at w to f) 11 at
@@ -107,6 +108,10 @@ pub data TreeTypes (ks : List Key) : Tree → ℕ → ℕ → Type 0 where
       → TreeTypes ks (joined at o l r) 13 at
   comparison-wrong : {l r : Tree} (at : ℕ) (c : Comparison) (a b : Ty) → typeOf ks l ≡ ok a → typeOf ks r ≡ ok b
       → comparisonType c a b ≡ none → TreeTypes ks (compared at c l r) 13 at
+  left-loses-bits : {l r : Tree} (at : ℕ) (c : Comparison) (a b : Ty) → typeOf ks l ≡ ok a → typeOf ks r ≡ ok b
+      → comparisonType c a b ≡ some bool → keepsBits l b ≡ false → TreeTypes ks (compared at c l r) 23 (placeOf l)
+  right-loses-bits : {l r : Tree} (at : ℕ) (c : Comparison) (a b : Ty) → typeOf ks l ≡ ok a → typeOf ks r ≡ ok b
+      → comparisonType c a b ≡ some bool → keepsBits r a ≡ false → TreeTypes ks (compared at c l r) 23 (placeOf r)
   in-operand : {t : Tree} {n to : ℕ} (at : ℕ) (o : Prefix) → TreeTypes ks t n to → TreeTypes ks (prefixed at o t) n to
   join-left : {l r : Tree} {n to : ℕ} (at : ℕ) (o : Join) → TreeTypes ks l n to → TreeTypes ks (joined at o l r) n to
   join-right : {l r : Tree} {n to : ℕ} (at : ℕ) (o : Join) → TreeTypes ks r n to → TreeTypes ks (joined at o l r) n to

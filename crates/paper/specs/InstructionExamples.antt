@@ -323,7 +323,7 @@ onTheMarkedEntry =
 -- each key with the match of one value, to which a number is converted
 abbrev pub onOneValueEach : List (Example (List Parts) (Answer Bool))
 onOneValueEach =
-    accepted (key 1 ∷ int 0x20 ∷ to 1 8 ∷ compares 0 ∷ [])
+    accepted (key 1 ∷ int 0xbb ∷ to 1 8 ∷ compares 0 ∷ [])
     ∷ accepted (key 1 ∷ field 0 1 ∷ to 1 8 ∷ compares 0 ∷ [])
     ∷ accepted (key 2 ∷ int 0xc1 ∷ to 2 8 ∷ compares 0 ∷ [])
     ∷ accepted (key 3 ∷ int 443 ∷ to 3 16 ∷ compares 0 ∷ [])

@@ -55,6 +55,7 @@ pub mod PrintExamples
 pub mod PartExamples
 pub mod SummaryExamples
 pub mod RequiredExamples
+pub mod BitsExamples
 pub mod FixExamples
 pub mod AnswerExamples
 pub mod FaultExamples
@@ -62,6 +63,7 @@ pub mod Promised
 pub mod Pieces
 pub mod Faults
 pub mod Required
+pub mod BitsKept
 pub mod Table
 pub mod Demands
 pub mod WrongPrints
@@ -69,5 +71,6 @@ pub mod WrongExplainers
 pub mod WrongRecheckers
 pub mod WrongRunners
 pub mod WrongFixers
+pub mod WrongCheckers
 pub mod PiecesRight
 pub mod WrongPrograms

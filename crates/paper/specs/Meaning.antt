@@ -12,7 +12,7 @@ use Rattle.paper.specs.Keys.{Kind, exact, ternary, lpm, range, optional,
 use Rattle.paper.specs.Entry.{Match, Entry, isExact}
 use Rattle.paper.specs.Grammar as G
 use Rattle.paper.specs.Grammar.{Tree}
-use Rattle.paper.specs.Types.{Ty, bool, int, of, sameTy, when, andThen, Field, value, mask, prefixLength, low, high, fieldNamed, has, meet, compares, takes, suits}
+use Rattle.paper.specs.Types.{Ty, bool, int, of, sameTy, when, andThen, Field, value, mask, prefixLength, low, high, fieldNamed, has, meet, compares, takes, suits, keepsBits}
 
 -- a number of bit<W> is the exact match of that number
 pub data Value : Type 0 where
@@ -148,7 +148,7 @@ convertValue k w a = when (takes (of k w) (tyOf a)) (inType (of k w) a)
 abbrev pub compareValue : Comparison → Value → Value → Option Value
 compareValue c a b = when (sameTy (tyOf a) (tyOf b) && suits c (tyOf a)) (truth (holds c a b))
 
--- trees; nothing where a tree has no type
+-- trees; nothing where a tree has no type, so nothing of a comparison whose number loses bits (02 j)
 unfoldable pub valueOf : List Key → Entry → Tree → Option Value
 valueOf ks e (G.truth at b) = some (truth b)
 valueOf ks e (G.number at n) = some (whole (pos (n .value)))
@@ -157,7 +157,9 @@ valueOf ks e (G.field at w to f) = andThen (find ks w) (λ k. andThen (fieldName
 valueOf ks e (G.attribute at to f) = when (sameBytes f (bytes "priority")) (whole (pos (e .priority)))
 valueOf ks e (G.prefixed at o t) = andThen (valueOf ks e t) (prefixValue o)
 valueOf ks e (G.joined at o l r) = andThen (valueOf ks e l) (λ a. andThen (valueOf ks e r) (joinValue (connective o) a))
-valueOf ks e (G.compared at c l r) = andThen (valueOf ks e l) (λ a. andThen (valueOf ks e r) (comparisonValue c a))
+valueOf ks e (G.compared at c l r) =
+    andThen (valueOf ks e l)
+    (λ a. andThen (valueOf ks e r) (λ b. andThen (comparisonValue c a b) (when (keepsBits l (tyOf b) && keepsBits r (tyOf a)))))
 
 -- of a text that passes, the value is a bool; no other is true
 abbrev pub isTrue : Option Value → Bool

@@ -1,10 +1,11 @@
 -- 01, "Types and meaning", the meaning, by example: each operator on each pair of values, matches equal in all fields, and numbers that
 -- meet a width.
-use Prim.Native.Nat.{ℕ}
+use Prim.Native.Nat.{ℕ, _+_, _^_}
 use Prim.Native.String as S
 use mathlib.Core.Path.{_≡_}
 use mathlib.Core.Bool.{Bool, true, false}
 use mathlib.Core.List.{List, [], _∷_, _++_}
+use lib.ListN.{drop}
 use Rattle.paper.specs.Answers.{ok, refused, inEntry}
 use Rattle.paper.specs.Numbers.{bigEndian}
 use Rattle.paper.specs.Tokens.{bytes}
@@ -108,13 +109,8 @@ marked =
     ∷ accepted "--r::low == 80"
     -- "An int meeting width W is reduced modulo 2^W first."
     ∷ accepted "d::mask == 240"
-    ∷ accepted "d::mask == 496"
     ∷ accepted "d::mask == -16"
     ∷ violated "d::mask == 241"
-    ∷ accepted "o::mask == -16"
-    ∷ accepted "o::mask == 16"
-    ∷ accepted "496 == d::mask"
-    ∷ accepted "d::mask > 256"
     ∷ accepted "d::mask < -1"
     ∷ accepted "-1 >= d::mask"
     ∷ violated "-1 < v::value"
@@ -129,14 +125,36 @@ marked =
     ∷ violated "p::value == p"
     ∷ []
 
+-- "Other ints, such as prefix lengths, are still reduced" (02 j): the marked entry with another priority. 496 is 240 modulo 2^8, and 0 modulo
+-- 2^4 and 2; prefix length 2 is 0 modulo 2
+
+abbrev pub withPriority : ℕ → List ℕ
+withPriority n = bigEndian 4 n ++ drop 4 theEntry
+
+abbrev pub reduced : List Case
+reduced =
+    accepted "d::mask == ::priority"
+    ∷ accepted "::priority == d::mask"
+    ∷ accepted "-d::mask == -::priority"
+    ∷ violated "d::mask == -::priority"
+    ∷ accepted "o::mask == ::priority"
+    ∷ accepted "o::mask == -::priority"
+    ∷ accepted "d::mask >= ::priority"
+    ∷ accepted "v::value > ::priority"
+    ∷ accepted "v::value > p::prefix_length"
+    -- ints stay whole among themselves
+    ∷ violated "::priority == 240"
+    ∷ accepted "::priority == 496"
+    ∷ []
+
 -- each key with the match of one value: "A number meeting a bare key becomes the match of that one value: mask all ones, prefix length
--- W, or low equal to high."
+-- W, or low equal to high." The priority is reduced first: it is 443 modulo 2^16, 0xBB modulo 2^8, and minus it is 5 modulo 2^4
 
 abbrev pub oneEach : List ℕ
 oneEach =
-    bigEndian 4 0
+    bigEndian 4 (2 ^ 16 + 443)
     ++ matchRecord 1 0 0 0
-    ++ matchRecord 1 0 0x20 0xFF
+    ++ matchRecord 1 0 0xBB 0xFF
     ++ matchRecord 1 8 0xC1 0
     ++ matchRecord 1 0 443 443
     ++ matchRecord 1 0 5 15
@@ -145,22 +163,23 @@ abbrev pub oneValues : List Case
 oneValues =
     accepted "v == 0"
     ∷ violated "v == 1"
-    ∷ accepted "d == 0x20"
-    ∷ accepted "0x20 == d"
-    ∷ accepted "d == 0x120"
+    ∷ accepted "v == p::prefix_length"
+    ∷ accepted "d == 0xbb"
+    ∷ accepted "0xbb == d"
+    ∷ accepted "d == ::priority"
     ∷ accepted "d == d::value"
-    ∷ violated "d == 0x21"
-    ∷ accepted "d != 0x21"
+    ∷ violated "d == 0xba"
+    ∷ accepted "d != 0xba"
     ∷ accepted "p == 0xc1"
     ∷ accepted "p::value == p"
     ∷ violated "p == 0xc0"
     ∷ accepted "r == 443"
-    ∷ accepted "65979 == r"
+    ∷ accepted "::priority == r"
     ∷ accepted "r == r::high"
     ∷ violated "r == 442"
     ∷ violated "r == 444"
     ∷ accepted "o == 5"
-    ∷ accepted "-11 == o"
+    ∷ accepted "-::priority == o"
     ∷ violated "o == 4"
     ∷ []
 
@@ -225,6 +244,7 @@ pub record MeaningExamples : Type 0 where
   pub bits : Bits
   pub matches : Matches
   pub on-the-marked-entry : AreJudged theKeys theEntry marked
+  pub of-ints-reduced : AreJudged theKeys (withPriority 496) reduced
   pub of-one-value : AreJudged theKeys oneEach oneValues
   pub one-value : OneValue
   pub of-ports : Ports

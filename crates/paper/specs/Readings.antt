@@ -126,7 +126,7 @@ readings =
     ∷ accepted "p::prefix_length == 2"
     ∷ accepted "d::mask == 240"
     ∷ accepted "-d::mask == 16"
-    ∷ accepted "v::value == 257"
+    ∷ refusedAt "v::value == 257" 23 12
     ∷ accepted "::priority >= 10"
     ∷ violated "::priority > 10"
     ∷ violated "::priority <= -1"

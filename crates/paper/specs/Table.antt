@@ -16,7 +16,7 @@ use Rattle.paper.specs.Faults.{Faults, TextSize, ListSize, ListRecords, 
 
 -- the table's numbers run from 1 to this one
 abbrev pub lastNumber : ℕ
-lastNumber = 22
+lastNumber = 23
 
 -- "In a stage the earliest place wins; at one place the lower number wins."
 
@@ -72,7 +72,7 @@ listStages list = listStagesBy layoutRule list
 abbrev pub treeStages : List ℕ → List Stage
 treeStages text = stage inText (TextTokens text) ∷ stage inText (Given (tokens text) (TextGrammar (length text))) ∷ []
 
--- 11 to 13; 14
+-- 11 to 13 and 23; 14
 abbrev pub typeStages : List ℕ → List ℕ → List Stage
 typeStages text list =
     stage inText (Given (keys list) (λ ks. Given (tree text) (TreeTypes ks)))

@@ -102,7 +102,7 @@ counts =
     ∷ on "!(v == 1)" (ok 1)
     ∷ on "v == 1; true" (ok 1)
     ∷ on "true; v == 1" (ok 1)
-    ∷ on "(v == 1) == (2 == v)" (ok 2)
+    ∷ on "(v == 1) == (0 == v)" (ok 2)
     ∷ on "::priority < 1" (ok 0)
     ∷ on "p::prefix_length == 1" (ok 0)
     ∷ []

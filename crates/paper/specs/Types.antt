@@ -1,13 +1,14 @@
--- 01, "Types and meaning", the types; refusals 11 to 14.
+-- 01, "Types and meaning", the types; refusals 11 to 14, and 23 of 02 j.
 -- "Types: bool, int, bit<W>, and ternary, lpm, range, optional of W. A bare exact key is bit<W>; another bare key has its kind's
 -- type." So bit<W> is the type of exact at W.
-use Prim.Native.Nat.{ℕ}
+use Prim.Native.Nat.{ℕ, _-_, _^_}
 use mathlib.Core.Bool.{Bool, true, false, not, cond, _&&_, _||_}
 use mathlib.Core.Option.{Option, none, some, Option·map}
 use mathlib.Core.List.{List}
 use lib.ListN.{getElem?}
-use lib.Dec.{eqb}
-use Rattle.paper.specs.Answers.{Answer, ok, refused, _>>=_, inText}
+use lib.Dec.{eqb, ltb}
+use lib.IntN.{ℤ, pos, negsuc, negℤ}
+use Rattle.paper.specs.Answers.{Answer, ok, refused, _>>=_, require, inText}
 use Rattle.paper.specs.Tokens.{bytes, sameBytes, Prefix, notSign, minusSign, Comparison, equal, unequal, greater, atLeast, less, atMost}
 use Rattle.paper.specs.Keys.{Kind, exact, ternary, lpm, range, optional, kindNo, Key, isNone, find}
 use Rattle.paper.specs.Entry.{isExact}
@@ -173,12 +174,50 @@ suits c a = compares c a a
 abbrev pub compareType : Comparison → Ty → Ty → Option Ty
 compareType c a b = when (sameTy a b && suits c a) bool
 
+-- numbers that lose bits (02 j)
+
+-- "an int operand built only of a numeral or address, minus signs and parentheses": its number. Parentheses are no part of a tree
+abbrev pub spelled : Tree → Option ℤ
+spelled (truth at b) = none
+spelled (number at n) = some (pos (n .value))
+spelled (key at w) = none
+spelled (field at w to f) = none
+spelled (attribute at to f) = none
+spelled (prefixed at notSign t) = none
+spelled (prefixed at minusSign t) = Option·map negℤ (spelled t)
+spelled (joined at o l r) = none
+spelled (compared at c l r) = none
+
+-- "its number must lie between −2^(W−1) and 2^W − 1": a number n, or −(n + 1)
+abbrev pub fitsIn : ℕ → ℤ → Bool
+fitsIn w (pos n) = ltb n (2 ^ w)
+fitsIn w (negsuc n) = ltb n (2 ^ (w - 1))
+
+-- no number, none lost: "Other ints, such as prefix lengths, are still reduced"
+abbrev pub holdsAll : ℕ → Option ℤ → Bool
+holdsAll w none = true
+holdsAll w (some z) = fitsIn w z
+
+-- "Where an int operand .. meets width W": an operand, beside one of that type
+abbrev pub keepsBits : Tree → Ty → Bool
+keepsBits t bool = true
+keepsBits t int = true
+keepsBits t (of k w) = holdsAll w (spelled t)
+
+-- "Otherwise give new number 23, at the operand's place"
+abbrev pub bitsKept : Tree → Ty → Answer (Unit {0})
+bitsKept t other = require (keepsBits t other) 23 inText (placeOf t)
+
 -- trees
 
 -- 13: "operator with wrong operand types", at the operator
 abbrev pub operatorType : ℕ → Option Ty → Answer Ty
 operatorType at none = refused 13 inText at
 operatorType at (some a) = ok a
+
+-- "in the type stage, once both operands have types that suit the operator; such a comparison has no type"
+abbrev pub comparedType : ℕ → Comparison → Tree → Tree → Ty → Ty → Answer Ty
+comparedType at c l r a b = operatorType at (comparisonType c a b) >>= λ t. bitsKept l b >>= λ _. bitsKept r a >>= λ _. ok t
 
 -- 11: "unknown key", at its token
 abbrev pub known : {A : Type 0} → ℕ → Option A → Answer A
@@ -199,7 +238,7 @@ typeOf ks (field at w to f) = known at (find ks w) >>= λ k. namedType to (andTh
 typeOf ks (attribute at to f) = namedType to (when (sameBytes f (bytes "priority")) int)
 typeOf ks (prefixed at o t) = typeOf ks t >>= λ a. operatorType at (prefixType o a)
 typeOf ks (joined at o l r) = typeOf ks l >>= λ a. typeOf ks r >>= λ b. operatorType at (joinType a b)
-typeOf ks (compared at c l r) = typeOf ks l >>= λ a. typeOf ks r >>= λ b. operatorType at (comparisonType c a b)
+typeOf ks (compared at c l r) = typeOf ks l >>= λ a. typeOf ks r >>= λ b. comparedType at c l r a b
 
 -- 14: "whole text not bool", at the root's place
 abbrev pub rootType : Tree → Ty → Answer (Unit {0})

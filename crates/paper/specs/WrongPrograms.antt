@@ -1,5 +1,6 @@
 -- 01, "Try these against it": programs that the promises must leave no room for; and wrong printers (02 a and e), explainers (02 c),
--- summaries and rechecks (02 f), ways with skips (02 g), and passes over octal numerals (02 h). Each is refuted at an input, named in the proof.
+-- summaries and rechecks (02 f), ways with skips (02 g), passes over octal numerals (02 h), and checkers of numbers that lose bits (02 j).
+-- Each is refuted at an input, named in the proof.
 use Prim.Native.Nat.{ℕ, _+_, _*_, _≤_, _<_}
 use mathlib.Core.Path.{_≡_}
 use mathlib.Core.Bool.{true, false, cond}
@@ -29,6 +30,7 @@ use Rattle.paper.specs.WrongExplainers.{Explainer, NamesLast, FollowsSpi
 use Rattle.paper.specs.WrongRecheckers.{NeverReuses, AlwaysReuses, WantsEqualEntries, ForgetsPriority, ComparesReadings, CountsPriority, MissesFields}
 use Rattle.paper.specs.WrongRunners.{ReportsInstructions, LeavesOldBool, ComparesHeights}
 use Rattle.paper.specs.WrongFixers.{ChangesStrings, ChangesComments, KeepsZeros, DropsPrefix}
+use Rattle.paper.specs.WrongCheckers.{ReducesStill, LooksRight, PlacesAtOperator, TakesNoneBelowZero}
 use Rattle.paper.specs.Demands.{Refuses, blocksWritten, DemandOne, DemandTwo, DemandThree}
 
 -- the bytes before the first ";"
@@ -174,10 +176,24 @@ FixesWithZeros p = KeepsZeros (p .fix)
 abbrev pub FixesToDecimal : Programs → Type 0
 FixesToDecimal p = DropsPrefix (p .fix)
 
+-- those of WrongCheckers
+
+abbrev pub ChecksReduced : Programs → Type 0
+ChecksReduced p = ReducesStill (p .check)
+
+abbrev pub ChecksRightOperands : Programs → Type 0
+ChecksRightOperands p = LooksRight (p .check)
+
+abbrev pub ChecksAtOperator : Programs → Type 0
+ChecksAtOperator p = PlacesAtOperator (p .check)
+
+abbrev pub ChecksAboveZero : Programs → Type 0
+ChecksAboveZero p = TakesNoneBelowZero (p .check)
+
 -- each is real: there is such a program in which every other call keeps its promise
 
 pub data Call : Type 0 where
-  judging translating loading running printing explaining summarizing rechecking fixing : Call
+  checking judging translating loading running printing explaining summarizing rechecking fixing : Call
 
 -- the calls of document 01, and those of 02
 
@@ -188,6 +204,7 @@ abbrev pub LaterKept : Programs → Type 0
 LaterKept p = KeepsPrint p × KeepsExplain p × KeepsSummarize p × KeepsRecheck p × KeepsFix p
 
 abbrev pub OthersKept : Call → Programs → Type 0
+OthersKept checking p = (KeepsRead p × KeepsJudge p × KeepsTranslate p × KeepsLoad p × KeepsRun p) × LaterKept p
 OthersKept judging p = (KeepsRead p × KeepsCheck p × KeepsTranslate p × KeepsLoad p × KeepsRun p) × LaterKept p
 OthersKept translating p = (KeepsRead p × KeepsCheck p × KeepsJudge p × KeepsLoad p × KeepsRun p) × LaterKept p
 OthersKept loading p = (KeepsRead p × KeepsCheck p × KeepsJudge p × KeepsTranslate p × KeepsRun p) × LaterKept p
@@ -233,8 +250,12 @@ pub record WrongProgramsExist : Type 0 where
   pub fixing-comments : ThereIs FixesComments fixing
   pub fixing-with-zeros : ThereIs FixesWithZeros fixing
   pub fixing-to-decimal : ThereIs FixesToDecimal fixing
+  pub reducing-still : ThereIs ChecksReduced checking
+  pub looking-right : ThereIs ChecksRightOperands checking
+  pub placing-at-operator : ThereIs ChecksAtOperator checking
+  pub taking-none-below : ThereIs ChecksAboveZero checking
 
--- what excludes each: a demand, beside the calls that it is tried with; or the promise of `load`, by 18
+-- what excludes each: a demand, beside the calls that it is tried with; or a promise, that of `load` by 18, or that of `check` by a place
 pub record DemandsExclude (p : Programs) : Type 0 where
   pub refusing : DemandTwo p → ¬ RefusesAll p
   pub accepting : DemandTwo p → ¬ AcceptsAll p
@@ -267,6 +288,10 @@ pub record DemandsExclude (p : Programs) : Type 0 where
   pub fixing-comments : DemandTwo p → ¬ FixesComments p
   pub fixing-with-zeros : DemandTwo p → ¬ FixesWithZeros p
   pub fixing-to-decimal : DemandTwo p → ¬ FixesToDecimal p
+  pub reducing-still : DemandTwo p → ¬ ChecksReduced p
+  pub looking-right : DemandTwo p → ¬ ChecksRightOperands p
+  pub placing-at-operator : KeepsCheck p → ¬ ChecksAtOperator p
+  pub taking-none-below : DemandTwo p → ¬ ChecksAboveZero p
 
 abbrev pub WrongProgramsFail : Type 0
 WrongProgramsFail = (p : Programs) → DemandsExclude p
@@ -304,6 +329,10 @@ pub record Excluded (p : Programs) : Type 0 where
   pub fixing-comments : ¬ FixesComments p
   pub fixing-with-zeros : ¬ FixesWithZeros p
   pub fixing-to-decimal : ¬ FixesToDecimal p
+  pub reducing-still : ¬ ChecksReduced p
+  pub looking-right : ¬ ChecksRightOperands p
+  pub placing-at-operator : ¬ ChecksAtOperator p
+  pub taking-none-below : ¬ ChecksAboveZero p
 
 abbrev pub NoWrongProgram : Type 0
 NoWrongProgram = (p : Programs) → Kept p → Excluded p

@@ -44,3 +44,5 @@ pub const ENTRY_RULE: u8 = 20;
 pub const PRINT_LONG: u8 = 21;
 
 pub const OCTAL: u8 = 22;
+
+pub const BITS_LOST: u8 = 23;

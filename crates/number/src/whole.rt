@@ -3,6 +3,7 @@ ghost use mathlib.Core.Path.{_≡_};
 ghost use Prim.Native.Nat.{_^_, min};
 ghost use lib.IntN.{pos, negℤ};
 ghost use Rattle.paper.specs.Numbers.{modulo, sameWhole, lessWhole};
+ghost use Rattle.paper.specs.Types.{fitsIn};
 ghost use Rattle.number.specs.Values.{value, wholeOf};
 use crate::magnitude::Magnitude;
 
@@ -89,5 +90,16 @@ impl Whole {
             return size.minus(w);
         }
         size.lowest(w)
+    }
+
+    // Whether the whole number lies between -2^(w - 1) and 2^w - 1, so that w bits hold it with none lost.
+    pub fn fits_in(self, w: u32) -> bool
+        ensures { λ r. ⌜ r ≡ fitsIn w (wholeOf self) ⌝ }
+    {
+        let size = self.size;
+        if self.negative {
+            return size.at_most_half(w);
+        }
+        size.fits(w)
     }
 }

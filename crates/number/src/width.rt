@@ -2,7 +2,7 @@
 // given: there a w past 128 counts as 128.
 ghost use mathlib.Core.Path.{_≡_};
 ghost use Prim.Native.Nat.{_+_, _-_, _*_, _%_, _^_, min};
-ghost use lib.Dec.{eqb, ltb};
+ghost use lib.Dec.{eqb, leb, ltb};
 ghost use lib.IntN.{pos, negℤ};
 ghost use Rattle.paper.specs.Numbers.{modulo};
 ghost use Rattle.number.specs.Values.{bit, value};
@@ -123,5 +123,20 @@ impl Magnitude {
             return clear(third, past(k, 64));
         }
         clear(self.limbs[3], past(k, 96))
+    }
+
+    // Whether the number is at most 2^(w - 1), half of what w bits count. From that half on, it is the half where w bits hold it and all
+    // but the highest of them are zero.
+    pub(crate) fn at_most_half(self, w: u32) -> bool
+        ensures { λ r. ⌜ r ≡ leb (value self) (2 ^ (w - 1)) ⌝ }
+    {
+        let k = past(w, 1);
+        if self.fits(k) {
+            return true;
+        }
+        if self.fits(k + 1) {
+            return self.low_clear(k);
+        }
+        false
     }
 }

@@ -1,11 +1,13 @@
--- A node that is "-": its operand stands below it, and has its type.
+-- A node that is "-": its operand stands below it, and has its type, and the number that it spells under the other sign.
 use Prim.Native.Nat.{ℕ, _-_, _<_}
 use mathlib.Core.Path.{_≡_, refl, sym, _∙_, ap}
 use mathlib.Core.Bool.{true, false≢true}
+use mathlib.Core.Option.{Option·map}
 use mathlib.Core.List.{List}
+use lib.IntN.{negℤ}
 use Rattle.paper.specs.Answers.{ok}
 use Rattle.paper.specs.Keys.{Key}
-use Rattle.paper.specs.Types.{Ty, typeOf}
+use Rattle.paper.specs.Types.{Ty, spelled, typeOf}
 use Rattle.trees.specs.declared.node.Node.{Node}
 use Rattle.trees.specs.declared.node.Node.the-variants.{Without, Before, Between}
 use Rattle.trees.specs.declared.node.Prefix.the-variants.{Not, Minus}
@@ -29,3 +31,7 @@ pub minus-same : (ks : List Key) (text nodes : List ℕ) (i : ℕ) (a : Ty) → 
 minus-same ks text nodes i a h typed =
     minus-typed ks (placeAt nodes i) a (treeAt text nodes (i - 1))
     (ap (typeOf ks) (sym (tree-at text nodes i (Before Minus) (sym (minus-is (nodeAt nodes i) h)))) ∙ typed)
+
+pub minus-spelled : (text nodes : List ℕ) (i : ℕ) → isMinus (nodeAt nodes i) ≡ true
+    → spelled (treeAt text nodes i) ≡ Option·map negℤ (spelled (treeAt text nodes (i - 1)))
+minus-spelled text nodes i h = ap spelled (tree-at text nodes i (Before Minus) (sym (minus-is (nodeAt nodes i) h)))

@@ -7,7 +7,7 @@ use Rattle.paper.specs.Answers.{ok, _>>=_}
 use Rattle.paper.specs.Tokens.{Prefix, notSign, minusSign}
 use Rattle.paper.specs.Keys.{Key}
 use Rattle.paper.specs.Grammar.{Tree, prefixed}
-use Rattle.paper.specs.Types.{Ty, bool, sameTy, when, isNumber, compares, prefixType, operatorType, typeOf}
+use Rattle.paper.specs.Types.{Ty, bool, sameTy, when, isNumber, compares, prefixType, comparisonType, bitsKept, operatorType, typeOf}
 use Rattle.paper.proofs.Stages.{never-ok, ok-same, bind-ok}
 use Rattle.trees.specs.declared.node.Operator.{Operator}
 use Rattle.trees.specs.declared.node.Operator.the-variants.{Joins, Compares}
@@ -15,7 +15,7 @@ use Rattle.trees.specs.declared.node.Node.the-variants.{Before}
 use Rattle.trees.specs.declared.node.Prefix as N
 use Rattle.trees.specs.declared.node.Prefix.the-variants.{Not, Minus}
 use Rattle.trees.specs.Standing.{operatorOn, prefixMeant, comparisonMeant}
-use Rattle.typing.specs.Says.{operatorMade, isMinus}
+use Rattle.typing.specs.Says.{operatorMade, operatorSays, isMinus}
 use Rattle.typing.proofs.Walked.{between}
 
 -- a test that passes gives what it guards
@@ -43,13 +43,22 @@ module _ (ks : List Key) (at : ℕ) (a : Ty) where
   not-bool Not t h e = not-typed t e
   not-bool Minus t h e = absurd (false≢true (sym h))
 
+  -- a comparison that has a type has the one that its operands' types make
+  suited : (o : Operator) (l r : Tree) (b c : Ty) → operatorSays at o l r b c ≡ ok a → operatorType at (operatorMade o b c) ≡ ok a
+  suited (Joins o) l r b c e = e
+  suited (Compares o) l r b c e =
+      let (t, typed, rest) = bind-ok (operatorType at (comparisonType (comparisonMeant o) b c)) (λ t. bitsKept l c >>= λ _. bitsKept r b >>= λ _. ok t) a e in
+      let (_, _, right) = bind-ok (bitsKept l c) (λ _. bitsKept r b >>= λ _. ok t) a rest in
+      let (_, _, same) = bind-ok (bitsKept r b) (λ _. ok t) a right in
+      typed ∙ same
+
   -- both operands, and what the operator makes of their types
   pub operands-typed : (o : Operator) (l r : Tree) → typeOf ks (operatorOn at o l r) ≡ ok a
       → (b c : Ty) × (typeOf ks l ≡ ok b) × (typeOf ks r ≡ ok c) × (operatorType at (operatorMade o b c) ≡ ok a)
   operands-typed o l r e =
-      let (b, left, rest) = bind-ok (typeOf ks l) (λ x. typeOf ks r >>= λ y. operatorType at (operatorMade o x y)) a (between ks at o l r ∙ e) in
-      let (c, right, made) = bind-ok (typeOf ks r) (λ y. operatorType at (operatorMade o b y)) a rest in
-      (b, c, left, right, made)
+      let (b, left, rest) = bind-ok (typeOf ks l) (λ x. typeOf ks r >>= λ y. operatorSays at o l r x y) a (between ks at o l r ∙ e) in
+      let (c, right, says) = bind-ok (typeOf ks r) (λ y. operatorSays at o l r b y) a rest in
+      (b, c, left, right, suited o l r b c says)
 
   makes-bool : (o : Operator) (b c : Ty) → operatorType at (operatorMade o b c) ≡ ok a → bool ≡ a
   makes-bool (Joins o) b c e = passed at (sameTy b bool && sameTy c bool) bool a e .1

@@ -17,7 +17,7 @@ use trees::Node;
 use trees::Prefix;
 use values::types::Type;
 
-fn is_minus(n: Node) -> bool
+pub(crate) fn is_minus(n: Node) -> bool
     ensures { λ r. ⌜ r ≡ isMinus n ⌝ }
 {
     match n {

@@ -3,6 +3,7 @@ ghost use Rattle.paper.specs.Promised.{NoSecondResult, CanBeKept};
 ghost use Rattle.paper.specs.WrongPrints.{WrongPrintsFail};
 ghost use Rattle.paper.specs.WrongFixers.{WrongFixersFail};
 ghost use Rattle.paper.specs.WrongRunners.{WrongRunnersFail};
+ghost use Rattle.paper.specs.WrongCheckers.{WrongCheckersFail};
 ghost use Rattle.paper.specs.WrongPrograms.{WrongProgramsExist, WrongProgramsFail, NoWrongProgram, PaddingSeen};
 
 // For all inputs one result keeps the promise of a call, and no second; of `translate`, `print` and `fix_octal`, one answer with one buffer at
@@ -27,7 +28,8 @@ pub fn wrong_programs_exist()
 // or shows a key for a bad priority, a recheck that never reuses, always does, asks for equal entries, forgets the priority or compares readings,
 // a summary that counts ::priority or misses the key of a field, a run that reports the code's instructions as its steps or whose skips leave the
 // old bool, a load check that compares the heights of landings, a pass over octal that changes strings or comments, keeps leading zeros or drops
-// the letters of the prefix: each fails a demand, or refusal 18.
+// the letters of the prefix, a type check that reduces numbers still, looks at right operands alone, gives 23 at the operator or takes no number
+// below zero: each fails a demand, refusal 18, or the place of refusal 23.
 pub fn wrong_programs_fail()
     ensures { λ _. ⌜ WrongProgramsFail ⌝ }
 {}
@@ -58,4 +60,10 @@ pub fn wrong_fixers_fail()
 // each fails what is asked of a run or a load.
 pub fn wrong_runners_fail()
     ensures { λ _. ⌜ WrongRunnersFail ⌝ }
+{}
+
+// A type check that reduces numbers that lose bits still, one that looks at right operands alone, one that gives 23 at the operator, one that takes
+// no number below zero: each fails what is asked of a check, or its promise.
+pub fn wrong_checkers_fail()
+    ensures { λ _. ⌜ WrongCheckersFail ⌝ }
 {}

@@ -2,6 +2,7 @@
 // in `paper`; those of `calls`, and the last two of `pieces`, state the demands of what the real calls of `valve` answer.
 mod accounts;
 mod bases;
+mod bits;
 mod calls;
 mod damage;
 mod demands;

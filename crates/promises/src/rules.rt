@@ -12,6 +12,7 @@ ghost use Rattle.paper.specs.KeyExamples.{KeyExamples};
 ghost use Rattle.paper.specs.EntryExamples.{EntryExamples};
 ghost use Rattle.paper.specs.RequiredExamples.{RequiredExamples};
 ghost use Rattle.paper.specs.TypeExamples.{TypeExamples};
+ghost use Rattle.paper.specs.BitsExamples.{BitsExamples};
 ghost use Rattle.paper.specs.MeaningExamples.{MeaningExamples};
 ghost use Rattle.paper.specs.BlockExamples.{BlockExamples};
 ghost use Rattle.paper.specs.InstructionExamples.{InstructionExamples};
@@ -102,6 +103,12 @@ pub fn examples_of_required_keys()
 // Every pair of operand types under every operator, every field of every kind, and the places of refusals 11 to 14.
 pub fn examples_of_types()
     ensures { λ _. ⌜ TypeExamples ⌝ }
+{}
+
+// Both ends of the range at widths of 1, 8, 127 and 128 bits, every kind, field and comparison, signs, parentheses and addresses, what comes
+// before 23 and is not judged after it, and the ints that are still reduced.
+pub fn examples_of_lost_bits()
+    ensures { λ _. ⌜ BitsExamples ⌝ }
 {}
 
 // Each operator on each pair of values, matches that are equal in all fields, and numbers that meet a width.

@@ -6,6 +6,7 @@
 // the place, what broke for an entry by the line and carets under the part, or by the key's name. A run tells how many steps each entry took.
 // Files may have any length: a place that is a length is the file's true length, and entries stream through one buffer. No output file is
 // touched unless the whole call passes, and it is written whole or not at all.
+mod bits;
 mod broken;
 mod calls;
 mod caret;

@@ -32,13 +32,13 @@ fn reason(number: u8, at_end: bool) -> u8 {
         return number;
     }
     match number {
-        8 => 23,
-        18 => 24,
+        8 => 24,
+        18 => 25,
         _ => number,
     }
 }
 
-// Line N is the reason of refusal N, line 20 that of a wrong priority; 23 and 24 are those of 8 and 18 at the input's end.
+// Line N is the reason of refusal N, line 20 that of a wrong priority; 24 and 25 are those of 8 and 18 at the input's end.
 pub(crate) fn say_reason(number: u8, at_end: bool) {
     say_line(
         b"the text has more than 4,096 bytes
@@ -63,6 +63,7 @@ the entry's length is not that of an entry for the key list
 a priority of 2^31 or more
 the print has more than 4,096 bytes
 an octal numeral; write it in hex, binary or decimal, or run fix-octal
+a number that does not fit the width that it meets
 the text ends too soon
 the instructions do not leave one bool at their end
 ",

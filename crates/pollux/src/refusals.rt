@@ -1,4 +1,5 @@
 // Refusals in words.
+use crate::bits;
 use crate::caret;
 use crate::reasons::say_reason;
 use crate::say::say_number;
@@ -8,6 +9,7 @@ use keys::Entry;
 use keys::Matched;
 use lines::say;
 use paper::Place;
+use paper::refused::BITS_LOST;
 use paper::refused::ENTRY_RULE;
 
 fn offset(place: Place) -> usize {
@@ -27,6 +29,16 @@ fn say_refused(form: &[u8], number: u8, at: usize, held: usize, size: usize) {
     say_reason(number, place == size)
 }
 
+// Why a text is refused. A number that loses bits is told with its width.
+fn say_of_text(number: u8, at: usize, text: &[u8], list: &[u8], at_end: bool) {
+    if number == BITS_LOST {
+        if bits::say_lost(text, list, at) {
+            return;
+        }
+    }
+    say_reason(number, at_end)
+}
+
 // Refused before any entry is judged, so in the text, the key list or the blocks, or for the length of a print: the buffer has room for
 // the blocks of every text. `rule` is the text or the blocks.
 pub(crate) fn refused(
@@ -40,13 +52,9 @@ pub(crate) fn refused(
     let at = offset(place);
     match place {
         Place::Text(_) => {
-            say_refused(
-                b"refused #: text, byte #: ",
-                number,
-                at,
-                rule.len(),
-                rule_size,
-            );
+            let place = true_offset(at, rule.len(), rule_size);
+            say_two(b"refused #: text, byte #: ", number as usize, place);
+            say_of_text(number, at, rule, list, place == rule_size);
             caret::show(rule, at, at)
         }
         Place::List(_) => say_refused(

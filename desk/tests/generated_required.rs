@@ -160,7 +160,7 @@ fn sort_of_list(list: &[u8]) -> &'static str {
 fn lists_of_every_sort() {
     for call in WITHOUT_ENTRY.into_iter().chain(WITH_ENTRY) {
         let mut counts = BTreeMap::new();
-        for index in 0..12_000 {
+        for index in 0..20_000 {
             let request = generated(call, 34, index);
             *counts.entry(sort_of_list(list_of(&request))).or_insert(0) += 1;
         }
@@ -204,7 +204,7 @@ fn sort_of_entry(entry: &[u8], keys: &[Key]) -> &'static str {
 fn entries_of_every_sort() {
     for call in WITH_ENTRY {
         let mut counts = BTreeMap::new();
-        for index in 0..8_000 {
+        for index in 0..16_000 {
             let request = generated(call, 35, index);
             let Ok(keys) = key_list(list_of(&request)) else {
                 continue;

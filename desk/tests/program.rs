@@ -317,7 +317,7 @@ fn compare_with_itself() {
 fn compare_with_sed(script: &str) -> String {
     let command = format!("'{DESK}' answer | sed '{script}'");
     let arguments = [
-        "compare", "--seed", "2", "--count", "20000", "--", "sh", "-c", &command,
+        "compare", "--seed", "3", "--count", "20000", "--", "sh", "-c", &command,
     ];
     let output = desk(&arguments, &[]);
     assert_eq!(output.status.code(), Some(1));

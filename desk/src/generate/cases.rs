@@ -2,7 +2,7 @@
 
 use super::rng::Rng;
 use super::scenes::Scene;
-use super::{damage, limits, octals, snippets, spelling, texts};
+use super::{bits, damage, limits, octals, snippets, spelling, texts};
 use crate::requests::{Call, Request};
 use crate::show::hex;
 
@@ -38,6 +38,9 @@ fn short_text(rng: &mut Rng, scene: &Scene) -> Vec<u8> {
     let (keys, entry) = (&scene.keys, &scene.entry);
     if rng.one_in(30) {
         return octals::text(rng, keys, entry);
+    }
+    if rng.one_in(20) {
+        return bits::text(rng, keys);
     }
     let joins = rng.below(4);
     let fault_in = if rng.one_in(3) { 4 } else { 0 };

@@ -1,5 +1,6 @@
 //! Seeded requests: all calls, inputs good, damaged and at the limits.
 
+pub mod bits;
 pub mod blocks;
 pub mod buffers;
 pub mod cases;

@@ -2,7 +2,7 @@
 
 use super::rng::Rng;
 use super::{
-    blocks, buffers, damage, entries, explanations, limits, lists, octals, prints, programs,
+    bits, blocks, buffers, damage, entries, explanations, limits, lists, octals, prints, programs,
     rechecks, skips, snippets, spelling, texts,
 };
 use crate::lists::{list_bytes, NamedKey};
@@ -232,6 +232,9 @@ impl Scene {
         }
         if rng.one_in(24) {
             return octals::text(rng, &self.keys, &self.entry);
+        }
+        if rng.one_in(16) {
+            return bits::text(rng, &self.keys);
         }
         let joins = match rng.below(20) {
             0 => rng.below(60),

@@ -1,15 +1,17 @@
 //! Random restrictions, led by grammar and types, so that many pass; and, where
 //! faults are asked for, restrictions with wrong names, fields and types.
 
+use super::bits::{self, Signed};
 use super::entries::value;
 use super::rng::Rng;
 use super::spelling;
 use crate::lists::NamedKey;
+use crate::reference::bits::width_of;
 use crate::reference::entries::{Entry, Record};
 use crate::reference::fields::Field;
 use crate::reference::keys::Kind;
 use crate::reference::ladder::Rung;
-use crate::reference::numbers::{all_ones, negate_bits};
+use crate::reference::numbers::all_ones;
 use crate::reference::tree::Join;
 use crate::reference::types::Type;
 
@@ -40,6 +42,14 @@ pub fn tokens(
         writer.put(";");
     }
     writer.tokens
+}
+
+/// What an operand of a comparison is about: a key, and the width that an int meets
+/// beside the other operand.
+#[derive(Clone, Copy, Default)]
+struct About {
+    key: Option<usize>,
+    meets: Option<u8>,
 }
 
 struct Writer<'a> {
@@ -95,7 +105,7 @@ impl Writer<'_> {
         self.boolean(left, of_left);
         self.put(join.spelling());
         if self.fault() {
-            return self.number(None);
+            return self.number(About::default());
         }
         self.boolean(right, joins - 1 - of_left);
     }
@@ -121,8 +131,10 @@ impl Writer<'_> {
             2 | 3 => return self.comparison_of_ints(),
             _ => {}
         }
-        let (left, index) = self.any_operand_type();
+        let (left, key) = self.any_operand_type();
         let right = self.partner(left);
+        let meets = width_of(left).or(width_of(right));
+        let about = About { key, meets };
         let ordered = |held| matches!(held, Type::Int | Type::Bits(_));
         let may_order = ordered(left) && ordered(right);
         let operator = if may_order && self.rng.one_in(2) || self.fault() {
@@ -135,9 +147,9 @@ impl Writer<'_> {
         } else {
             (left, right)
         };
-        self.operand(first, index);
+        self.operand(first, about);
         self.put(operator);
-        self.operand(second, index);
+        self.operand(second, about);
     }
 
     fn comparison_of_bools(&mut self) {
@@ -145,7 +157,7 @@ impl Writer<'_> {
         let operator = self.rng.pick(&EQUALITIES);
         self.put(operator);
         if self.fault() {
-            self.number(None);
+            self.number(About::default());
         } else {
             self.boolean(Rung::Prefix, 0);
         }
@@ -228,56 +240,54 @@ impl Writer<'_> {
 
     /// An operand of a comparison of about this type; an int where no key can
     /// give the type.
-    fn operand(&mut self, held: Type, index: Option<usize>) {
+    fn operand(&mut self, held: Type, about: About) {
         if self.rng.one_in(14) {
-            return self.in_parentheses(|w| w.operand(held, index));
+            return self.in_parentheses(|w| w.operand(held, about));
         }
         if self.fault() {
             return self.wrong_operand();
         }
         match held {
             Type::Bool => self.boolean(Rung::Prefix, 0),
-            Type::Int => self.int(index),
-            Type::Bits(width) => self.bits(width, index),
+            Type::Int => self.int(about),
+            Type::Bits(width) => self.bits(width, about),
             Type::Match(kind, width) => {
                 let fits = |key: &NamedKey| key.kind == kind && key.width == width;
                 match self.pick_key(fits) {
                     Some(key) => self.put_key(key),
-                    None => self.number(index),
+                    None => self.number(about),
                 }
             }
         }
     }
 
-    fn int(&mut self, index: Option<usize>) {
-        let lpm = self.pick_key(|key| key.kind == Kind::Lpm);
-        match (self.rng.below(10), lpm) {
-            (0, _) => self.priority(),
-            (1, Some(key)) => self.put_field(key, Field::PrefixLength),
-            (2, _) => {
+    fn int(&mut self, about: About) {
+        match self.rng.below(10) {
+            0 | 1 => self.int_of_entry(),
+            2 => {
                 self.put("-");
-                self.int(index);
+                self.int_of_entry();
             }
-            (3 | 4, _) => self.negative(index),
-            _ => self.number(index),
+            _ => self.number(about),
         }
     }
 
-    /// A negative number that is the same as a telling one modulo 2^W.
-    fn negative(&mut self, index: Option<usize>) {
-        let width = index.map_or(8, |index| self.keys[index].width);
-        let number = negate_bits(self.telling_number(index), width);
-        self.put("-");
-        self.put_numeral(number);
+    /// An int that is no number of the text: it is reduced where it meets a width.
+    fn int_of_entry(&mut self) {
+        let lpm = self.pick_key(|key| key.kind == Kind::Lpm);
+        match lpm {
+            Some(key) if self.rng.one_in(2) => self.put_field(key, Field::PrefixLength),
+            _ => self.priority(),
+        }
     }
 
-    fn bits(&mut self, width: u8, index: Option<usize>) {
+    fn bits(&mut self, width: u8, about: About) {
         if self.rng.one_in(8) {
             self.put("-");
-            return self.bits(width, index);
+            return self.bits(width, about);
         }
         let Some(key) = self.pick_key(|key| key.width == width) else {
-            return self.number(index);
+            return self.number(about);
         };
         let kind = self.keys[key].kind;
         if kind == Kind::Exact && self.rng.one_in(2) {
@@ -374,9 +384,27 @@ impl Writer<'_> {
         }
     }
 
-    /// A numeral or an address, often near the entry's numbers for the key.
-    fn number(&mut self, index: Option<usize>) {
-        let number = self.telling_number(index);
+    /// A numeral or an address, often near the entry's numbers for the key, with the
+    /// minus signs that its number needs.
+    fn number(&mut self, about: About) {
+        let number = self.signed_number(about);
+        let signs = number.signs(self.rng);
+        self.under_signs(signs, number.magnitude);
+    }
+
+    fn under_signs(&mut self, signs: usize, magnitude: u128) {
+        if signs == 0 {
+            return self.numeral_or_address(magnitude);
+        }
+        self.put("-");
+        if self.rng.one_in(8) {
+            self.in_parentheses(|w| w.under_signs(signs - 1, magnitude));
+        } else {
+            self.under_signs(signs - 1, magnitude);
+        }
+    }
+
+    fn numeral_or_address(&mut self, number: u128) {
         if self.rng.one_in(10) {
             let (word, quoted) = if self.fault() {
                 spelling::bad_address(self.rng)
@@ -392,8 +420,20 @@ impl Writer<'_> {
         }
     }
 
-    fn telling_number(&mut self, index: Option<usize>) -> u128 {
-        let (width, record) = match index {
+    /// A number that loses no bits at the width that it meets; with a fault, one
+    /// that does.
+    fn signed_number(&mut self, about: About) -> Signed {
+        let telling = self.telling_number(about.key);
+        match about.meets {
+            Some(width) if self.fault() => bits::lost(self.rng, width),
+            Some(width) => bits::kept(self.rng, width, telling),
+            None if self.rng.one_in(5) => Signed::minus(telling),
+            None => Signed::plus(telling),
+        }
+    }
+
+    fn telling_number(&mut self, key: Option<usize>) -> u128 {
+        let (width, record) = match key {
             Some(index) => {
                 let key = self.keys[index].key();
                 (key.width, self.entry.records[index].reading(&key))
@@ -411,7 +451,6 @@ impl Writer<'_> {
         match self.rng.below(16) {
             0 => near.wrapping_add(1),
             1 => near.wrapping_sub(1),
-            // The same modulo 2^W, if it can still be written.
             2 => near.checked_add(over).unwrap_or(near),
             3 => all_ones(width),
             4 => over,
@@ -472,11 +511,12 @@ pub fn number_alone(rng: &mut Rng, keys: &[NamedKey], entry: &Entry) -> Tokens {
         fault_in: 0,
         tokens: Vec::new(),
     };
-    let (held, index) = writer.any_operand_type();
+    let (held, key) = writer.any_operand_type();
+    let about = About { key, meets: None };
     if writer.rng.one_in(2) {
-        writer.in_parentheses(|w| w.operand(held, index));
+        writer.in_parentheses(|w| w.operand(held, about));
     } else {
-        writer.operand(held, index);
+        writer.operand(held, about);
     }
     writer.tokens
 }

@@ -162,7 +162,7 @@ pub fn text_tree(text: &[u8]) -> Result<Node<'_>, Refusal> {
     tree(&tokens(text)?, text.len())
 }
 
-/// Stages 1 to 14.
+/// Stages 1 to 14, with 22 and 23.
 fn checked_text<'l>(text: &[u8], list: &'l [u8]) -> Result<(Typed, Vec<Key<'l>>), Refusal> {
     text_length(text)?;
     let keys = key_list(list)?;

@@ -5,13 +5,14 @@
 //! judging one entry directly from the text, translating a text into blocks,
 //! loading blocks, running loaded blocks on an entry." And document 02's "Print
 //! a restriction in house style", "Tell me on site what broke", "A summary beside
-//! each rule", "Stop early, and count" and "Octal goes".
+//! each rule", "Stop early, and count", "Octal goes" and "Numbers that lose bits".
 //!
 //! The files follow the documents' sections. Plainness comes before speed:
 //! what stands here is meant to be held against the paper, line by line.
 
 pub mod addresses;
 pub mod answers;
+pub mod bits;
 pub mod blocks;
 pub mod calls;
 pub mod code;

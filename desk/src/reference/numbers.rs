@@ -1,6 +1,7 @@
 //! Document 01, "Types and meaning": "Whole numbers up to 2^128 − 1 with a sign
 //! are held exactly; minus zero is zero." and "An int meeting width W is
-//! reduced modulo 2^W first." The numerals are those of document 004.
+//! reduced modulo 2^W first." The numerals are those of document 004. Document 02,
+//! request j, has the range of the numbers that lose no bits.
 
 use std::cmp::Ordering;
 
@@ -33,6 +34,16 @@ impl Whole {
         } else {
             lowest_bits(self.magnitude, width)
         }
+    }
+
+    /// Does it lie between −2^(W−1) and 2^W − 1?
+    pub fn fits(self, width: u8) -> bool {
+        let most = if self.negative {
+            1 << (width - 1)
+        } else {
+            all_ones(width)
+        };
+        self.magnitude <= most
     }
 
     pub fn compare(self, other: Whole) -> Ordering {

@@ -1,9 +1,12 @@
 //! Document 01, "Types and meaning": "Types: bool, int, bit<W>, and ternary,
 //! lpm, range, optional of W." "Operands are typed left, right, then the
 //! operator. An operator is judged only when its operands have types." Refusals
-//! 11 to 14.
+//! 11 to 14. Document 02, request j, adds refusal 23 "once both operands have types
+//! that suit the operator; such a comparison has no type, so nothing above it is
+//! judged."
 
 use super::answers::Refusal;
+use super::bits::keeps_bits;
 use super::fields::Field;
 use super::keys::{find, Key, Kind};
 use super::tree::{Comparison, Join, Node, What};
@@ -35,7 +38,7 @@ pub enum Typed {
 
 type Typing = Result<(Typed, Type), Refusal>;
 
-/// Types a whole text: stage 11 to 13, then stage 14.
+/// Types a whole text: stage 11 to 13 and 23, then stage 14.
 pub fn typed_text(root: &Node, keys: &[Key]) -> Result<Typed, Refusal> {
     match typed(root, keys)? {
         (tree, Type::Bool) => Ok(tree),
@@ -111,15 +114,17 @@ fn typed_join(place: usize, join: Join, left: &Node, right: &Node, keys: &[Key])
 fn typed_comparison(
     place: usize,
     comparison: Comparison,
-    left: &Node,
-    right: &Node,
+    left_node: &Node,
+    right_node: &Node,
     keys: &[Key],
 ) -> Typing {
-    let (left, left_type) = typed(left, keys)?;
-    let (right, right_type) = typed(right, keys)?;
+    let (left, left_type) = typed(left_node, keys)?;
+    let (right, right_type) = typed(right_node, keys)?;
     let common = meeting_type(left_type, right_type)
         .filter(|&common| can_compare(comparison, common))
         .ok_or(Refusal::text(13, place))?;
+    keeps_bits(left_node, right_type)?;
+    keeps_bits(right_node, left_type)?;
     let left = converted(left, left_type, common);
     let right = converted(right, right_type, common);
     let tree = Typed::Compare(comparison, Box::new(left), Box::new(right));

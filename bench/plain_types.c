@@ -1,4 +1,4 @@
-/* The types of a tree: refusals 11 to 14. */
+/* The types of a tree: refusals 11 to 14, and 23. */
 #include "plain_parts.h"
 
 struct checker {
@@ -81,6 +81,19 @@ static bool type_attribute(struct checker *checker, struct node *node)
     return true;
 }
 
+/* Is the operand a numeral or address under minus signs whose number is out of range at the other's width? */
+static bool loses_bits(const struct checker *checker, const struct node *operand, struct type other)
+{
+    bool negative = false;
+    if (other.width == 0)
+        return false;
+    for (; operand->what == NEGATIVE; operand = &checker->tree->at[operand->left])
+        negative = !negative;
+    if (operand->what != WHOLE)
+        return false;
+    return operand->value > (negative ? (number)1 << (other.width - 1) : all_ones(other.width));
+}
+
 static bool type_comparison(struct checker *checker, struct node *node)
 {
     struct node *left = &checker->tree->at[node->left], *right = &checker->tree->at[node->right];
@@ -95,7 +108,11 @@ static bool type_comparison(struct checker *checker, struct node *node)
         }
     }
     node->type = truth;
-    return can_compare(node->comparison, common) || refused(checker, POLLUX_OPERAND_TYPES, node->place);
+    if (!can_compare(node->comparison, common))
+        return refused(checker, POLLUX_OPERAND_TYPES, node->place);
+    if (loses_bits(checker, left, right->type))
+        return refused(checker, POLLUX_BITS_LOST, left->place);
+    return !loses_bits(checker, right, left->type) || refused(checker, POLLUX_BITS_LOST, right->place);
 }
 
 static bool type_operator(struct checker *checker, struct node *node)

@@ -120,7 +120,9 @@ enum pollux_refusal {
     POLLUX_ENTRY_LENGTH = 19,   /* at its length */
     POLLUX_ENTRY_RULE = 20,     /* at the priority (0) or at the key's record, the absence of a key that must be present included */
     POLLUX_PRINT_LONG = 21,     /* over 4,096 bytes, or what is written over the buffer; at the buffer's length */
-    POLLUX_OCTAL = 22           /* a well-formed octal numeral; at its first byte */
+    POLLUX_OCTAL = 22,          /* a well-formed octal numeral; at its first byte */
+    POLLUX_BITS_LOST = 23       /* a number of the text that does not fit the W bits of the operand it is compared with, so none from -2^(W-1) to
+                                   2^W - 1; at its numeral or address, or at the outermost of its minus signs */
 };
 
 /*

@@ -2,7 +2,7 @@
 use Prim.Native.Nat.{ℕ, zero, suc, _<_, suc-le-suc}
 use native.Mathlib.Nat.{not-suc-le-zero, le-of-suc-le-suc}
 use native.Mathlib.Omega.{arith}
-use mathlib.Core.Path.{_≡_, refl}
+use mathlib.Core.Path.{_≡_, refl, subst}
 use mathlib.Core.Logic.{_⊎_, inl, inr}
 use mathlib.Core.Bool.{Bool, true, false, _&&_, and-eq-true-iff}
 use mathlib.Core.Option.{Option, none, some, Option·map, Option·none-ne-some}
@@ -71,3 +71,8 @@ pub all-at : {A : Type 0} (P : A → Type 0) (xs : List A) (d : A) → All P xs 
 all-at P [] d h i l = absurd (not-suc-le-zero l)
 all-at P (x ∷ xs) d h zero l = h .0
 all-at P (x ∷ xs) d h (suc i) l = all-at P xs d (h .1) i (le-of-suc-le-suc l)
+
+pub all-some : {A : Type 0} (P : A → Type 0) (xs : List A) (i : ℕ) (x : A) → All P xs → getElem? xs i ≡ some x → P x
+all-some P [] i x h e = absurd (Option·none-ne-some x e)
+all-some P (y ∷ xs) zero x h e = let same : y ≡ x = cc in subst P same (h .0)
+all-some P (y ∷ xs) (suc i) x h e = all-some P xs i x (h .1) e

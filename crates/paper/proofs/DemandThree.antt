@@ -85,6 +85,9 @@ module _ (p : Programs) (kept : Kept p) where
     ran : (entry : List ℕ) → Bytes entry → runningSays (running entry) ≡ runAnswer list blocks entry
     ran entry en = ap (λ s. runningSays (p .run list (blocksWritten n s) entry)) exit ∙ kept .run list blocks entry l blocks-there en
 
+    pub runs-in-steps : (entry : List ℕ) → Bytes entry → runningSays (running entry) ≡ judgedInSteps text list entry
+    runs-in-steps entry en = ran entry en ∙ filled .carries .runs entry
+
     runs-alike : (entry : List ℕ) → Bytes entry → judgementOfRun (running entry) ≡ p .judge text list entry
     runs-alike entry en =
         judgement-same (judgementOfRun (running entry)) (p .judge text list entry)
@@ -97,7 +100,7 @@ module _ (p : Programs) (kept : Kept p) where
         → running entry ≡ verdictIn b m → m ≡ stepsOf (j .passes .ks) (j .on) (j .passes .root)
     steps-counted entry en j b m h =
         let told : ok (record { accepted = b; steps = m }) ≡ ok (judgedOn j) =
-        sym (ran-says b m) ∙ sym (ap runningSays h) ∙ ran entry en ∙ filled .carries .runs entry ∙ judgeable-steps j in
+        sym (ran-says b m) ∙ sym (ap runningSays h) ∙ runs-in-steps entry en ∙ judgeable-steps j in
         ap (λ a. a .steps) (ok-same (record { accepted = b; steps = m }) (judgedOn j) told)
 
   answered : (list blocks : List ℕ) → Bytes list → Bytes blocks → (n : ℕ) → p .load list blocks ≡ L.Loaded n

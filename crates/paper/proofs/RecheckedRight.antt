@@ -191,9 +191,7 @@ module _ (text list old new : List ℕ) where
 
     fresh : earlier ≡ judgeAnswer text list old → (r : Rechecked) → Rechecks text list old earlier new r
         → saidBy r ≡ judgeAnswer text list new
-    fresh true-then r (is-reused u) =
-        let b = u .both in
-        true-then ∙ same-judgement text list old new (b .rule) (b .was) (b .is) (b .passes) (b .old-conforms) (b .new-conforms) (u .same)
+    fresh true-then r (is-reused u) = true-then ∙ same-judgement text list old new (u .both) (u .same)
     fresh true-then r (is-judged unless) = refl
 
 pub reused-exactly : ReusedExactly

@@ -26,6 +26,7 @@ use Rattle.paper.proofs.KeyLists.{rule-kept}
 use Rattle.paper.proofs.InTurn.{each-passes, same-turn}
 use Rattle.paper.proofs.NamesInList.{key-there}
 use Rattle.paper.proofs.TranslationCorrect.{passing}
+use Rattle.paper.proofs.Depends.{entry-read}
 
 -- the thirteen bytes, and the twelve
 
@@ -229,18 +230,11 @@ present k r h good = go (eqb (byteAt r 0) 0) refl
     go false e = eqb-true (byteAt r 0) 1 (and-eq-true-iff (eqb (byteAt r 0) 1) (presentRule k r) .0 (rw e at good) .0)
 
 -- the records of an entry that conforms keep their rules
-match-kept : (ks : List Key) (entry : List ℕ) (e : Entry) (k : ℕ) (x : Key) → entryOf ks entry ≡ ok e → getElem? ks k ≡ some x
+pub match-kept : (ks : List Key) (entry : List ℕ) (e : Entry) (k : ℕ) (x : Key) → entryOf ks entry ≡ ok e → getElem? ks k ≡ some x
     → matchOk x (matchAt entry k) ≡ true
-unfolding entryOf
 match-kept ks entry e k x conforms there =
-    let read : Entry = record { priority = priorityOf entry; matches = matchesFrom entry 0 ks } in
-    let size = require (eqb (length entry) (headSize + matchSize * length ks)) 19 inEntry (length entry) in
-    let high = require (ltb (priorityOf entry) (2 ^ 31)) 20 inEntry 0 in
-    let tests = inTurn (ruleTest ks entry) 0 (length ks) in
-    let (_, _, later) = bind-ok size (λ _. high >>= λ _. tests >>= λ _. ok read) e conforms in
-    let (_, _, last) = bind-ok high (λ _. tests >>= λ _. ok read) e later in
-    let (_, kept, _) = bind-ok tests (λ _. ok read) e last in
-    let passed = each-passes (ruleTest ks entry) (length ks) kept k (some-below ks k x there) in
+    let rules = entry-read ks entry e conforms .rules in
+    let passed = each-passes (ruleTest ks entry) (length ks) rules k (some-below ks k x there) in
     require-ok (matchOk x (matchAt entry k)) 20 inEntry (headSize + k * matchSize) tt (rw there at passed)
 
 pub must-be-present : MustBePresent

@@ -66,6 +66,8 @@ pub mod Required
 pub mod BitsKept
 pub mod Table
 pub mod Demands
+pub mod Dependence
+pub mod DependenceExamples
 pub mod WrongPrints
 pub mod WrongExplainers
 pub mod WrongRecheckers

@@ -6,6 +6,7 @@ mod bits;
 mod calls;
 mod damage;
 mod demands;
+mod dependence;
 mod numbers;
 mod octal;
 mod parts;

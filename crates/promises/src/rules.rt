@@ -11,6 +11,7 @@ ghost use Rattle.paper.specs.SentenceExamples.{SentenceExamples};
 ghost use Rattle.paper.specs.KeyExamples.{KeyExamples};
 ghost use Rattle.paper.specs.EntryExamples.{EntryExamples};
 ghost use Rattle.paper.specs.RequiredExamples.{RequiredExamples};
+ghost use Rattle.paper.specs.DependenceExamples.{DependenceExamples};
 ghost use Rattle.paper.specs.TypeExamples.{TypeExamples};
 ghost use Rattle.paper.specs.BitsExamples.{BitsExamples};
 ghost use Rattle.paper.specs.MeaningExamples.{MeaningExamples};
@@ -98,6 +99,12 @@ pub fn examples_of_entries()
 // Keys that must be present: every call with them, with the marked entry, which lacks one, and with one that spells it out.
 pub fn examples_of_required_keys()
     ensures { λ _. ⌜ RequiredExamples ⌝ }
+{}
+
+// What an answer depends on: every key of every kind sways a text that names it alone, bare or by each of its fields, and so does the priority;
+// of a text that names none of it, it changes nothing, nor does a record that is spelled out; and a broken record that no text names refuses.
+pub fn examples_of_dependence()
+    ensures { λ _. ⌜ DependenceExamples ⌝ }
 {}
 
 // Every pair of operand types under every operator, every field of every kind, and the places of refusals 11 to 14.

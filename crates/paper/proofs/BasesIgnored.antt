@@ -10,7 +10,7 @@ use lib.ListN.{length}
 use lib.Dec.{leb}
 use lib.IntN.{negℤ}
 use borrow.Author.Tests.{le-leb}
-use Rattle.paper.specs.Answers.{inText, inList, inEntry, inBlocks, inBuffer, Answer, ok, refused, _>>=_, require}
+use Rattle.paper.specs.Answers.{inText, inList, inEntry, inBlocks, inBuffer, inContract, inTable, Answer, ok, refused, _>>=_, require}
 use Rattle.paper.specs.Tokens.{plain, bytes, sameBytes, notSign, minusSign, Comparison, mostText}
 use Rattle.paper.specs.Keys.{Key, keys, find}
 use Rattle.paper.specs.Entry.{Entry, entryOf}
@@ -203,6 +203,8 @@ placed-here (refused n inList at) = refl
 placed-here (refused n inEntry at) = refl
 placed-here (refused n inBlocks at) = refl
 placed-here (refused n inBuffer at) = refl
+placed-here (refused n inContract at) = refl
+placed-here (refused n inTable at) = refl
 
 -- what is made of a text and a list that pass, where the buffer has room for their blocks
 
@@ -221,16 +223,16 @@ blocks r = blocksOf (length (r .keys)) (codeOf (r .keys) (r .root))
 -- what each call is; nothing unfolds after this, since the checker would go on with the parser
 
 module _ (text list : List ℕ) where
-  restricted : (t : Tree) → length text ≤ mostText → tree text ≡ ok t
+  pub restricted : (t : Tree) → length text ≤ mostText → tree text ≡ ok t
       → restriction text list ≡ (keys list >>= λ ks. typed ks t >>= λ _. ok (record { keys = ks; root = t }))
   unfolding restriction
   restricted t short read = rw (le-leb (length text) mostText short, read)
 
-  check-is : checkAnswer text list ≡ (restriction text list >>= λ _. ok tt)
+  pub check-is : checkAnswer text list ≡ (restriction text list >>= λ _. ok tt)
   unfolding checkAnswer
   check-is = refl
 
-  judge-is : (entry : List ℕ) → judgeAnswer text list entry
+  pub judge-is : (entry : List ℕ) → judgeAnswer text list entry
       ≡ (restriction text list >>= λ r. entryOf (r .keys) entry >>= λ e. ok (isTrue (valueOf (r .keys) e (r .root))))
   unfolding judgeAnswer
   judge-is entry = refl

@@ -13,7 +13,7 @@ use Rattle.paper.specs.declared.Explanation.{Explanation}
 use Rattle.paper.specs.declared.Summarizing.{Summarizing}
 use Rattle.paper.specs.declared.Rechecking.{Rechecking}
 use Rattle.paper.specs.declared.Rechecking.the-variants as K
-use Rattle.paper.specs.Answers.{Input, inText, inList, inEntry, inBlocks, inBuffer, Answer, inputOf, offsetOf, readingSays, checkingSays, judgementSays, translationSays, loadingSays, runningSays, printingSays}
+use Rattle.paper.specs.Answers.{Input, inText, inList, inEntry, inBlocks, inBuffer, inContract, inTable, Answer, inputOf, offsetOf, readingSays, checkingSays, judgementSays, translationSays, loadingSays, runningSays, printingSays}
 use Rattle.paper.specs.Calls.{readAnswer, checkAnswer, judgeAnswer, translateAnswer, loadAnswer, runAnswer, printAnswer}
 use Rattle.paper.specs.Explained.{explanationSays}
 use Rattle.paper.specs.ExplainedRight.{judgementOf}
@@ -21,14 +21,16 @@ use Rattle.paper.specs.Named.{summaryAnswer, summarizingSays}
 use Rattle.paper.specs.Rechecking.{Rechecked, reused, judged}
 use Rattle.paper.specs.RecheckedRight.{Reusable, Rechecks, is-reused, is-judged}
 use Rattle.paper.specs.Fixing.{fixAnswer, fixingSays}
-use Rattle.paper.specs.Table.{Clear, ByTable, Stage, sizeStages, listStages, treeStages, entryStages, blockStages, bufferStages, printingStages, fixingStages, checkStages, readStages, judgeStages, translateStages, loadStages, runStages, printStages, fixStages}
-use Rattle.paper.specs.Promised.{ReadPromised, CheckPromised, JudgePromised, TranslateResult, TranslatePromised, LoadPromised, RunPromised, PrintResult, PrintPromised, FixResult, FixPromised, ExplainPromised, SummarizePromised, RecheckPromised}
-use Rattle.paper.specs.Demands.{Lent, lent, Refusal, Answered, ReadAnswered, CheckAnswered, EntryAnswered, JudgeAnswered, TranslateAnswered, LoadAnswered, RunAnswered, PrintAnswered, FixAnswered, ExplainAnswered, SummarizeAnswered, RecheckAnswered, DemandOneMet}
+use Rattle.paper.specs.Drafting.{nameRule, draftAnswer, draftingSays}
+use Rattle.paper.specs.Table.{Clear, ByTable, Stage, sizeStages, listStagesBy, listStages, treeStages, entryStages, blockStages, bufferStages, printingStages, fixingStages, draftingStages, checkStages, readStages, judgeStages, translateStages, loadStages, runStages, printStages, fixStages, draftStages}
+use Rattle.paper.specs.Promised.{ReadPromised, CheckPromised, JudgePromised, TranslateResult, TranslatePromised, LoadPromised, RunPromised, PrintResult, PrintPromised, FixResult, FixPromised, DraftResult, DraftPromised, ExplainPromised, SummarizePromised, RecheckPromised}
+use Rattle.paper.specs.Demands.{Lent, lent, Refusal, Answered, ReadAnswered, CheckAnswered, EntryAnswered, JudgeAnswered, TranslateAnswered, LoadAnswered, RunAnswered, PrintAnswered, FixAnswered, DraftAnswered, ExplainAnswered, SummarizeAnswered, RecheckAnswered, DemandOneMet}
 use Rattle.paper.proofs.TranslationCorrect.{refused-unchanged}
-use Rattle.paper.proofs.RefusalsLocated.{AllLocated, LiesIn, located-then, decided-lies, size-located, list-located, tree-located, check-located, buffer-located, block-located, entry-located, printing-located, fixing-located}
+use Rattle.paper.proofs.RefusalsLocated.{AllLocated, LiesIn, located-then, decided-lies, size-located, list-located-by, list-located, tree-located, check-located, buffer-located, block-located, entry-located, printing-located, fixing-located, drafting-located}
 use Rattle.paper.proofs.Table.{table-holds}
 use Rattle.paper.proofs.PrintDemands.{print-unchanged}
 use Rattle.paper.proofs.FixDemands.{fix-unchanged}
+use Rattle.paper.proofs.DraftDemands.{draft-unchanged}
 use Rattle.paper.proofs.ExplainedRight.{explained-as-judged, judge-passes}
 use Rattle.paper.proofs.RecheckedRight.{reused-exactly}
 use Rattle.paper.proofs.Promised.{judgement-same}
@@ -62,6 +64,9 @@ second = List·Memᴰ·tail here
 
 third : {x y z : Lent} {xs : List Lent} → List·Memᴰ x (y ∷ z ∷ x ∷ xs)
 third = List·Memᴰ·tail second
+
+fourth : {x y z w : Lent} {xs : List Lent} → List·Memᴰ x (y ∷ z ∷ w ∷ x ∷ xs)
+fourth = List·Memᴰ·tail third
 
 read-located : (inputs : List Lent) (text : List ℕ) → List·Memᴰ (lent inText text) inputs → AllLocated inputs (readStages text)
 read-located inputs text m =
@@ -149,6 +154,19 @@ fix-answered text buffer r promised =
       unchanged = fix-unchanged text buffer r promised;
     }
 
+pub draft-answered : (contract table list buffer : List ℕ) (r : DraftResult) → DraftPromised contract table list buffer r
+    → DraftAnswered contract table list buffer r
+draft-answered contract table list buffer r promised =
+    let inputs = lent inContract contract ∷ lent inTable table ∷ lent inList list ∷ lent inBuffer buffer ∷ [] in
+    record {
+      says =
+          answered-by inputs (draftAnswer contract table list buffer) (draftingSays (r .answer)) (draftStages contract table list buffer)
+          (table-holds .draft contract table list buffer)
+          (located-then inputs (listStagesBy nameRule list) (draftingStages contract table list buffer) (list-located-by inputs nameRule list third)
+          (λ _. drafting-located inputs contract table list buffer here second fourth)) (promised .says);
+      unchanged = draft-unchanged contract table list buffer r promised;
+    }
+
 pub summarize-answered : (text list : List ℕ) (r : Summarizing) → SummarizePromised text list r → SummarizeAnswered text list r
 summarize-answered text list r promised =
     let inputs = lent inText text ∷ lent inList list ∷ [] in
@@ -202,4 +220,6 @@ demand-one-met p kept =
       recheck = λ text list old earlier new t l o n.
           recheck-answered text list old earlier new (p .recheck text list old earlier new) (kept .recheck text list old earlier new t l o n);
       fix = λ text buffer t b. fix-answered text buffer (p .fix text buffer) (kept .fix text buffer t b);
+      draft = λ contract table list buffer c t l b.
+          draft-answered contract table list buffer (p .draft contract table list buffer) (kept .draft contract table list buffer c t l b);
     }

@@ -45,6 +45,8 @@ use Rattle.paper.proofs.Promised.{verdict-says, reading-same, checking-
 use Rattle.paper.proofs.WellFormed.{formed-tree, tree-formed, formed-answer, answer-formed}
 use Rattle.paper.proofs.PrintDemands.{printed-right}
 use Rattle.paper.proofs.FixDemands.{fixes-right}
+use Rattle.paper.proofs.DraftDemands.{drafts-right}
+use Rattle.paper.proofs.DraftsMean.{draft-means}
 use Rattle.paper.proofs.RunsRight.{ran-right}
 use Rattle.paper.proofs.ExplainedRight.{explained-is-right}
 use Rattle.paper.proofs.RecheckedRight.{summary, summary-there, summarizes, reused-exactly, fresh-if-true}
@@ -267,4 +269,7 @@ demand-two-met p kept =
           recheck-right text list old earlier new (p .recheck text list old earlier new) (kept .recheck text list old earlier new t l o n);
       runs = λ list blocks entry l s e. ran-right list blocks entry (p .run list blocks entry) (kept .run list blocks entry l s e);
       fixes = λ text buffer t b. fixes-right text buffer (p .fix text buffer) (kept .fix text buffer t b);
+      drafts = λ contract table list buffer c t l b.
+          drafts-right contract table list buffer (p .draft contract table list buffer) (kept .draft contract table list buffer c t l b);
+      drafts-mean = draft-means p kept;
     }

@@ -148,7 +148,7 @@ entry-read ks entry e conforms =
     }
 
 module _ (ks : List Key) (entry : List ℕ) (e : Entry) (reads : entryOf ks entry ≡ ok e) where
-  match-there : (k : ℕ) → getElem? (e .matches) k ≡ Option·map (λ (x : Key). matchOf x (matchAt entry k)) (getElem? ks k)
+  pub match-there : (k : ℕ) → getElem? (e .matches) k ≡ Option·map (λ (x : Key). matchOf x (matchAt entry k)) (getElem? ks k)
   match-there k =
       ap (λ (x : Entry). getElem? (x .matches) k) (entry-read ks entry e reads .is)
       ∙ matches-at entry ks 0 k

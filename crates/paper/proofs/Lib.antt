@@ -36,6 +36,7 @@ pub mod RequiredExamples
 pub mod DependenceExamples
 pub mod BitsExamples
 pub mod FixExamples
+pub mod DraftExamples
 pub mod AnswerExamples
 pub mod FaultExamples
 pub mod Basics
@@ -82,6 +83,11 @@ pub mod TokenFaults
 pub mod Phrases
 pub mod InOrder
 pub mod TypeFaults
+pub mod Opcodes
+pub mod FrontsRead
+pub mod ContractRead
+pub mod LendingFaults
+pub mod DraftFaults
 pub mod Table
 pub mod RefusalsLocated
 pub mod WellFormed
@@ -102,8 +108,10 @@ pub mod PrintIsPhrase
 pub mod PrintIsShortest
 pub mod Lending
 pub mod PrintReadsBack
+pub mod PrintBytes
 pub mod PrintDemands
 pub mod FixDemands
+pub mod DraftDemands
 pub mod BasesIgnored
 pub mod SameMeaning
 pub mod ScansFit
@@ -119,6 +127,11 @@ pub mod SpelledOut
 pub mod BitsKept
 pub mod KeySets
 pub mod Named
+pub mod ContractMeant
+pub mod InputNames
+pub mod ContractClean
+pub mod DraftedRight
+pub mod DraftsMean
 pub mod RecheckedRight
 pub mod ExplainedRight
 pub mod DemandOne
@@ -133,6 +146,7 @@ pub mod WrongRunners
 pub mod WrongFixers
 pub mod WrongFixersExist
 pub mod WrongCheckers
+pub mod WrongDrafters
 pub mod WrongRecheckersExist
 pub mod WrongExplainersExist
 pub mod PiecesRight

@@ -4,7 +4,7 @@ use native.Mathlib.Decide.{ℕ-discrete}
 use native.Mathlib.Omega.{arith}
 use mathlib.Core.Path.{_≡_, refl, sym, subst, _∙_}
 use mathlib.Core.Logic.{_⊎_, inl, inr}
-use mathlib.Core.Bool.{Bool, true, false, cond, _&&_, and-eq-true-iff, true≢false}
+use mathlib.Core.Bool.{Bool, true, false, cond, _&&_, true≢false}
 use mathlib.Core.Option.{some}
 use mathlib.Core.List.{List}
 use lib.ListN.{length}
@@ -15,9 +15,8 @@ use Rattle.paper.specs.Tokens.{sameBytes}
 use Rattle.paper.specs.Keys.{recordSize, mostKeys, recordAt, recordsIn, nameOf, findFrom, keysFrom, isNone, isNew, RecordRule, recordTest, keysBy, layoutRule, keys}
 use Rattle.paper.specs.Faults.{ListSize, list-uneven, list-over, ListRecords, record-broken, name-repeated}
 use Rattle.paper.specs.Table.{listStagesBy, listStages}
-use Rattle.paper.proofs.Basics.{either-false}
 use Rattle.paper.proofs.Words.{same-bytes, not-bytes}
-use Rattle.paper.proofs.StagesInOrder.{Tells, test-tells, Follows, follows-one, follows-as, follows-then}
+use Rattle.paper.proofs.StagesInOrder.{Tells, two-tests-tell, Follows, follows-one, follows-as, follows-then}
 use Rattle.paper.proofs.Earliest.{Indexed, TellsAt, tests-tell}
 
 -- the length
@@ -29,26 +28,18 @@ module _ (list : List ℕ) where
   abbrev few : Bool
   few = leb (length list) (mostKeys * recordSize)
 
-  abbrev sizeOk : Bool
-  sizeOk = even && few
-
-  size-free : sizeOk ≡ true → (n at : ℕ) → ¬ ListSize list n at
-  size-free h n at (list-uneven d) =
-      d (eqb-true (length list % recordSize) 0 (and-eq-true-iff even few .0 h .0))
-  size-free h n at (list-over l) =
-      let e = leb-true (length list) (mostKeys * recordSize) (and-eq-true-iff even few .0 h .1) in
-      omega arith
-
-  size-fault : sizeOk ≡ false → ListSize list 2 (length list)
-  size-fault h = go (either-false even few h)
-    where
-      go : (even ≡ false) ⊎ (few ≡ false) → ListSize list 2 (length list)
-      go (inl e) = list-uneven (eqb-false (length list % recordSize) 0 e)
-      go (inr e) = list-over (leb-false (length list) (mostKeys * recordSize) e)
+  size-free : even ≡ true → few ≡ true → (n at : ℕ) → ¬ ListSize list n at
+  size-free h k n at (list-uneven d) = d (eqb-true (length list % recordSize) 0 h)
+  size-free h k n at (list-over l) = let e = leb-true (length list) (mostKeys * recordSize) k in omega arith
 
   size-only : (m to : ℕ) → ListSize list m to → (m ≡ 2) × (to ≡ length list)
   size-only m to (list-uneven d) = (refl, refl)
   size-only m to (list-over l) = (refl, refl)
+
+  size-tells : Tells inList (ListSize list) (require (even && few) 2 inList (length list))
+  size-tells =
+      two-tests-tell (ListSize list) even few 2 inList (length list) size-free
+      (λ e. list-uneven (eqb-false (length list % recordSize) 0 e)) (λ e. list-over (leb-false (length list) (mostKeys * recordSize) e)) size-only
 
 -- the names before a record
 
@@ -144,12 +135,11 @@ module _ (rule : RecordRule) (list : List ℕ) where
 
   pub list-follows-by : Follows (listStagesBy rule list) (keysBy rule list)
   list-follows-by =
-      let size = require (sizeOk list) 2 inList (length list) in
+      let size = require (even list && few list) 2 inList (length list) in
       let records = inTurn (recordTest rule list) 0 (recordsIn list) in
       let all = keysFrom list 0 (recordsIn list) in
       follows-then _ _ size (λ _. records >>= λ _. ok all)
-      (follows-one inList (ListSize list) size
-      (test-tells (ListSize list) (sizeOk list) 2 inList (length list) (size-free list) (size-fault list) (size-only list)))
+      (follows-one inList (ListSize list) size (size-tells list))
       (λ _ _. follows-as _ records (λ _. all) (follows-one inList (ListRecords rule list) records records-tell))
 
 pub list-follows : (list : List ℕ) → Follows (listStages list) (keys list)

@@ -2,7 +2,7 @@
 -- and the print of such a tree is cut into tokens that are a phrase with it.
 use Prim.Native.Nat.{ℕ, _+_, _≤_}
 use native.Mathlib.Omega.{arith}
-use mathlib.Core.Path.{_≡_, refl, sym, ap, _∙_}
+use mathlib.Core.Path.{_≡_, refl, sym, ap, subst, _∙_}
 use mathlib.Core.Bool.{true}
 use mathlib.Core.List.{List, [], append-nil}
 use lib.ListN.{length}
@@ -11,13 +11,14 @@ use Rattle.paper.specs.Answers.{Answer, ok, _>>=_}
 use Rattle.paper.specs.Tokens.{Token, tokens, mostTokens, mostText}
 use Rattle.paper.specs.Addresses.{address}
 use Rattle.paper.specs.Grammar.{Tree, truth, number, key, field, attribute, prefixed, joined, compared, nodes, parsed, mostLevels}
-use Rattle.paper.specs.Sentences.{Prefixed, Whole, without}
+use Rattle.paper.specs.Sentences.{Prefixed, Whole, without, Valid}
 use Rattle.paper.specs.Faults.{Cut, at-start}
 use Rattle.paper.specs.Calls.{sized, tree, readAnswer, lends, printable}
 use Rattle.paper.proofs.Stages.{bind-ok, ok-same}
 use Rattle.paper.proofs.Lending.{lends-has}
 use Rattle.paper.proofs.TokenNumbers.{tokens-within}
-use Rattle.paper.proofs.TokenFaults.{tokens-are-cut}
+use Rattle.paper.proofs.TokenFaults.{tokens-are-cut, few-tokens}
+use Rattle.paper.proofs.Sentences.{strict-lenient, valid-is-sentence, one-tree}
 use Rattle.paper.proofs.Refusals.{read-is-valid}
 use Rattle.paper.specs.Print.{bare, rung, print}
 use Rattle.paper.specs.Sized.{levels, count, Clean}
@@ -41,11 +42,13 @@ record Had (ts : List Token) (t : Tree) : Type 0 where
   pub many : count t ≤ mostTokens
   pub fewest : count t ≤ length ts
   pub clean : Clean t
+  pub valid : Valid t ts
 
 read-has : (text : List ℕ) (t : Tree) → tree text ≡ ok t → (ts : List Token) × (tokens text ≡ ok ts) × Had ts t
 read-has text t h =
     let (ts, cut, read) = bind-ok (tokens text) (parsed (length text)) t (sym (tree-is text) ∙ h) in
-    let f = whole-fits mostLevels t ts (read-is-valid (length text) ts t .0 read) in
+    let valid = read-is-valid (length text) ts t .0 read in
+    let f = whole-fits mostLevels t ts valid in
     let within = tokens-within text ts cut in
     let fewest : count t ≤ length ts = rw at-top at (f .many) in (
       ts,
@@ -55,6 +58,7 @@ read-has text t h =
         many = omega (arith, within .few);
         fewest = fewest;
         clean = f .clean (within .good);
+        valid = valid;
       },
     )
 
@@ -97,15 +101,8 @@ clean-print-reads t clean deep many =
 pub print-reads-back : PrintReadsBack
 print-reads-back text t h = let (ts, cut, had) = read-has text t h in clean-print-reads t (had .clean) (had .deep) (had .many)
 
-pub print-no-larger : PrintNoLarger
-print-no-larger text t ts l h cut whole =
-    let (us, cut-u, had) = read-has text t h in
-    let deep : levels t ≤ l = rw at-top at (whole-fits l t ts whole .deep) in
-    let p = printed l t (had .clean) deep (had .many) in
-    let one : us ≡ ts = ok-same us ts (sym cut-u ∙ cut) in
-    (p .root, p .toks, p .cut, p .whole, p .same, omega (arith, p .many, had .fewest, ap length one))
-
--- a print tells nothing of places
+-- and one whose print is read is within the limits: the print is cut into as many tokens as the tree counts, and these are a phrase of no
+-- more levels with one tree alone
 
 same-rung : (t : Tree) → rung (bare t) ≡ rung t
 same-rung (truth p b) = refl
@@ -116,6 +113,41 @@ same-rung (attribute p q f) = refl
 same-rung (prefixed p o t) = refl
 same-rung (joined p o l r) = refl
 same-rung (compared p c l r) = refl
+
+bare-levels : (t : Tree) → levels (bare t) ≡ levels t
+bare-levels (truth p b) = refl
+bare-levels (number p n) = refl
+bare-levels (key p w) = refl
+bare-levels (field p w q f) = refl
+bare-levels (attribute p q f) = refl
+bare-levels (prefixed p o t) = rw (same-rung t, bare-levels t)
+bare-levels (joined p o l r) = rw (same-rung l, bare-levels l, same-rung r, bare-levels r)
+bare-levels (compared p c l r) = rw (same-rung l, bare-levels l, same-rung r, bare-levels r)
+
+pub read-within : (t r : Tree) → Clean t → tree (print t) ≡ ok r → (count t ≤ mostTokens) × (levels t ≤ mostLevels)
+read-within t r clean h =
+    let s = print t in
+    let l = levels t in
+    let (ts, cut, had) = read-has s r h in
+    let b = back s t clean l 0 [] (omega arith) (sym (append-nil s)) tt in
+    let few = few-tokens s (0 + length s) (b .toks) ts (b .lexed [] at-start) cut in
+    let many : count t ≤ mostTokens = omega (arith, few, b .many) in
+    let p = from-back l t many b in
+    let one : ts ≡ p .toks = ok-same ts (p .toks) (sym cut ∙ p .cut) in
+    let valid = subst (Valid r) one (had .valid) in
+    let same : r ≡ p .root = one-tree r (p .root) (p .toks) (valid-is-sentence r (p .toks) valid) (l, strict-lenient l (p .root) (p .toks) (p .whole)) in
+    let deep : levels r ≡ l = sym (bare-levels r) ∙ ap (λ x. levels (bare x)) same ∙ ap levels (p .same) ∙ bare-levels t in
+    (many, rw deep at (had .deep))
+
+pub print-no-larger : PrintNoLarger
+print-no-larger text t ts l h cut whole =
+    let (us, cut-u, had) = read-has text t h in
+    let deep : levels t ≤ l = rw at-top at (whole-fits l t ts whole .deep) in
+    let p = printed l t (had .clean) deep (had .many) in
+    let one : us ≡ ts = ok-same us ts (sym cut-u ∙ cut) in
+    (p .root, p .toks, p .cut, p .whole, p .same, omega (arith, p .many, had .fewest, ap length one))
+
+-- a print tells nothing of places
 
 bare-print : (t : Tree) → print (bare t) ≡ print t
 unfolding print

@@ -22,13 +22,15 @@ use Rattle.paper.specs.declared.Printing.{Printing}
 use Rattle.paper.specs.declared.Printing.the-variants as W
 use Rattle.paper.specs.declared.Fixing.{Fixing}
 use Rattle.paper.specs.declared.Fixing.the-variants as F
+use Rattle.paper.specs.declared.Drafting.{Drafting}
+use Rattle.paper.specs.declared.Drafting.the-variants as D
 use Rattle.paper.specs.declared.Explanation.{Explanation}
 use Rattle.paper.specs.declared.Explanation.the-variants as X
 use Rattle.paper.specs.declared.Summarizing.{Summarizing}
 use Rattle.paper.specs.declared.Summarizing.the-variants as S
 use Rattle.paper.specs.declared.Rechecking.{Rechecking}
 use Rattle.paper.specs.declared.Rechecking.the-variants as K
-use Rattle.paper.specs.Answers.{Input, inText, inList, inEntry, inBlocks, inBuffer, Answer, ok, refused, inputOf, offsetOf, Ran, readingSays, checkingSays, judgementSays, translationSays, loadingSays, runningSays, printingSays}
+use Rattle.paper.specs.Answers.{Input, inText, inList, inEntry, inBlocks, inBuffer, inContract, inTable, Answer, ok, refused, inputOf, offsetOf, Ran, readingSays, checkingSays, judgementSays, translationSays, loadingSays, runningSays, printingSays}
 use Rattle.paper.specs.Calls.{readAnswer, checkAnswer, judgeAnswer, translateAnswer, translateBuffer, loadAnswer, runAnswer, printAnswer, printBuffer}
 use Rattle.paper.specs.TranslationCorrect.{verdictOf}
 use Rattle.paper.specs.Parts.{Part}
@@ -36,6 +38,7 @@ use Rattle.paper.specs.Explained.{Reason, inPart, atKey, nothingToShow, 
 use Rattle.paper.specs.Named.{Summary, summaryAnswer, summarizingSays}
 use Rattle.paper.specs.Rechecking.{Rechecked, reused, judged, recheckAnswer, recheckingSays}
 use Rattle.paper.specs.Fixing.{fixAnswer, fixBuffer, fixingSays}
+use Rattle.paper.specs.Drafting.{draftAnswer, draftBuffer, draftingSays}
 use Rattle.paper.specs.Promised.{ExplainPromised, RecheckPromised, verdict, verdictIn, judgementOfRun, Sole, NoSecondResult, CanBeKept}
 
 -- places
@@ -46,6 +49,8 @@ placeAt inList at = P.List at
 placeAt inEntry at = P.Entry at
 placeAt inBlocks at = P.Blocks at
 placeAt inBuffer at = P.Buffer at
+placeAt inContract at = P.Contract at
+placeAt inTable at = P.Table at
 
 place-back : (p : Place) → placeAt (inputOf p) (offsetOf p) ≡ p
 place-back (P.Text at) = refl
@@ -53,6 +58,8 @@ place-back (P.List at) = refl
 place-back (P.Entry at) = refl
 place-back (P.Blocks at) = refl
 place-back (P.Buffer at) = refl
+place-back (P.Contract at) = refl
+place-back (P.Table at) = refl
 
 refusal-back : {A : Type 0} (n : ℕ) (i : Input) (at : ℕ)
     → _≡_ {A = Answer A} (refused n (inputOf (placeAt i at)) (offsetOf (placeAt i at))) (refused n i at)
@@ -61,6 +68,8 @@ refusal-back n inList at = refl
 refusal-back n inEntry at = refl
 refusal-back n inBlocks at = refl
 refusal-back n inBuffer at = refl
+refusal-back n inContract at = refl
+refusal-back n inTable at = refl
 
 -- an enum with a case for each thing that can be asked for, and one for refusals
 
@@ -178,6 +187,13 @@ fixings = record { good = F.Fixed; refusal = F.Refused; good-says = λ n. refl; 
     go (F.Fixed n) = is-good n
     go (F.Refused n p) = is-refusal n p
 
+draftings : Enum draftingSays
+draftings = record { good = D.Drafted; refusal = D.Refused; good-says = λ n. refl; refusal-says = λ n p. refl; either = go }
+  where
+    go : (r : Drafting) → Either D.Drafted D.Refused r
+    go (D.Drafted n) = is-good n
+    go (D.Refused n p) = is-refusal n p
+
 summaries : Enum summarizingSays
 summaries =
     record {
@@ -286,6 +302,9 @@ printing-same = same-says printingSays printings
 pub fixing-same : (r s : Fixing) → fixingSays r ≡ fixingSays s → r ≡ s
 fixing-same = same-says fixingSays fixings
 
+pub drafting-same : (r s : Drafting) → draftingSays r ≡ draftingSays s → r ≡ s
+drafting-same = same-says draftingSays draftings
+
 pub summarizing-same : (r s : Summarizing) → summarizingSays r ≡ summarizingSays s → r ≡ s
 summarizing-same = same-says summarizingSays summaries
 
@@ -331,6 +350,13 @@ no-second-result =
             satisfies = record { says = answer .satisfies; holds = refl };
             no-second = λ r h i. record { answer = answer .no-second (r .answer) (h .says) i; buffer = h .holds i };
           };
+      draft = λ contract table list buffer.
+          let answer = one-says draftingSays draftings (draftAnswer contract table list buffer) in
+          record {
+            result = record { answer = answer .result; buffer = draftBuffer contract table list buffer };
+            satisfies = record { says = answer .satisfies; holds = refl };
+            no-second = λ r h i. record { answer = answer .no-second (r .answer) (h .says) i; buffer = h .holds i };
+          };
     }
 
 pub can-be-kept : CanBeKept
@@ -348,6 +374,7 @@ can-be-kept =
         summarize = λ text list. s .summarize text list .result;
         recheck = λ text list old earlier new. s .recheck text list old earlier new .result;
         fix = λ text buffer. s .fix text buffer .result;
+        draft = λ contract table list buffer. s .draft contract table list buffer .result;
       },
       record {
         read = λ text _. s .read text .satisfies;
@@ -361,5 +388,6 @@ can-be-kept =
         summarize = λ text list _ _. s .summarize text list .satisfies;
         recheck = λ text list old earlier new _ _ _ _. s .recheck text list old earlier new .satisfies;
         fix = λ text buffer _ _. s .fix text buffer .satisfies;
+        draft = λ contract table list buffer _ _ _ _. s .draft contract table list buffer .satisfies;
       },
     )

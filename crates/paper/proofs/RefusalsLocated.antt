@@ -7,9 +7,9 @@ use mathlib.Core.Logic.{inl, inr}
 use mathlib.Core.Option.{Option, some}
 use mathlib.Core.List.{List, [], _∷_, _++_, List·Memᴰ}
 use lib.ListN.{length, length-append}
-use Rattle.paper.specs.Answers.{Input, inText, inList, inEntry, inBlocks, inBuffer, ok, inTurn}
+use Rattle.paper.specs.Answers.{Input, inText, inList, inEntry, inBlocks, inBuffer, inContract, inTable, Answer, ok, inTurn}
 use Rattle.paper.specs.Tokens.{Token, Scanner, scan, tokens}
-use Rattle.paper.specs.Keys.{Key, layoutRule, keys}
+use Rattle.paper.specs.Keys.{Key, RecordRule, layoutRule, keys}
 use Rattle.paper.specs.Entry.{headSize, matchSize}
 use Rattle.paper.specs.Grammar.{Tree, parsed}
 use Rattle.paper.specs.Sentences.{Number, text-ends, no-sentence, too-deep, bad-string}
@@ -20,8 +20,10 @@ use Rattle.paper.specs.Loading.{instructionAt, program}
 use Rattle.paper.specs.Print.{print}
 use Rattle.paper.specs.Calls.{tree, restriction}
 use Rattle.paper.specs.Fixing.{oldScan, fixed}
-use Rattle.paper.specs.Faults.{TextSize, text-over, ListSize, list-uneven, list-over, ListRecords, record-broken, name-repeated, TokenFaults, no-token, numeral-large, one-more-token, one-more-octal, octal-numeral, TextGrammar, TreeTypes, key-unknown, key-of-field-unknown, field-unknown, attribute-unknown, prefix-wrong, join-wrong, comparison-wrong, left-loses-bits, right-loses-bits, in-operand, join-left, join-right, comparison-left, comparison-right, RootType, not-bool, BufferSize, buffer-short, BlocksSize, no-blocks, blocks-uneven, blocks-over, BlocksLayout, block-broken, BlocksCode, instruction-fails, skip-misfits, end-not-bool, EntrySize, entry-wrong, EntryRules, priority-broken, match-broken, LendingSize, over-limit, over-buffer}
-use Rattle.paper.specs.Table.{lastNumber, Free, Stage, Given, Decided, Clear, sizeStages, listStages, treeStages, typeStages, bufferStages, blockStages, entryStages, printingStages, fixingStages, checkStages}
+use Rattle.paper.specs.Contract.{Front}
+use Rattle.paper.specs.Drafting.{namesOf, drafted}
+use Rattle.paper.specs.Faults.{Faults, TextSize, text-over, ListSize, list-uneven, list-over, ListRecords, record-broken, name-repeated, TokenFaults, no-token, numeral-large, one-more-token, one-more-octal, octal-numeral, TextGrammar, TreeTypes, key-unknown, key-of-field-unknown, field-unknown, attribute-unknown, prefix-wrong, join-wrong, comparison-wrong, left-loses-bits, right-loses-bits, in-operand, join-left, join-right, comparison-left, comparison-right, RootType, not-bool, BufferSize, buffer-short, BlocksSize, no-blocks, blocks-uneven, blocks-over, BlocksLayout, block-broken, BlocksCode, instruction-fails, skip-misfits, end-not-bool, EntrySize, entry-wrong, EntryRules, priority-broken, match-broken, LendingSize, over-limit, over-buffer, TableSize, table-over, frontBytes, ContractFaults, opcode-wrong, nothing-to-join, joined-twice, index-unknown, cut-before-index, cut-before-assertion, TextLimits, tokens-many, levels-many}
+use Rattle.paper.specs.Table.{lastNumber, Free, Stage, Given, Decided, Clear, sizeStages, listStagesBy, listStages, treeStages, typeStages, bufferStages, blockStages, entryStages, printingStages, fixingStages, draftingStages, checkStages}
 use Rattle.paper.specs.Demands.{Lent, lent}
 use Rattle.paper.proofs.Basics.{some-below}
 use Rattle.paper.proofs.Stages.{bind-ok}
@@ -78,9 +80,9 @@ list-size-bounded : (list : List ℕ) (n at : ℕ) → ListSize list n at → Bo
 list-size-bounded list n at (list-uneven d) = bound (omega arith) (omega arith) (omega arith)
 list-size-bounded list n at (list-over l) = bound (omega arith) (omega arith) (omega arith)
 
-records-bounded : (list : List ℕ) (n at : ℕ) → ListRecords layoutRule list n at → Bounded list n at
-records-bounded list n at (record-broken k l h) = bound (omega arith) (omega arith) (omega arith)
-records-bounded list n at (name-repeated j k l m h) = bound (omega arith) (omega arith) (omega arith)
+records-bounded : (rule : RecordRule) (list : List ℕ) (n at : ℕ) → ListRecords rule list n at → Bounded list n at
+records-bounded rule list n at (record-broken k l h) = bound (omega arith) (omega arith) (omega arith)
+records-bounded rule list n at (name-repeated j k l m h) = bound (omega arith) (omega arith) (omega arith)
 
 tokens-bounded : (look : Scanner) (text : List ℕ) (n at : ℕ) → TokenFaults look text n at → Bounded text n at
 tokens-bounded look text n at (no-token cut inside e) = bound (omega arith) (omega arith) (omega arith)
@@ -204,6 +206,33 @@ lending-bounded : (new buffer : List ℕ) (n at : ℕ) → LendingSize new buffe
 lending-bounded new buffer n at (over-limit l) = bound (omega arith) (omega arith) (omega arith)
 lending-bounded new buffer n at (over-buffer l) = bound (omega arith) (omega arith) (omega arith)
 
+table-bounded : (table : List ℕ) (n at : ℕ) → TableSize table n at → Bounded table n at
+table-bounded table n at (table-over l) = bound (omega arith) (omega arith) (omega arith)
+
+contract-bounded : (names users : ℕ) (contract : List ℕ) (n at : ℕ) → ContractFaults names users contract n at → Bounded contract n at
+contract-bounded names users contract n at h = go n at h
+  where
+    -- what stands before a byte of the contract
+    front : (f : Front) (s : List ℕ) → contract ≡ frontBytes f ++ s → Bounded contract 24 (length (frontBytes f))
+    front f s split = bound (omega arith) (omega arith) (omega (arith, ap length split, length-append (frontBytes f) s))
+
+    go : (n at : ℕ) → ContractFaults names users contract n at → Bounded contract n at
+    go n at (opcode-wrong f b rest stands none-waits split e) = front f (b ∷ rest) split
+    go n at (nothing-to-join f b rest k stands none-waits split e first) = front f (b ∷ rest) split
+    go n at (joined-twice f b rest j k stands none-waits split e again) = front f (b ∷ rest) split
+    go n at (index-unknown f b rest o stands waits split e) = front f (b ∷ rest) split
+    go n at (cut-before-index f o stands waits whole) = bound (omega arith) (omega arith) (omega arith)
+    go n at (cut-before-assertion f j stands waits whole) = bound (omega arith) (omega arith) (omega arith)
+
+limits-bounded : (t : Tree) (buffer : List ℕ) (n at : ℕ) → TextLimits t buffer n at → Bounded buffer n at
+limits-bounded t buffer n at (tokens-many l) = bound (omega arith) (omega arith) (omega arith)
+limits-bounded t buffer n at (levels-many l) = bound (omega arith) (omega arith) (omega arith)
+
+-- faults of what an earlier stage passed on
+given-bounded : {A : Type 0} (x : Answer A) (F : A → Faults) (bytes : List ℕ) → ((v : A) (n at : ℕ) → F v n at → Bounded bytes n at)
+    → (n at : ℕ) → Given x F n at → Bounded bytes n at
+given-bounded x F bytes bounded n at (v, there, h) = bounded v n at h
+
 -- stages
 
 module _ (inputs : List Lent) where
@@ -213,11 +242,14 @@ module _ (inputs : List Lent) where
   pub size-located : (text : List ℕ) → There inText text → AllLocated inputs (sizeStages text)
   size-located text m = (record { bytes = text; among = m; bounded = text-bounded text }, λ _. tt)
 
-  pub list-located : (list : List ℕ) → There inList list → AllLocated inputs (listStages list)
-  list-located list m = (
+  pub list-located-by : (rule : RecordRule) (list : List ℕ) → There inList list → AllLocated inputs (listStagesBy rule list)
+  list-located-by rule list m = (
     record { bytes = list; among = m; bounded = list-size-bounded list },
-    λ _. (record { bytes = list; among = m; bounded = records-bounded list }, λ _. tt),
+    λ _. (record { bytes = list; among = m; bounded = records-bounded rule list }, λ _. tt),
   )
+
+  pub list-located : (list : List ℕ) → There inList list → AllLocated inputs (listStages list)
+  list-located = list-located-by layoutRule
 
   pub tree-located : (text : List ℕ) → There inText text → AllLocated inputs (treeStages text)
   tree-located text m = (
@@ -259,9 +291,7 @@ module _ (inputs : List Lent) where
 
   pub printing-located : (text buffer : List ℕ) → There inBuffer buffer → AllLocated inputs (printingStages text buffer)
   printing-located text buffer m =
-      let bounded : (n at : ℕ) → Given (tree text) (λ t. LendingSize (print t) buffer) n at → Bounded buffer n at =
-      λ n at (t, read, h). lending-bounded (print t) buffer n at h
-      in
+      let bounded = given-bounded (tree text) (λ t. LendingSize (print t) buffer) buffer (λ t. lending-bounded (print t) buffer) in
       (record { bytes = buffer; among = m; bounded = bounded }, λ _. tt)
 
   pub fixing-located : (text buffer : List ℕ) → There inText text → There inBuffer buffer → AllLocated inputs (fixingStages text buffer)
@@ -269,3 +299,21 @@ module _ (inputs : List Lent) where
     record { bytes = text; among = m; bounded = tokens-bounded oldScan text },
     λ _. (record { bytes = buffer; among = b; bounded = lending-bounded (fixed text) buffer }, λ _. tt),
   )
+
+  pub drafting-located : (contract table list buffer : List ℕ) → There inContract contract → There inTable table → There inBuffer buffer
+      → AllLocated inputs (draftingStages contract table list buffer)
+  drafting-located contract table list buffer c t b =
+      let in-contract = given-bounded (namesOf list) (λ ks. ContractFaults (length ks) (length table) contract) contract
+      (λ ks. contract-bounded (length ks) (length table) contract)
+      in
+      let in-limits = given-bounded (drafted contract table list) (λ t. TextLimits t buffer) buffer (λ t. limits-bounded t buffer) in
+      let in-size = given-bounded (drafted contract table list) (λ t. LendingSize (print t) buffer) buffer (λ t. lending-bounded (print t) buffer) in (
+        record { bytes = table; among = t; bounded = table-bounded table },
+        λ _. (
+          record { bytes = contract; among = c; bounded = in-contract },
+          λ _. (
+            record { bytes = buffer; among = b; bounded = in-limits },
+            λ _. (record { bytes = buffer; among = b; bounded = in-size }, λ _. tt),
+          ),
+        ),
+      )

@@ -3,7 +3,7 @@ use Prim.Native.Nat.{ℕ}
 use native.Mathlib.Omega.{arith}
 use mathlib.Core.Path.{_≡_, refl, sym, subst, _∙_}
 use mathlib.Core.Logic.{inl, inr}
-use mathlib.Core.Bool.{Bool, true, false}
+use mathlib.Core.Bool.{Bool, true, false, _&&_}
 use mathlib.Core.List.{List, [], _∷_, _++_}
 use Rattle.paper.specs.Answers.{Input, Answer, ok, refused, _>>=_, require}
 use Rattle.paper.specs.Faults.{Faults}
@@ -41,6 +41,12 @@ pub test-tells : (F : Faults) (b : Bool) (n : ℕ) (i : Input) (at : ℕ) → (b
     → ((m to : ℕ) → F m to → (m ≡ n) × (to ≡ at)) → Tells i F (require b n i at)
 test-tells F true n i at free fault only = free refl
 test-tells F false n i at free fault only = (refl, only-wins (fault refl) only)
+
+-- and one that is two tests of one number at one place
+pub two-tests-tell : (F : Faults) (a b : Bool) (n : ℕ) (i : Input) (at : ℕ) → (a ≡ true → b ≡ true → Free F) → (a ≡ false → F n at) → (b ≡ false → F n at)
+    → ((m to : ℕ) → F m to → (m ≡ n) × (to ≡ at)) → Tells i F (require (a && b) n i at)
+two-tests-tell F true b n i at free first second only = test-tells F b n i at (free refl) second only
+two-tests-tell F false b n i at free first second only = (refl, only-wins (first refl) only)
 
 -- the value does not count
 pub tells-as : {A B : Type 0} (i : Input) (F : Faults) (a : Answer A) (f : A → B) → Tells i F a → Tells i F (a >>= λ v. ok (f v))

@@ -2,8 +2,7 @@
 use Prim.Native.Nat.{ℕ, _*_}
 use native.Mathlib.Omega.{arith}
 use mathlib.Core.Path.{_≡_, refl}
-use mathlib.Core.Logic.{_⊎_, inl, inr}
-use mathlib.Core.Bool.{Bool, true, false, _&&_, and-eq-true-iff}
+use mathlib.Core.Bool.{true}
 use mathlib.Core.List.{List, [], _∷_, _++_}
 use lib.ListN.{length}
 use lib.Dec.{leb}
@@ -22,17 +21,19 @@ use Rattle.paper.specs.Print.{print}
 use Rattle.paper.specs.Calls.{sized, tree, Restriction, restriction, readAnswer, checkAnswer, judgeAnswer, roomFor, translatable, translateAnswer, loadAnswer, ranTo, runAnswer, lends, printable, printAnswer}
 use Rattle.paper.specs.Named.{names, marked, setOf, Summary, summaryAnswer}
 use Rattle.paper.specs.Fixing.{oldScan, oldTokens, fixed, fixable, fixAnswer}
-use Rattle.paper.specs.Faults.{Faults, TextSize, text-over, TokenFaults, TextTokens, TextGrammar, BufferSize, buffer-short, LendingSize, over-limit, over-buffer}
-use Rattle.paper.specs.Table.{Free, stage, Given, sizeStages, listStages, treeStages, typeStages, bufferStages, blockStages, entryStages, readStages, checkStages, judgeStages, translateStages, loadStages, runStages, printingStages, printStages, fixingStages, fixStages, TableHolds}
-use Rattle.paper.proofs.Basics.{either-false}
+use Rattle.paper.specs.Drafting.{draftAnswer}
+use Rattle.paper.specs.Faults.{Faults, TextSize, text-over, TokenFaults, TextTokens, TextGrammar, BufferSize, buffer-short, LendingSize}
+use Rattle.paper.specs.Table.{Free, stage, Given, sizeStages, listStages, treeStages, typeStages, bufferStages, blockStages, entryStages, readStages, checkStages, judgeStages, translateStages, loadStages, runStages, printingStages, printStages, fixingStages, fixStages, draftStages, TableHolds}
 use Rattle.paper.proofs.TranslationCorrect.{passing}
 use Rattle.paper.proofs.Refusals.{parsed-is-right}
-use Rattle.paper.proofs.StagesInOrder.{Tells, tells-as, test-tells, exact-tells, given-tells, Follows, follows-one, follows-as, follows-then, by-table}
+use Rattle.paper.proofs.StagesInOrder.{Tells, test-tells, exact-tells, given-tells, Follows, follows-one, follows-as, follows-then, by-table}
 use Rattle.paper.proofs.ListFaults.{list-follows}
 use Rattle.paper.proofs.TokenFaults.{tokens-tell, old-tokens-tell}
 use Rattle.paper.proofs.TypeFaults.{types-follow}
 use Rattle.paper.proofs.EntryFaults.{entry-follows}
 use Rattle.paper.proofs.CodeFaults.{blocks-follow, load-follows}
+use Rattle.paper.proofs.LendingFaults.{lending-tells}
+use Rattle.paper.proofs.DraftFaults.{draft-follows}
 
 -- 1
 
@@ -99,35 +100,6 @@ module _ (r : Restriction) (buffer : List ℕ) where
   buffer-tells =
       test-tells (BufferSize r buffer) (leb bytesNeeded (length buffer)) 15 inBuffer (length buffer) buffer-free
       (λ h. buffer-short (leb-false bytesNeeded (length buffer) h)) buffer-only
-
--- 21
-
-module _ (new buffer : List ℕ) where
-  abbrev low : Bool
-  low = leb (length new) mostText
-
-  abbrev fits : Bool
-  fits = leb (length new) (length buffer)
-
-  lending-free : low && fits ≡ true → Free (LendingSize new buffer)
-  lending-free h n at (over-limit l) = let e = leb-true (length new) mostText (and-eq-true-iff low fits .0 h .0) in omega arith
-  lending-free h n at (over-buffer l) = let e = leb-true (length new) (length buffer) (and-eq-true-iff low fits .0 h .1) in omega arith
-
-  lending-fault : low && fits ≡ false → LendingSize new buffer 21 (length buffer)
-  lending-fault h = go (either-false low fits h)
-    where
-      go : (low ≡ false) ⊎ (fits ≡ false) → LendingSize new buffer 21 (length buffer)
-      go (inl e) = over-limit (leb-false (length new) mostText e)
-      go (inr e) = over-buffer (leb-false (length new) (length buffer) e)
-
-  lending-only : (m to : ℕ) → LendingSize new buffer m to → (m ≡ 21) × (to ≡ length buffer)
-  lending-only m to (over-limit l) = (refl, refl)
-  lending-only m to (over-buffer l) = (refl, refl)
-
-  lending-tells : Tells inBuffer (LendingSize new buffer) (lends new buffer)
-  lending-tells =
-      tells-as inBuffer (LendingSize new buffer) (require (low && fits) 21 inBuffer (length buffer)) (λ _. new)
-      (test-tells (LendingSize new buffer) (low && fits) 21 inBuffer (length buffer) lending-free lending-fault lending-only)
 
 -- the calls
 
@@ -216,4 +188,6 @@ table-holds =
       print = λ text buffer. by-table (printStages text buffer) (printAnswer text buffer) (print-follows text buffer);
       summarize = λ text list. by-table (checkStages text list) (summaryAnswer text list) (summarize-follows text list);
       fix = λ text buffer. by-table (fixStages text buffer) (fixAnswer text buffer) (fix-follows text buffer);
+      draft = λ contract table list buffer.
+          by-table (draftStages contract table list buffer) (draftAnswer contract table list buffer) (draft-follows contract table list buffer);
     }

@@ -12,9 +12,10 @@ use lib.Seq.{drop-cons, drop-drop}
 use lib.Dec.{ltb}
 use Rattle.paper.specs.Answers.{Answer, ok, refused, _>>=_, inText}
 use Rattle.paper.specs.Tokens.{hex, literalIn, numeral, Token, Scan, blank, token, octalNumeral, noToken, tooLarge, Scanner, scan, onward, tokensBy, tokens, mostTokens}
-use Rattle.paper.specs.Faults.{lookAt, CutBy, CutsBy, at-start, a-blank, a-token, TokenFaults, scanAt, no-token, numeral-large, one-more-token, one-more-octal, octal-numeral, TextTokens}
+use Rattle.paper.specs.Faults.{lookAt, CutBy, CutsBy, at-start, a-blank, a-token, TokenFaults, scanAt, no-token, numeral-large, one-more-token, one-more-octal, octal-numeral, Cut, TextTokens}
 use Rattle.paper.specs.Fixing.{byOldRules, oldScan, oldTokens}
 use Rattle.paper.specs.Table.{TokensAreCut}
+use Rattle.paper.proofs.Stages.{never-ok}
 use Rattle.paper.proofs.StagesInOrder.{Tells, RefusedFor, soonest-tells}
 
 -- bytes that are taken already are passed over
@@ -168,6 +169,14 @@ module _ (look : Scanner) (text : List ℕ) where
       go (yes full) before = (from, full-refused from vs (token k n) cut full inside e refl, omega arith)
       go (no other) before = let (to, given, l) = before (omega (arith, more)) in (to, given, omega arith)
 
+  -- so there are no more in a text that passes, however far it is cut
+  few-cut : (at : ℕ) (ts us : List Token) → CutBy look text at ts → found ≡ ok us → length ts ≤ mostTokens
+  few-cut at ts us cut passed = go (decLt mostTokens (length ts))
+    where
+      go : Dec (mostTokens < length ts) → length ts ≤ mostTokens
+      go (yes many) = let (to, given, _) = too-many at ts cut many in absurd (never-ok (sym given ∙ passed))
+      go (no few) = omega arith
+
   -- that fault itself
   given-itself : (n at : ℕ) → found ≡ refused n inText at → RefusedFor found inText n at
   given-itself n at e = (n, at, e, inr (refl, omega arith))
@@ -229,6 +238,10 @@ tokens-tell text = found-tells scan text
 pub tokens-are-cut : TokensAreCut
 unfolding tokens
 tokens-are-cut text ts = found-is-cut scan text ts
+
+pub few-tokens : (text : List ℕ) (at : ℕ) (ts us : List Token) → Cut text at ts → tokens text ≡ ok us → length ts ≤ mostTokens
+unfolding tokens
+few-tokens text at ts us cut passed = few-cut scan text at ts us cut passed
 
 -- by the old ones
 

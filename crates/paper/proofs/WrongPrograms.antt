@@ -1,6 +1,7 @@
 -- The wrong programs fail, each at an input: the cases 2 and 7 of the marked judgements, `true` with no keys, `true; v == 0`, for printers
 -- `a;b`, `!(a==b)`, `0x10` and `ipv4('0.0.0.16')`, for explainers the texts of WrongExplainers, for summaries and rechecks those of
--- WrongRecheckers, for ways with skips the blocks of WrongRunners, and for passes and checkers the texts of WrongFixers and WrongCheckers.
+-- WrongRecheckers, for ways with skips the blocks of WrongRunners, for passes and checkers the texts of WrongFixers and WrongCheckers, and for
+-- translations the contracts of WrongDrafters.
 use Prim.Native.Nat.{ℕ, zero, suc, _+_, _*_, _≤_}
 use native.Mathlib.Omega.{arith}
 use mathlib.Core.Path.{_≡_, refl, sym, ap, subst, _∙_}
@@ -36,7 +37,7 @@ use Rattle.paper.specs.RecheckedRight.{Summarizes}
 use Rattle.paper.specs.WrongExplainers.{Right}
 use Rattle.paper.specs.WrongRecheckers.{RechecksRight, SummarizesRight}
 use Rattle.paper.specs.WrongRunners.{RunsRight}
-use Rattle.paper.specs.WrongPrograms.{RefusesAll, AcceptsAll, WritesNothing, FirstPartOnly, PassesNothing, PassesAll, WantsAllBlocks, CountsRight, Lends, CopiesText, LeavesParentheses, EnclosesAll, WritesAndForSequel, ForgetsBases, WritesAddressesInHex, explainer, NamesLastPart, FollowsLeftSpine, ShowsKeyForPriority, RechecksNever, RechecksAlways, RechecksEqual, RechecksUnranked, RechecksReadings, NamesPriority, NamesBareOnly, StepsByCode, SkipsKeepBool, LandsByHeight, FixesStrings, FixesComments, FixesWithZeros, FixesToDecimal, ChecksReduced, ChecksRightOperands, ChecksAtOperator, ChecksAboveZero, WrongProgramsFail, NoWrongProgram, paddedText, paddedBlocks, PaddingSeen}
+use Rattle.paper.specs.WrongPrograms.{RefusesAll, AcceptsAll, WritesNothing, FirstPartOnly, PassesNothing, PassesAll, WantsAllBlocks, CountsRight, Lends, CopiesText, LeavesParentheses, EnclosesAll, WritesAndForSequel, ForgetsBases, WritesAddressesInHex, explainer, NamesLastPart, FollowsLeftSpine, ShowsKeyForPriority, RechecksNever, RechecksAlways, RechecksEqual, RechecksUnranked, RechecksReadings, NamesPriority, NamesBareOnly, StepsByCode, SkipsKeepBool, LandsByHeight, FixesStrings, FixesComments, FixesWithZeros, FixesToDecimal, ChecksReduced, ChecksRightOperands, ChecksAtOperator, ChecksAboveZero, DraftsLastInverted, DraftsFromRight, DraftsInclusive, DraftsByAnd, WrongProgramsFail, NoWrongProgram, paddedText, paddedBlocks, PaddingSeen}
 use Rattle.paper.proofs.Stages.{never-ok, ok-same}
 use Rattle.paper.proofs.LayoutPassed.{first-counted}
 use Rattle.paper.proofs.Table.{table-holds}
@@ -53,6 +54,7 @@ use Rattle.paper.proofs.WrongRecheckers.{wrong-recheckers-fail}
 use Rattle.paper.proofs.WrongRunners.{wrong-runners-fail}
 use Rattle.paper.proofs.WrongFixers.{wrong-fixers-fail}
 use Rattle.paper.proofs.WrongCheckers.{keys-bytes, wrong-checkers-fail}
+use Rattle.paper.proofs.WrongDrafters.{wrong-drafters-fail}
 
 -- what demand 2 says of an entry that is judged
 by-demand-two : (p : Programs) → DemandTwo p → (text list entry : List ℕ) → Bytes text → Bytes list → Bytes entry → (b : Bool) → judgeAnswer text list entry ≡ ok b
@@ -409,6 +411,20 @@ placing-at-operator-fails p checks places = wrong-checkers-fail .at-operator (p 
 taking-none-below-fails : (p : Programs) → DemandTwo p → ¬ ChecksAboveZero p
 taking-none-below-fails p two takes = wrong-checkers-fail .above-zero (p .check) takes (two .checks)
 
+-- and of translations of contracts
+
+inverting-last-fails : (p : Programs) → DemandTwo p → ¬ DraftsLastInverted p
+inverting-last-fails p two inverts = wrong-drafters-fail .inverting-last (p .draft) inverts (two .drafts)
+
+joining-right-fails : (p : Programs) → DemandTwo p → ¬ DraftsFromRight p
+joining-right-fails p two joins = wrong-drafters-fail .joining-right (p .draft) joins (two .drafts)
+
+taking-inclusive-fails : (p : Programs) → DemandTwo p → ¬ DraftsInclusive p
+taking-inclusive-fails p two takes = wrong-drafters-fail .inclusive (p .draft) takes (two .drafts)
+
+joining-by-and-fails : (p : Programs) → DemandTwo p → ¬ DraftsByAnd p
+joining-by-and-fails p two joins = wrong-drafters-fail .joining-by-and (p .draft) joins (two .drafts)
+
 pub wrong-programs-fail : WrongProgramsFail
 wrong-programs-fail p =
     record {
@@ -447,6 +463,10 @@ wrong-programs-fail p =
       looking-right = looking-right-fails p;
       placing-at-operator = placing-at-operator-fails p;
       taking-none-below = taking-none-below-fails p;
+      inverting-last = inverting-last-fails p;
+      joining-right = joining-right-fails p;
+      taking-inclusive = taking-inclusive-fails p;
+      joining-by-and = joining-by-and-fails p;
     }
 
 pub no-wrong-program : NoWrongProgram
@@ -489,6 +509,10 @@ no-wrong-program p kept =
       looking-right = looking-right-fails p two;
       placing-at-operator = placing-at-operator-fails p (kept .check);
       taking-none-below = taking-none-below-fails p two;
+      inverting-last = inverting-last-fails p two;
+      joining-right = joining-right-fails p two;
+      taking-inclusive = taking-inclusive-fails p two;
+      joining-by-and = joining-by-and-fails p two;
     }
 
 padded-loads : loadAnswer theKeys paddedBlocks ≡ ok 3

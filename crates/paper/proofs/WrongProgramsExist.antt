@@ -38,7 +38,8 @@ use Rattle.paper.specs.WrongRunners.{Runner, keepingAnswer, LeavesOldBoo
 use Rattle.paper.specs.WrongFixers.{Fixer}
 use Rattle.paper.specs.BitsKept.{ComparisonRule, ruleBefore}
 use Rattle.paper.specs.WrongCheckers.{Checker, TypesBy, rightAlone, atOperator, aboveZero}
-use Rattle.paper.specs.WrongPrograms.{FirstPartOnly, WantsAllBlocks, StepsByCode, CountsRight, Lends, partOf, checking, judging, translating, loading, running, printing, explaining, summarizing, rechecking, fixing, OthersKept, ThereIs, WrongProgramsExist}
+use Rattle.paper.specs.WrongDrafters.{Drafter, Maker, Makes, lastMade, rightMade, inclusiveMade, andMade}
+use Rattle.paper.specs.WrongPrograms.{FirstPartOnly, WantsAllBlocks, StepsByCode, CountsRight, Lends, partOf, checking, judging, translating, loading, running, printing, explaining, summarizing, rechecking, fixing, drafting, OthersKept, ThereIs, WrongProgramsExist}
 use Rattle.paper.proofs.Promised.{placeAt, explanationFor, translation-same, can-be-kept}
 use Rattle.paper.proofs.ByteLists.{zero-bytes, all-bytes}
 use Rattle.paper.proofs.LoadedBlocksRun.{load-counts}
@@ -48,6 +49,7 @@ use Rattle.paper.proofs.WrongExplainersExist.{wrong-explainers-exist}
 use Rattle.paper.proofs.WrongRecheckersExist.{never-real, always-real, equal-real, unranked-real, readings-real, priority-counted-real, fields-missed-real}
 use Rattle.paper.proofs.WrongFixersExist.{strings-real, comments-real, dropped-real, zeros-real}
 use Rattle.paper.proofs.WrongCheckers.{checker-real}
+use Rattle.paper.proofs.WrongDrafters.{drafter-real}
 use Rattle.paper.proofs.WrongPrograms.{little, plain-written}
 
 -- a program that cuts: it translates what stands before the first ";"
@@ -94,13 +96,14 @@ module _ (q : Programs) (kept : Kept q) where
         summarize = q .summarize;
         recheck = q .recheck;
         fix = q .fix;
+        draft = q .draft;
       }
 
   others-than-check : (check : Checker) → OthersKept checking (checkers check)
   unfolding checkers
   others-than-check check = (
     (kept .read, kept .judge, kept .translate, kept .load, kept .run),
-    (kept .print, kept .explain, kept .summarize, kept .recheck, kept .fix),
+    (kept .print, kept .explain, kept .summarize, kept .recheck, kept .fix, kept .draft),
   )
 
   -- one that types by a rule of its own
@@ -126,11 +129,12 @@ module _ (q : Programs) (kept : Kept q) where
         summarize = q .summarize;
         recheck = q .recheck;
         fix = q .fix;
+        draft = q .draft;
       }
 
-  -- with other calls of 02 c, f and h
-  abbrev with-answers : (List ℕ → List ℕ → List ℕ → Explanation) → Summarizer → Rechecker → Fixer → Programs
-  with-answers explain summarize recheck fix =
+  -- with other calls of 02 c, f, h and k
+  abbrev with-answers : (List ℕ → List ℕ → List ℕ → Explanation) → Summarizer → Rechecker → Fixer → Drafter → Programs
+  with-answers explain summarize recheck fix draft =
       record {
         read = q .read;
         check = q .check;
@@ -143,6 +147,7 @@ module _ (q : Programs) (kept : Kept q) where
         summarize = summarize;
         recheck = recheck;
         fix = fix;
+        draft = draft;
       }
 
   -- with another judge
@@ -153,7 +158,7 @@ module _ (q : Programs) (kept : Kept q) where
   unfolding judges
   others-than-judge judge = (
     (kept .read, kept .check, kept .translate, kept .load, kept .run),
-    (kept .print, kept .explain, kept .summarize, kept .recheck, kept .fix),
+    (kept .print, kept .explain, kept .summarize, kept .recheck, kept .fix, kept .draft),
   )
 
   -- with another translator
@@ -164,7 +169,7 @@ module _ (q : Programs) (kept : Kept q) where
   unfolding translators
   others-than-translate translate = (
     (kept .read, kept .check, kept .judge, kept .load, kept .run),
-    (kept .print, kept .explain, kept .summarize, kept .recheck, kept .fix),
+    (kept .print, kept .explain, kept .summarize, kept .recheck, kept .fix, kept .draft),
   )
 
   -- with another loader
@@ -175,7 +180,7 @@ module _ (q : Programs) (kept : Kept q) where
   unfolding loaders
   others-than-load load = (
     (kept .read, kept .check, kept .judge, kept .translate, kept .run),
-    (kept .print, kept .explain, kept .summarize, kept .recheck, kept .fix),
+    (kept .print, kept .explain, kept .summarize, kept .recheck, kept .fix, kept .draft),
   )
 
   -- with another run
@@ -186,7 +191,7 @@ module _ (q : Programs) (kept : Kept q) where
   unfolding runners
   others-than-run run = (
     (kept .read, kept .check, kept .judge, kept .translate, kept .load),
-    (kept .print, kept .explain, kept .summarize, kept .recheck, kept .fix),
+    (kept .print, kept .explain, kept .summarize, kept .recheck, kept .fix, kept .draft),
   )
 
   -- with another printer
@@ -197,52 +202,70 @@ module _ (q : Programs) (kept : Kept q) where
   unfolding printers
   others-than-print print = (
     (kept .read, kept .check, kept .judge, kept .translate, kept .load, kept .run),
-    (kept .explain, kept .summarize, kept .recheck, kept .fix),
+    (kept .explain, kept .summarize, kept .recheck, kept .fix, kept .draft),
   )
 
   -- with another explainer
   explainers : (List ℕ → List ℕ → List ℕ → Explanation) → Programs
-  explainers explain = with-answers explain (q .summarize) (q .recheck) (q .fix)
+  explainers explain = with-answers explain (q .summarize) (q .recheck) (q .fix) (q .draft)
 
   others-than-explain : (explain : List ℕ → List ℕ → List ℕ → Explanation) → OthersKept explaining (explainers explain)
   unfolding explainers
   others-than-explain explain = (
     (kept .read, kept .check, kept .judge, kept .translate, kept .load, kept .run),
-    (kept .print, kept .summarize, kept .recheck, kept .fix),
+    (kept .print, kept .summarize, kept .recheck, kept .fix, kept .draft),
   )
 
   -- with another summary
   summarizers : Summarizer → Programs
-  summarizers summarize = with-answers (q .explain) summarize (q .recheck) (q .fix)
+  summarizers summarize = with-answers (q .explain) summarize (q .recheck) (q .fix) (q .draft)
 
   others-than-summarize : (summarize : Summarizer) → OthersKept summarizing (summarizers summarize)
   unfolding summarizers
   others-than-summarize summarize = (
     (kept .read, kept .check, kept .judge, kept .translate, kept .load, kept .run),
-    (kept .print, kept .explain, kept .recheck, kept .fix),
+    (kept .print, kept .explain, kept .recheck, kept .fix, kept .draft),
   )
 
   -- with another recheck
   recheckers : Rechecker → Programs
-  recheckers recheck = with-answers (q .explain) (q .summarize) recheck (q .fix)
+  recheckers recheck = with-answers (q .explain) (q .summarize) recheck (q .fix) (q .draft)
 
   others-than-recheck : (recheck : Rechecker) → OthersKept rechecking (recheckers recheck)
   unfolding recheckers
   others-than-recheck recheck = (
     (kept .read, kept .check, kept .judge, kept .translate, kept .load, kept .run),
-    (kept .print, kept .explain, kept .summarize, kept .fix),
+    (kept .print, kept .explain, kept .summarize, kept .fix, kept .draft),
   )
 
   -- with another pass
   fixers : Fixer → Programs
-  fixers fix = with-answers (q .explain) (q .summarize) (q .recheck) fix
+  fixers fix = with-answers (q .explain) (q .summarize) (q .recheck) fix (q .draft)
 
   others-than-fix : (fix : Fixer) → OthersKept fixing (fixers fix)
   unfolding fixers
   others-than-fix fix = (
     (kept .read, kept .check, kept .judge, kept .translate, kept .load, kept .run),
-    (kept .print, kept .explain, kept .summarize, kept .recheck),
+    (kept .print, kept .explain, kept .summarize, kept .recheck, kept .draft),
   )
+
+  -- with another translation of contracts
+  drafters : Drafter → Programs
+  drafters draft = with-answers (q .explain) (q .summarize) (q .recheck) (q .fix) draft
+
+  others-than-draft : (draft : Drafter) → OthersKept drafting (drafters draft)
+  unfolding drafters
+  others-than-draft draft = (
+    (kept .read, kept .check, kept .judge, kept .translate, kept .load, kept .run),
+    (kept .print, kept .explain, kept .summarize, kept .recheck, kept .fix),
+  )
+
+  -- one that makes a tree of its own
+  there-drafts : (made : Maker) → ThereIs (λ p. Makes made (p .draft)) drafting
+  unfolding drafters
+  there-drafts made =
+      let (x, makes) = drafter-real made in
+      (drafters x, makes, others-than-draft x)
 
   -- the one that translates what stands before the first ";"
 
@@ -442,4 +465,8 @@ wrong-programs-exist =
       looking-right = there-checks q kept rightAlone;
       placing-at-operator = there-checks q kept atOperator;
       taking-none-below = there-checks q kept aboveZero;
+      inverting-last = there-drafts q kept lastMade;
+      joining-right = there-drafts q kept rightMade;
+      taking-inclusive = there-drafts q kept inclusiveMade;
+      joining-by-and = there-drafts q kept andMade;
     }

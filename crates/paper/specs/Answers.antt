@@ -1,5 +1,5 @@
 -- 01, "Refusal numbers": "A refusal's place says which input it lies in (text, key list, entry, blocks, buffer) and a byte
--- offset." And for the enum of every call and stage, this paper's number and values for each of its cases.
+-- offset." 02 k: "Places may now lie in the contract or the number table." And for the enum of every call and stage, this paper's number and values for each of its cases.
 use Prim.Native.Nat.{ℕ, zero, suc}
 use mathlib.Core.Bool.{Bool, true, false}
 use Rattle.paper.specs.declared.Place.{Place}
@@ -22,7 +22,7 @@ use Rattle.paper.specs.declared.Counted.{Counted}
 use Rattle.paper.specs.declared.Counted.the-variants as S
 
 pub data Input : Type 0 where
-  inText inList inEntry inBlocks inBuffer : Input
+  inText inList inEntry inBlocks inBuffer inContract inTable : Input
 
 -- what is asked for, or a refusal: its number, the input that it lies in, and the byte offset there
 pub data Answer (A : Type 0) : Type 0 where
@@ -51,6 +51,8 @@ inputOf (P.List at) = inList
 inputOf (P.Entry at) = inEntry
 inputOf (P.Blocks at) = inBlocks
 inputOf (P.Buffer at) = inBuffer
+inputOf (P.Contract at) = inContract
+inputOf (P.Table at) = inTable
 
 abbrev pub offsetOf : Place → ℕ
 offsetOf (P.Text at) = at
@@ -58,6 +60,8 @@ offsetOf (P.List at) = at
 offsetOf (P.Entry at) = at
 offsetOf (P.Blocks at) = at
 offsetOf (P.Buffer at) = at
+offsetOf (P.Contract at) = at
+offsetOf (P.Table at) = at
 
 abbrev pub readingSays : Reading → Answer ℕ
 readingSays (R.Read n) = ok n

@@ -4,7 +4,7 @@ use Prim.Native.Nat.{ℕ, _≤_}
 use mathlib.Core.Path.{_≡_}
 use mathlib.Core.List.{List}
 use lib.ListN.{length}
-use Rattle.paper.specs.Answers.{Input, inText, inList, inEntry, inBlocks, inBuffer, Answer, ok, refused}
+use Rattle.paper.specs.Answers.{Input, inText, inList, inEntry, inBlocks, inBuffer, inContract, inTable, Answer, ok, refused}
 use Rattle.paper.specs.Tokens.{plain, mostText}
 use Rattle.paper.specs.Keys.{Key}
 use Rattle.paper.specs.Entry.{Entry}
@@ -42,6 +42,8 @@ placeIn p inList at = at
 placeIn p inEntry at = at
 placeIn p inBlocks at = at
 placeIn p inBuffer at = at
+placeIn p inContract at = at
+placeIn p inTable at = at
 
 abbrev pub placed : {A : Type 0} → (ℕ → ℕ) → Answer A → Answer A
 placed p (ok a) = ok a

@@ -12,7 +12,7 @@ use mathlib.Core.Path.{_≡_}
 use mathlib.Core.Logic.{_↔_}
 use mathlib.Core.Bool.{Bool, true, false}
 use mathlib.Core.Option.{some}
-use mathlib.Core.List.{List, [], _∷_, List·Memᴰ}
+use mathlib.Core.List.{List, [], _∷_, map, List·Memᴰ}
 use lib.ListN.{length, take, drop}
 use Rattle.paper.specs.declared.Place.{Place}
 use Rattle.paper.specs.declared.Place.the-variants as P
@@ -29,16 +29,17 @@ use Rattle.paper.specs.declared.Running.{Running}
 use Rattle.paper.specs.declared.Running.the-variants as N
 use Rattle.paper.specs.declared.Printing.the-variants as W
 use Rattle.paper.specs.declared.Fixing.the-variants as F
+use Rattle.paper.specs.declared.Drafting.the-variants as D
 use Rattle.paper.specs.declared.Explanation.{Explanation}
 use Rattle.paper.specs.declared.Summarizing.{Summarizing}
 use Rattle.paper.specs.declared.Summarizing.the-variants as S
 use Rattle.paper.specs.declared.Rechecking.{Rechecking}
 use Rattle.paper.specs.declared.Rechecking.the-variants as K
-use Rattle.paper.specs.Answers.{Input, inText, inList, inEntry, inBlocks, inBuffer, Answer, ok, refused, readingSays, checkingSays, judgementSays, translationSays, loadingSays, runningSays, printingSays}
-use Rattle.paper.specs.Tokens.{Token, mostText}
+use Rattle.paper.specs.Answers.{Input, inText, inList, inEntry, inBlocks, inBuffer, inContract, inTable, Answer, ok, refused, readingSays, checkingSays, judgementSays, translationSays, loadingSays, runningSays, printingSays}
+use Rattle.paper.specs.Tokens.{Token, mostText, mostTokens}
 use Rattle.paper.specs.Keys.{Key, keys}
-use Rattle.paper.specs.Entry.{Entry, entryOf}
-use Rattle.paper.specs.Grammar.{Tree, nodes}
+use Rattle.paper.specs.Entry.{Match, Entry, entryOf}
+use Rattle.paper.specs.Grammar.{Tree, nodes, mostLevels}
 use Rattle.paper.specs.Sentences.{Valid}
 use Rattle.paper.specs.Types.{bool, typeOf}
 use Rattle.paper.specs.Meaning.{truth, valueOf}
@@ -46,18 +47,22 @@ use Rattle.paper.specs.Blocks.{blockSize, blocksNeeded}
 use Rattle.paper.specs.Loading.{program, loaded, done, runAlong, Step}
 use Rattle.paper.specs.Translating.{conversions, joins, stepsOf}
 use Rattle.paper.specs.Print.{print}
+use Rattle.paper.specs.Sized.{levels, count}
 use Rattle.paper.specs.Calls.{over}
 use Rattle.paper.specs.Explained.{explanationSays}
 use Rattle.paper.specs.ExplainedRight.{Explains, judgementOf}
 use Rattle.paper.specs.Named.{summarizingSays}
 use Rattle.paper.specs.Rechecking.{recheckingSays}
 use Rattle.paper.specs.Fixing.{oldScan, fixed, fixingSays}
+use Rattle.paper.specs.Pact.{mostIndices, Clause, contractHolds, contractBytes, AllIndexed}
+use Rattle.paper.specs.Drafting.{contractTree, namesOf, draftingSays}
+use Rattle.paper.specs.BlocksRoundTrip.{All}
 use Rattle.paper.specs.RecheckedRight.{Summarizes, Rechecks}
 use Rattle.paper.specs.LoadedBlocksRun.{Runs}
 use Rattle.paper.specs.CodeCorrect.{mostTranslated}
 use Rattle.paper.specs.Faults.{CutsBy, Cuts}
-use Rattle.paper.specs.Table.{lastNumber, Stage, Clear, ByTable, readStages, checkStages, judgeStages, translateStages, loadStages, runStages, printStages, fixStages}
-use Rattle.paper.specs.Promised.{JudgePromised, verdictIn, judgementOfRun, TranslateResult, PrintResult, FixResult, Bytes, Programs, Kept}
+use Rattle.paper.specs.Table.{lastNumber, Stage, Clear, ByTable, readStages, checkStages, judgeStages, translateStages, loadStages, runStages, printStages, fixStages, draftStages}
+use Rattle.paper.specs.Promised.{JudgePromised, verdict, verdictIn, judgementOfRun, TranslateResult, PrintResult, FixResult, DraftResult, Bytes, UserNumbers, Programs, Kept}
 
 -- Demand 1. An answer is one of the enum's cases. It is a refusal exactly as the table of 01 says, with that number at that place, and
 -- passes exactly when no stage of the call has a fault. The number is one of the table's, and the place lies in an input that was lent, or
@@ -123,6 +128,12 @@ pub record FixAnswered (text buffer : List ℕ) (r : FixResult) : Type 0 where
   pub says : Answered (lent inText text ∷ lent inBuffer buffer ∷ []) (fixStages text buffer) (fixingSays (r .answer))
   pub unchanged : (n : ℕ) (at : Place) → r .answer ≡ F.Refused n at → r .buffer ≡ buffer
 
+-- the offset in a table counts its numbers
+pub record DraftAnswered (contract table list buffer : List ℕ) (r : DraftResult) : Type 0 where
+  pub says : Answered (lent inContract contract ∷ lent inTable table ∷ lent inList list ∷ lent inBuffer buffer ∷ [])
+      (draftStages contract table list buffer) (draftingSays (r .answer))
+  pub unchanged : (n : ℕ) (at : Place) → r .answer ≡ D.Refused n at → r .buffer ≡ buffer
+
 abbrev pub SummarizeAnswered : List ℕ → List ℕ → Summarizing → Type 0
 SummarizeAnswered text list r = Answered (lent inText text ∷ lent inList list ∷ []) (checkStages text list) (summarizingSays r)
 
@@ -145,6 +156,8 @@ pub record DemandOne (p : Programs) : Type 0 where
   pub recheck : (text list old : List ℕ) (earlier : Judgement) (new : List ℕ) → Bytes text → Bytes list → Bytes old → Bytes new
       → RecheckAnswered text list earlier new (p .recheck text list old earlier new)
   pub fix : (text buffer : List ℕ) → Bytes text → Bytes buffer → FixAnswered text buffer (p .fix text buffer)
+  pub draft : (contract table list buffer : List ℕ) → Bytes contract → UserNumbers table → Bytes list → Bytes buffer
+      → DraftAnswered contract table list buffer (p .draft contract table list buffer)
 
 -- Demand 2, for every call that takes a text or an entry. A text is refused exactly when it is over a limit or ill-formed, the list does
 -- not pass, or the text is ill-typed against it; an entry exactly when it does not conform to the list. Else it is accepted exactly when
@@ -234,6 +247,38 @@ pub record FixesRight (text buffer : List ℕ) (r : FixResult) : Type 0 where
   pub fixes : (n : ℕ) → (r .answer ≡ F.Fixed n) ↔ Fixable text buffer n
   pub written : (n : ℕ) → Fixable text buffer n → r .buffer ≡ over (fixed text) buffer
 
+-- n bytes, the text of a contract that has a meaning with those names and user numbers, within 01's limits, for a buffer that they fit in
+pub record Draftable (contract table list buffer : List ℕ) (n : ℕ) : Type 0 where
+  pub ks : List Key
+  pub named : namesOf list ≡ ok ks
+  pub few : length table ≤ mostIndices
+  pub clauses : List Clause
+  pub meant : contract ≡ contractBytes clauses
+  pub indexed : All (AllIndexed (length ks) (length table)) clauses
+  pub root : Tree
+  pub made : root ≡ contractTree (map (λ (k : Key). k .name) ks) table clauses
+  pub tokens : count root ≤ mostTokens
+  pub deep : levels root ≤ mostLevels
+  pub size : n ≡ length (print root)
+  pub short : n ≤ mostText
+  pub room : n ≤ length buffer
+
+-- they are written, and the bytes after them stay
+pub record DraftsRight (contract table list buffer : List ℕ) (r : DraftResult) : Type 0 where
+  pub drafts : (n : ℕ) → (r .answer ≡ D.Drafted n) ↔ Draftable contract table list buffer n
+  pub written : (n : ℕ) (d : Draftable contract table list buffer n) → r .buffer ≡ over (print (d .root)) buffer
+
+-- the numbers of the inputs in an entry
+abbrev pub inputsOf : Entry → List ℕ
+inputsOf e = map (λ (m : Match). m .first) (e .matches)
+
+-- "The text judged on an entry with those inputs equals the contract's own meaning, written from 000."; it passes with those names
+pub record DraftMeans (p : Programs) (contract table list buffer : List ℕ) : Type 0 where
+  pub passes : (n : ℕ) → Draftable contract table list buffer n
+      → p .check (take n (p .draft contract table list buffer .buffer)) list ≡ C.Passed
+  pub judged : (n : ℕ) (d : Draftable contract table list buffer n) (entry : List ℕ) (e : Entry) → Bytes entry → entryOf (d .ks) entry ≡ ok e
+      → p .judge (take n (p .draft contract table list buffer .buffer)) list entry ≡ verdict (contractHolds (inputsOf e) table (d .clauses))
+
 -- a run of blocks leaves one bool, in so many steps
 abbrev pub LeavesIn : (list blocks entry : List ℕ) → Runnable list blocks entry → Bool → ℕ → Type 0
 LeavesIn list blocks entry j b n =
@@ -281,6 +326,10 @@ pub record DemandTwo (p : Programs) : Type 0 where
   pub rechecks : (text list old : List ℕ) (earlier : Judgement) (new : List ℕ) → Bytes text → Bytes list → Bytes old → Bytes new
       → RecheckRight text list old earlier new (p .recheck text list old earlier new)
   pub fixes : (text buffer : List ℕ) → Bytes text → Bytes buffer → FixesRight text buffer (p .fix text buffer)
+  pub drafts : (contract table list buffer : List ℕ) → Bytes contract → UserNumbers table → Bytes list → Bytes buffer
+      → DraftsRight contract table list buffer (p .draft contract table list buffer)
+  pub drafts-mean : (contract table list buffer : List ℕ) → Bytes contract → UserNumbers table → Bytes list → Bytes buffer
+      → DraftMeans p contract table list buffer
 
 -- Demand 3. A text and a list that pass have a number of instructions, and are translated with it into every buffer that has room for
 -- its blocks; every other buffer is refused, 15 at its length. The blocks written load with that list, with the number returned, and

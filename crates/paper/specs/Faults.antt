@@ -11,14 +11,18 @@ use Rattle.paper.specs.Numbers.{byteAt}
 use Rattle.paper.specs.Tokens.{bytes, Prefix, Join, Comparison, Tok, Token, Scan, blank, token, octalNumeral, noToken, tooLarge, Scanner, scan, mostTokens, mostText}
 use Rattle.paper.specs.Keys.{Key, recordSize, mostKeys, recordsIn, recordAt, nameOf, RecordRule, find}
 use Rattle.paper.specs.Entry.{headSize, matchSize, matchAt, matchOk, priorityOf}
-use Rattle.paper.specs.Grammar.{Tree, key, field, attribute, prefixed, joined, compared, placeOf}
+use Rattle.paper.specs.Grammar.{Tree, key, field, attribute, prefixed, joined, compared, placeOf, mostLevels}
 use Rattle.paper.specs.Sentences.{Stops, placeFrom}
 use Rattle.paper.specs.Types.{Ty, bool, andThen, fieldNamed, fieldType, prefixType, joinType, comparisonType, keepsBits, typeOf}
 use Rattle.paper.specs.Code.{Skip, Instruction, skip, act, ends, typeAction, actionOf}
 use Rattle.paper.specs.Blocks.{blockSize, mostBlocks, blocksNeeded, blocksIn, blockOk}
 use Rattle.paper.specs.Loading.{instructionAt, program}
 use Rattle.paper.specs.Translating.{codeOf}
+use Rattle.paper.specs.BlocksRoundTrip.{All}
 use Rattle.paper.specs.Calls.{Restriction}
+use Rattle.paper.specs.Sized.{levels, count}
+use Rattle.paper.specs.Pact.{mostIndices, Comparator, Conjunction, Clause, conjoins, wrong, opcodeOf, comparatorByte, conjunctionByte, contractBytes, AllIndexed}
+use Rattle.paper.specs.Contract.{Front, closedAll, indexFits}
 use Rattle.paper.specs.LoadedBlocksRun.{typesThrough}
 
 -- a number, and an offset in the input of its stage
@@ -161,6 +165,50 @@ pub data EntryRules (ks : List Key) (entry : List ℕ) : ℕ → ℕ → Type 0 
   priority-broken : 2 ^ 31 ≤ priorityOf entry → EntryRules ks entry 20 0
   match-broken : (k : ℕ) (x : Key) → getElem? ks k ≡ some x → matchOk x (matchAt entry k) ≡ false
       → EntryRules ks entry 20 (headSize + k * matchSize)
+
+-- 24: "a table over 16 numbers"; "at table 16"
+pub data TableSize (table : List ℕ) : ℕ → ℕ → Type 0 where
+  table-over : mostIndices < length table → TableSize table 24 mostIndices
+
+-- the bytes of what stands before a byte of a contract, and that it may stand there: the last clause is the one that may go on, a
+-- conjunction waits behind it alone, and every index has a name or a user number
+
+abbrev pub oneByte : {A : Type 0} → (A → ℕ) → Option A → List ℕ
+oneByte f none = []
+oneByte f (some a) = f a ∷ []
+
+abbrev pub frontBytes : Front → List ℕ
+frontBytes f =
+    contractBytes (closedAll (f .closed) (f .clause)) ++ oneByte conjunctionByte (f .conjunction) ++ oneByte comparatorByte (f .comparator)
+
+pub record Stands (names users : ℕ) (f : Front) : Type 0 where
+  pub indexed : All (AllIndexed names users) (closedAll (f .closed) (f .clause))
+  pub first : f .clause ≡ none → f .closed ≡ []
+  pub follows : (j : Conjunction) → f .conjunction ≡ some j → (c : Clause) × (f .clause ≡ some c)
+
+-- 24: "IN, a nonzero reserved bit, an unused operation number, an index without a user number or name, a conjunction with no assertion
+-- directly before it, and a cut contract"; "at the earliest contract byte concerned, or at the length if cut"
+pub data ContractFaults (names users : ℕ) (contract : List ℕ) : ℕ → ℕ → Type 0 where
+  opcode-wrong : (f : Front) (b : ℕ) (rest : List ℕ) → Stands names users f → f .comparator ≡ none
+      → contract ≡ frontBytes f ++ (b ∷ rest) → opcodeOf b ≡ wrong → ContractFaults names users contract 24 (length (frontBytes f))
+  nothing-to-join : (f : Front) (b : ℕ) (rest : List ℕ) (k : Conjunction) → Stands names users f → f .comparator ≡ none
+      → contract ≡ frontBytes f ++ (b ∷ rest) → opcodeOf b ≡ conjoins k → f .clause ≡ none
+      → ContractFaults names users contract 24 (length (frontBytes f))
+  joined-twice : (f : Front) (b : ℕ) (rest : List ℕ) (j k : Conjunction) → Stands names users f → f .comparator ≡ none
+      → contract ≡ frontBytes f ++ (b ∷ rest) → opcodeOf b ≡ conjoins k → f .conjunction ≡ some j
+      → ContractFaults names users contract 24 (length (frontBytes f))
+  index-unknown : (f : Front) (b : ℕ) (rest : List ℕ) (o : Comparator) → Stands names users f → f .comparator ≡ some o
+      → contract ≡ frontBytes f ++ (b ∷ rest) → indexFits names users o b ≡ false
+      → ContractFaults names users contract 24 (length (frontBytes f))
+  cut-before-index : (f : Front) (o : Comparator) → Stands names users f → f .comparator ≡ some o → contract ≡ frontBytes f
+      → ContractFaults names users contract 24 (length contract)
+  cut-before-assertion : (f : Front) (j : Conjunction) → Stands names users f → f .conjunction ≡ some j → contract ≡ frontBytes f
+      → ContractFaults names users contract 24 (length contract)
+
+-- 21: "A text over a limit of 01", by its tokens or its levels; buffer, its length
+pub data TextLimits (t : Tree) (buffer : List ℕ) : ℕ → ℕ → Type 0 where
+  tokens-many : mostTokens < count t → TextLimits t buffer 21 (length buffer)
+  levels-many : mostLevels < levels t → TextLimits t buffer 21 (length buffer)
 
 -- 21: "A print over 4,096 bytes, or over the lent buffer"; buffer, its length. Of whatever bytes are to be lent
 pub data LendingSize (new buffer : List ℕ) : ℕ → ℕ → Type 0 where

@@ -17,6 +17,9 @@ pub mod Print
 pub mod Sized
 pub mod Calls
 pub mod Fixing
+pub mod Pact
+pub mod Contract
+pub mod Drafting
 pub mod Parts
 pub mod Explained
 pub mod Named
@@ -57,6 +60,7 @@ pub mod SummaryExamples
 pub mod RequiredExamples
 pub mod BitsExamples
 pub mod FixExamples
+pub mod DraftExamples
 pub mod AnswerExamples
 pub mod FaultExamples
 pub mod Promised
@@ -74,5 +78,7 @@ pub mod WrongRecheckers
 pub mod WrongRunners
 pub mod WrongFixers
 pub mod WrongCheckers
+pub mod DraftedRight
+pub mod WrongDrafters
 pub mod PiecesRight
 pub mod WrongPrograms

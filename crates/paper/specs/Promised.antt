@@ -1,6 +1,6 @@
 -- 01, "Holding the promises to account": "Each public function states its result in full for all inputs, and what each lent byte
 -- holds afterwards, refused calls included. .. Show that no second result satisfies it".
-use Prim.Native.Nat.{ℕ, _<_}
+use Prim.Native.Nat.{ℕ, _^_, _<_}
 use mathlib.Core.Path.{_≡_}
 use mathlib.Core.Bool.{Bool, true, false}
 use mathlib.Core.List.{List}
@@ -14,6 +14,7 @@ use Rattle.paper.specs.declared.Running.{Running}
 use Rattle.paper.specs.declared.Running.the-variants as N
 use Rattle.paper.specs.declared.Printing.{Printing}
 use Rattle.paper.specs.declared.Fixing.{Fixing}
+use Rattle.paper.specs.declared.Drafting.{Drafting}
 use Rattle.paper.specs.declared.Explanation.{Explanation}
 use Rattle.paper.specs.declared.Summarizing.{Summarizing}
 use Rattle.paper.specs.declared.Rechecking.{Rechecking}
@@ -23,6 +24,7 @@ use Rattle.paper.specs.Explained.{explainAnswer, explanationSays}
 use Rattle.paper.specs.Named.{summaryAnswer, summarizingSays}
 use Rattle.paper.specs.Rechecking.{recheckAnswer, recheckingSays}
 use Rattle.paper.specs.Fixing.{fixAnswer, fixBuffer, fixingSays}
+use Rattle.paper.specs.Drafting.{draftAnswer, draftBuffer, draftingSays}
 use Rattle.paper.specs.Calls.{readAnswer, checkAnswer, judgeAnswer, translateAnswer, translateBuffer, loadAnswer, runAnswer, printAnswer, printBuffer}
 
 -- what is promised of the result of each call, for the bytes that are lent to it
@@ -69,6 +71,15 @@ pub record FixPromised (text buffer : List ℕ) (r : FixResult) : Type 0 where
   pub says : fixingSays (r .answer) ≡ fixAnswer text buffer
   pub holds : r .buffer ≡ fixBuffer text buffer
 
+-- what `pact` returns, and what the buffer holds at its exit
+pub record DraftResult : Type 0 where
+  pub answer : Drafting
+  pub buffer : List ℕ
+
+pub record DraftPromised (contract table list buffer : List ℕ) (r : DraftResult) : Type 0 where
+  pub says : draftingSays (r .answer) ≡ draftAnswer contract table list buffer
+  pub holds : r .buffer ≡ draftBuffer contract table list buffer
+
 -- the numbers of an explanation; its pieces, which are references, stand in Pieces
 abbrev pub ExplainPromised : List ℕ → List ℕ → List ℕ → Explanation → Type 0
 ExplainPromised text list entry r = explanationSays r ≡ explainAnswer text list entry
@@ -113,10 +124,15 @@ pub record NoSecondResult : Type 0 where
   pub summarize : (text list : List ℕ) → Sole (SummarizePromised text list)
   pub recheck : (text list old : List ℕ) (earlier : Judgement) (new : List ℕ) → Sole (RecheckPromised text list old earlier new)
   pub fix : (text buffer : List ℕ) → Sole (FixPromised text buffer)
+  pub draft : (contract table list buffer : List ℕ) → Sole (DraftPromised contract table list buffer)
 
 -- what can be lent: numbers below 256
 abbrev pub Bytes : List ℕ → Type 0
 Bytes s = All (λ b. b < 256) s
+
+-- "user numbers below 2^64"
+abbrev pub UserNumbers : List ℕ → Type 0
+UserNumbers table = All (λ v. v < 2 ^ 64) table
 
 -- the calls as programs: any that return such results, and those that keep their promises on all bytes
 
@@ -132,6 +148,7 @@ pub record Programs : Type 0 where
   pub summarize : List ℕ → List ℕ → Summarizing
   pub recheck : List ℕ → List ℕ → List ℕ → Judgement → List ℕ → Rechecking
   pub fix : List ℕ → List ℕ → FixResult
+  pub draft : List ℕ → List ℕ → List ℕ → List ℕ → DraftResult
 
 abbrev pub KeepsRead : Programs → Type 0
 KeepsRead p = (text : List ℕ) → Bytes text → ReadPromised text (p .read text)
@@ -173,6 +190,11 @@ KeepsRecheck p =
 abbrev pub KeepsFix : Programs → Type 0
 KeepsFix p = (text buffer : List ℕ) → Bytes text → Bytes buffer → FixPromised text buffer (p .fix text buffer)
 
+abbrev pub KeepsDraft : Programs → Type 0
+KeepsDraft p =
+    (contract table list buffer : List ℕ) → Bytes contract → UserNumbers table → Bytes list → Bytes buffer
+    → DraftPromised contract table list buffer (p .draft contract table list buffer)
+
 pub record Kept (p : Programs) : Type 0 where
   pub read : KeepsRead p
   pub check : KeepsCheck p
@@ -185,6 +207,7 @@ pub record Kept (p : Programs) : Type 0 where
   pub summarize : KeepsSummarize p
   pub recheck : KeepsRecheck p
   pub fix : KeepsFix p
+  pub draft : KeepsDraft p
 
 -- there are such programs
 abbrev pub CanBeKept : Type 0

@@ -5,18 +5,19 @@ use mathlib.Core.Path.{_≡_}
 use mathlib.Core.Logic.{_↔_, _⊎_}
 use mathlib.Core.List.{List, [], _∷_, _++_}
 use lib.ListN.{length}
-use Rattle.paper.specs.Answers.{Input, inText, inList, inEntry, inBlocks, inBuffer, Answer, ok, refused}
+use Rattle.paper.specs.Answers.{Input, inText, inList, inEntry, inBlocks, inBuffer, inContract, inTable, Answer, ok, refused}
 use Rattle.paper.specs.Tokens.{Token, tokens}
-use Rattle.paper.specs.Keys.{RecordRule, layoutRule, keys}
+use Rattle.paper.specs.Keys.{Key, RecordRule, layoutRule, keys}
 use Rattle.paper.specs.Print.{print}
 use Rattle.paper.specs.Calls.{tree, restriction, readAnswer, checkAnswer, judgeAnswer, translateAnswer, loadAnswer, runAnswer, printAnswer}
 use Rattle.paper.specs.Named.{summaryAnswer}
 use Rattle.paper.specs.Fixing.{oldScan, fixed, fixAnswer}
-use Rattle.paper.specs.Faults.{Faults, TextSize, ListSize, ListRecords, Cuts, TokenFaults, TextTokens, TextGrammar, TreeTypes, RootType, BufferSize, BlocksSize, BlocksLayout, BlocksCode, EntrySize, EntryRules, LendingSize}
+use Rattle.paper.specs.Drafting.{nameRule, namesOf, drafted, draftAnswer}
+use Rattle.paper.specs.Faults.{Faults, TextSize, ListSize, ListRecords, Cuts, TokenFaults, TextTokens, TextGrammar, TreeTypes, RootType, BufferSize, BlocksSize, BlocksLayout, BlocksCode, EntrySize, EntryRules, LendingSize, TableSize, ContractFaults, TextLimits}
 
 -- the table's numbers run from 1 to this one
 abbrev pub lastNumber : ℕ
-lastNumber = 23
+lastNumber = 24
 
 -- "In a stage the earliest place wins; at one place the lower number wins."
 
@@ -106,6 +107,15 @@ printingStages text buffer = stage inBuffer (Given (tree text) (λ t. LendingSiz
 abbrev pub fixingStages : List ℕ → List ℕ → List Stage
 fixingStages text buffer = stage inText (TokenFaults oldScan text) ∷ stage inBuffer (LendingSize (fixed text) buffer) ∷ []
 
+-- 24 of the table; 24 of the contract; 21 of the text that 02 k makes of it
+abbrev pub draftingStages : List ℕ → List ℕ → List ℕ → List ℕ → List Stage
+draftingStages contract table list buffer =
+    stage inTable (TableSize table)
+    ∷ stage inContract (Given (namesOf list) (λ ks. ContractFaults (length ks) (length table) contract))
+    ∷ stage inBuffer (Given (drafted contract table list) (λ t. TextLimits t buffer))
+    ∷ stage inBuffer (Given (drafted contract table list) (λ t. LendingSize (print t) buffer))
+    ∷ []
+
 -- those that each call has
 
 abbrev pub readStages : List ℕ → List Stage
@@ -132,6 +142,9 @@ printStages text buffer = readStages text ++ printingStages text buffer
 abbrev pub fixStages : List ℕ → List ℕ → List Stage
 fixStages text buffer = sizeStages text ++ fixingStages text buffer
 
+abbrev pub draftStages : List ℕ → List ℕ → List ℕ → List ℕ → List Stage
+draftStages contract table list buffer = listStagesBy nameRule list ++ draftingStages contract table list buffer
+
 pub record TableHolds : Type 0 where
   pub read : (text : List ℕ) → ByTable (readAnswer text) (readStages text)
   pub check : (text list : List ℕ) → ByTable (checkAnswer text list) (checkStages text list)
@@ -142,6 +155,8 @@ pub record TableHolds : Type 0 where
   pub print : (text buffer : List ℕ) → ByTable (printAnswer text buffer) (printStages text buffer)
   pub summarize : (text list : List ℕ) → ByTable (summaryAnswer text list) (checkStages text list)
   pub fix : (text buffer : List ℕ) → ByTable (fixAnswer text buffer) (fixStages text buffer)
+  pub draft : (contract table list buffer : List ℕ)
+      → ByTable (draftAnswer contract table list buffer) (draftStages contract table list buffer)
 
 -- and a text that passes 5 to 7 and 22 is cut into its tokens
 abbrev pub TokensAreCut : Type 0

@@ -1,6 +1,6 @@
 -- 01, "Try these against it": programs that the promises must leave no room for; and wrong printers (02 a and e), explainers (02 c),
--- summaries and rechecks (02 f), ways with skips (02 g), passes over octal numerals (02 h), and checkers of numbers that lose bits (02 j).
--- Each is refuted at an input, named in the proof.
+-- summaries and rechecks (02 f), ways with skips (02 g), passes over octal numerals (02 h), checkers of numbers that lose bits (02 j), and
+-- translations of contracts (02 k). Each is refuted at an input, named in the proof.
 use Prim.Native.Nat.{ℕ, _+_, _*_, _≤_, _<_}
 use mathlib.Core.Path.{_≡_}
 use mathlib.Core.Bool.{true, false, cond}
@@ -24,13 +24,14 @@ use Rattle.paper.specs.Calls.{tree, Restriction, restriction, over, judg
 use Rattle.paper.specs.TranslationCorrect.{Carries}
 use Rattle.paper.specs.MarkedJudgements.{theKeys, theEntry}
 use Rattle.paper.specs.Explained.{explanationSays}
-use Rattle.paper.specs.Promised.{judgementOfRun, Bytes, Programs, KeepsRead, KeepsCheck, KeepsJudge, KeepsTranslate, KeepsLoad, KeepsRun, KeepsPrint, KeepsExplain, KeepsSummarize, KeepsRecheck, KeepsFix, Kept}
+use Rattle.paper.specs.Promised.{judgementOfRun, Bytes, Programs, KeepsRead, KeepsCheck, KeepsJudge, KeepsTranslate, KeepsLoad, KeepsRun, KeepsPrint, KeepsExplain, KeepsSummarize, KeepsRecheck, KeepsFix, KeepsDraft, Kept}
 use Rattle.paper.specs.WrongPrints.{withoutParentheses, withAllParentheses, withAndForSequel, inDecimal, addressesInHex}
 use Rattle.paper.specs.WrongExplainers.{Explainer, NamesLast, FollowsSpine, KeyForPriority}
 use Rattle.paper.specs.WrongRecheckers.{NeverReuses, AlwaysReuses, WantsEqualEntries, ForgetsPriority, ComparesReadings, CountsPriority, MissesFields}
 use Rattle.paper.specs.WrongRunners.{ReportsInstructions, LeavesOldBool, ComparesHeights}
 use Rattle.paper.specs.WrongFixers.{ChangesStrings, ChangesComments, KeepsZeros, DropsPrefix}
 use Rattle.paper.specs.WrongCheckers.{ReducesStill, LooksRight, PlacesAtOperator, TakesNoneBelowZero}
+use Rattle.paper.specs.WrongDrafters.{InvertsLast, JoinsRight, TakesInclusive, JoinsByAnd}
 use Rattle.paper.specs.Demands.{Refuses, blocksWritten, DemandOne, DemandTwo, DemandThree}
 
 -- the bytes before the first ";"
@@ -190,10 +191,24 @@ ChecksAtOperator p = PlacesAtOperator (p .check)
 abbrev pub ChecksAboveZero : Programs → Type 0
 ChecksAboveZero p = TakesNoneBelowZero (p .check)
 
+-- those of WrongDrafters
+
+abbrev pub DraftsLastInverted : Programs → Type 0
+DraftsLastInverted p = InvertsLast (p .draft)
+
+abbrev pub DraftsFromRight : Programs → Type 0
+DraftsFromRight p = JoinsRight (p .draft)
+
+abbrev pub DraftsInclusive : Programs → Type 0
+DraftsInclusive p = TakesInclusive (p .draft)
+
+abbrev pub DraftsByAnd : Programs → Type 0
+DraftsByAnd p = JoinsByAnd (p .draft)
+
 -- each is real: there is such a program in which every other call keeps its promise
 
 pub data Call : Type 0 where
-  checking judging translating loading running printing explaining summarizing rechecking fixing : Call
+  checking judging translating loading running printing explaining summarizing rechecking fixing drafting : Call
 
 -- the calls of document 01, and those of 02
 
@@ -201,7 +216,7 @@ abbrev pub FirstKept : Programs → Type 0
 FirstKept p = KeepsRead p × KeepsCheck p × KeepsJudge p × KeepsTranslate p × KeepsLoad p × KeepsRun p
 
 abbrev pub LaterKept : Programs → Type 0
-LaterKept p = KeepsPrint p × KeepsExplain p × KeepsSummarize p × KeepsRecheck p × KeepsFix p
+LaterKept p = KeepsPrint p × KeepsExplain p × KeepsSummarize p × KeepsRecheck p × KeepsFix p × KeepsDraft p
 
 abbrev pub OthersKept : Call → Programs → Type 0
 OthersKept checking p = (KeepsRead p × KeepsJudge p × KeepsTranslate p × KeepsLoad p × KeepsRun p) × LaterKept p
@@ -209,11 +224,12 @@ OthersKept judging p = (KeepsRead p × KeepsCheck p × KeepsTranslate p × Keeps
 OthersKept translating p = (KeepsRead p × KeepsCheck p × KeepsJudge p × KeepsLoad p × KeepsRun p) × LaterKept p
 OthersKept loading p = (KeepsRead p × KeepsCheck p × KeepsJudge p × KeepsTranslate p × KeepsRun p) × LaterKept p
 OthersKept running p = (KeepsRead p × KeepsCheck p × KeepsJudge p × KeepsTranslate p × KeepsLoad p) × LaterKept p
-OthersKept printing p = FirstKept p × (KeepsExplain p × KeepsSummarize p × KeepsRecheck p × KeepsFix p)
-OthersKept explaining p = FirstKept p × (KeepsPrint p × KeepsSummarize p × KeepsRecheck p × KeepsFix p)
-OthersKept summarizing p = FirstKept p × (KeepsPrint p × KeepsExplain p × KeepsRecheck p × KeepsFix p)
-OthersKept rechecking p = FirstKept p × (KeepsPrint p × KeepsExplain p × KeepsSummarize p × KeepsFix p)
-OthersKept fixing p = FirstKept p × (KeepsPrint p × KeepsExplain p × KeepsSummarize p × KeepsRecheck p)
+OthersKept printing p = FirstKept p × (KeepsExplain p × KeepsSummarize p × KeepsRecheck p × KeepsFix p × KeepsDraft p)
+OthersKept explaining p = FirstKept p × (KeepsPrint p × KeepsSummarize p × KeepsRecheck p × KeepsFix p × KeepsDraft p)
+OthersKept summarizing p = FirstKept p × (KeepsPrint p × KeepsExplain p × KeepsRecheck p × KeepsFix p × KeepsDraft p)
+OthersKept rechecking p = FirstKept p × (KeepsPrint p × KeepsExplain p × KeepsSummarize p × KeepsFix p × KeepsDraft p)
+OthersKept fixing p = FirstKept p × (KeepsPrint p × KeepsExplain p × KeepsSummarize p × KeepsRecheck p × KeepsDraft p)
+OthersKept drafting p = FirstKept p × (KeepsPrint p × KeepsExplain p × KeepsSummarize p × KeepsRecheck p × KeepsFix p)
 
 abbrev pub ThereIs : (Programs → Type 0) → Call → Type 0
 ThereIs Wrong c = (p : Programs) × Wrong p × OthersKept c p
@@ -254,6 +270,10 @@ pub record WrongProgramsExist : Type 0 where
   pub looking-right : ThereIs ChecksRightOperands checking
   pub placing-at-operator : ThereIs ChecksAtOperator checking
   pub taking-none-below : ThereIs ChecksAboveZero checking
+  pub inverting-last : ThereIs DraftsLastInverted drafting
+  pub joining-right : ThereIs DraftsFromRight drafting
+  pub taking-inclusive : ThereIs DraftsInclusive drafting
+  pub joining-by-and : ThereIs DraftsByAnd drafting
 
 -- what excludes each: a demand, beside the calls that it is tried with; or a promise, that of `load` by 18, or that of `check` by a place
 pub record DemandsExclude (p : Programs) : Type 0 where
@@ -292,6 +312,10 @@ pub record DemandsExclude (p : Programs) : Type 0 where
   pub looking-right : DemandTwo p → ¬ ChecksRightOperands p
   pub placing-at-operator : KeepsCheck p → ¬ ChecksAtOperator p
   pub taking-none-below : DemandTwo p → ¬ ChecksAboveZero p
+  pub inverting-last : DemandTwo p → ¬ DraftsLastInverted p
+  pub joining-right : DemandTwo p → ¬ DraftsFromRight p
+  pub taking-inclusive : DemandTwo p → ¬ DraftsInclusive p
+  pub joining-by-and : DemandTwo p → ¬ DraftsByAnd p
 
 abbrev pub WrongProgramsFail : Type 0
 WrongProgramsFail = (p : Programs) → DemandsExclude p
@@ -333,6 +357,10 @@ pub record Excluded (p : Programs) : Type 0 where
   pub looking-right : ¬ ChecksRightOperands p
   pub placing-at-operator : ¬ ChecksAtOperator p
   pub taking-none-below : ¬ ChecksAboveZero p
+  pub inverting-last : ¬ DraftsLastInverted p
+  pub joining-right : ¬ DraftsFromRight p
+  pub taking-inclusive : ¬ DraftsInclusive p
+  pub joining-by-and : ¬ DraftsByAnd p
 
 abbrev pub NoWrongProgram : Type 0
 NoWrongProgram = (p : Programs) → Kept p → Excluded p

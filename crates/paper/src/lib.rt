@@ -7,13 +7,15 @@ pub mod kinds;
 pub mod operations;
 pub mod refused;
 
-// Which lent input a refusal lies in, and at which byte of it.
+// Which lent input a refusal lies in, and at which byte of it; of a table of numbers, at which number.
 pub enum Place {
     Text(usize),
     List(usize),
     Entry(usize),
     Blocks(usize),
     Buffer(usize),
+    Contract(usize),
+    Table(usize),
 }
 
 // A text alone: how many nodes its tree has.
@@ -63,6 +65,12 @@ pub enum Printing {
 // A text without octal numerals, each in hex: how many bytes were written.
 pub enum Fixing {
     Fixed(usize),
+    Refused(u8, Place),
+}
+
+// A Pact contract into a text: how many bytes were written.
+pub enum Drafting {
+    Drafted(usize),
     Refused(u8, Place),
 }
 

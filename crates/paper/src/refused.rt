@@ -46,3 +46,5 @@ pub const PRINT_LONG: u8 = 21;
 pub const OCTAL: u8 = 22;
 
 pub const BITS_LOST: u8 = 23;
+
+pub const CONTRACT: u8 = 24;

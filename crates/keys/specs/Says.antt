@@ -7,11 +7,14 @@ use lib.Dec.{eqb}
 use lib.ListN.{length}
 use Rattle.paper.specs.Answers.{Answer, ok, _>>=_}
 use Rattle.paper.specs.Numbers.{byteAt}
-use Rattle.paper.specs.Keys.{Key, recordSize, recordAt, kindOf, keys, keysFrom}
+use Rattle.paper.specs.Keys.{Key, recordSize, recordAt, kindOf, RecordRule, keysBy, layoutRule, keys, keysFrom}
+use Rattle.paper.specs.Drafting.{nameRule, namesOf}
 use Rattle.paper.specs.Entry.{Match, entryOf}
 use Rattle.number.specs.Values.{value}
 use Rattle.keys.specs.declared.find.Found.{Found}
 use Rattle.keys.specs.declared.find.Found.the-variants as F
+use Rattle.keys.specs.declared.list.Rule.{Rule}
+use Rattle.keys.specs.declared.list.Rule.the-variants as R
 use Rattle.keys.specs.declared.entry.Matched.{Matched}
 use Rattle.keys.specs.declared.record.KeyRecord.{KeyRecord}
 
@@ -23,8 +26,20 @@ abbrev pub found : Found → Option ℕ
 found (F.At k) = some k
 found F.Nothing = none
 
+abbrev pub ruleMeant : Rule → RecordRule
+ruleMeant R.Layout = layoutRule
+ruleMeant R.Input = nameRule
+
+-- how many keys a list holds, by a rule; by the layout; and as the names of inputs
+
+abbrev pub countBy : RecordRule → List ℕ → Answer ℕ
+countBy rule list = keysBy rule list >>= λ ks. ok (length ks)
+
 abbrev pub keyCount : List ℕ → Answer ℕ
 keyCount list = keys list >>= λ ks. ok (length ks)
+
+abbrev pub nameCount : List ℕ → Answer ℕ
+nameCount list = namesOf list >>= λ ks. ok (length ks)
 
 -- what is read of key k's record
 pub record KeyRead (list : List ℕ) (k : ℕ) (r : KeyRecord) : Type 0 where

@@ -16,4 +16,5 @@ pub use entry::same_record;
 pub use find::Found;
 pub use find::find_key;
 pub use list::check_list;
+pub use list::check_names;
 pub use record::KeyRecord;

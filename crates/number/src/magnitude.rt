@@ -6,6 +6,9 @@ pub struct Magnitude {
     pub limbs: [u32; 4],
 }
 
+// One more than a limb can hold.
+const LIMB: u64 = 0x1_0000_0000;
+
 impl Magnitude {
     // The number zero.
     pub fn zero() -> Magnitude
@@ -20,6 +23,15 @@ impl Magnitude {
     {
         Magnitude {
             limbs: [n, 0, 0, 0],
+        }
+    }
+
+    // A number below 2^64.
+    pub fn of_u64(n: u64) -> Magnitude
+        ensures { λ r. ⌜ value r ≡ n ⌝ }
+    {
+        Magnitude {
+            limbs: [(n % LIMB) as u32, (n / LIMB) as u32, 0, 0],
         }
     }
 }

@@ -9,4 +9,7 @@ mod signs;
 mod walk;
 
 pub use signs::Rung;
+pub use signs::left_rung;
+pub use signs::right_rung;
+pub use signs::rung_of;
 pub use walk::write_tree;

@@ -22,7 +22,7 @@ pub enum Rung {
 
 impl Rung {
     // The paper's number.
-    fn number(self) -> u8
+    pub fn number(self) -> u8
         ensures { λ r. ⌜ r ≡ rungMeant self ⌝ }
     {
         match self {
@@ -48,7 +48,7 @@ fn join_rung(o: Join) -> Rung
 }
 
 // The rung of what an operator makes.
-fn rung_of(o: Operator) -> Rung
+pub fn rung_of(o: Operator) -> Rung
     ensures { λ r. ⌜ rungMeant r ≡ rungBetween o ⌝ }
 {
     match o {
@@ -76,7 +76,7 @@ fn join_left(o: Join) -> Rung
 }
 
 // The rung that is asked for before an operator.
-pub(crate) fn left_rung(o: Operator) -> Rung
+pub fn left_rung(o: Operator) -> Rung
     ensures { λ r. ⌜ rungMeant r ≡ leftBetween o ⌝ }
 {
     match o {
@@ -97,7 +97,7 @@ fn join_right(o: Join) -> Rung
 }
 
 // The rung that is asked for after it.
-pub(crate) fn right_rung(o: Operator) -> Rung
+pub fn right_rung(o: Operator) -> Rung
     ensures { λ r. ⌜ rungMeant r ≡ rightBetween o ⌝ }
 {
     match o {

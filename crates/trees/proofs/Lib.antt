@@ -3,3 +3,4 @@ pub mod Stretches
 pub mod Walks
 pub mod Stored
 pub mod Stores
+pub mod Puts

@@ -25,6 +25,7 @@ pub use node::place_at;
 pub use store::put_attribute;
 pub use store::put_field;
 pub use store::put_key;
+pub use store::put_name;
 pub use store::put_number;
 pub use store::put_operator;
 pub use store::put_prefix;

@@ -105,6 +105,23 @@ pub fn put_key(nodes: &mut [u32], node: usize, from: u32, to: u32)
     put(nodes, node, row);
 }
 
+// A key that stands in no text, whose name begins and ends at two offsets elsewhere.
+pub fn put_name(nodes: &mut [u32], node: usize, from: u32, to: u32)
+    requires { ⌜ node * 8 + 8 ≤ length (now nodes) ⌝ }
+    ensures { λ _. ⌜ now (nodes .exit) ≡ sets (now (nodes .entry)) (node * 8) (leafWords 2 0 from to 0 0) ⌝ }
+{
+    let row = Row {
+        kind: kinds::KEY,
+        place: 0,
+        left: 0,
+        a: from,
+        b: to,
+        c: 0,
+        d: 0,
+    };
+    put(nodes, node, row);
+}
+
 // A field of a key: the offsets of the key's name, then those of the field's.
 pub fn put_field(nodes: &mut [u32], node: usize, from: u32, to: u32, start: u32, end: u32)
     requires { ⌜ node * 8 + 8 ≤ length (now nodes) ⌝ }

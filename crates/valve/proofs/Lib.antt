@@ -1,4 +1,5 @@
 mod Compared
+mod Contracts
 mod Fixes
 mod Loads
 mod Loans

@@ -1,11 +1,12 @@
 // The public calls. Each is thin: the stages of the documents, in their order, each asked of the crate below that answers for it.
 //
 // Every call keeps its promise (`paper`, specs/Promised) for all bytes, of any length and content: it answers what the definition of its
-// name in the documents' words (specs/Calls, Explained and Pieces for what broke, Named and Rechecking for what a text names, Fixing for texts on file) says, its count or verdict, or the refusal with its number and place. It asks nothing of its caller, keeps
+// name in the documents' words (specs/Calls, Explained and Pieces for what broke, Named and Rechecking for what a text names, Fixing for texts on file, Drafting for contracts) says, its count or verdict, or the refusal with its number and place. It asks nothing of its caller, keeps
 // nothing from one call to the next, and reads nothing past the bytes it is lent. The scratch of a call lies in its own frame.
 mod account;
 mod loading;
 mod octal;
+mod pacts;
 mod pieces;
 mod reasons;
 mod rechecks;
@@ -18,6 +19,7 @@ mod writing;
 
 pub use loading::load;
 pub use octal::fix_octal;
+pub use pacts::pact;
 pub use pieces::Explained;
 pub use pieces::explain;
 pub use pieces::explained_list;

@@ -34,7 +34,7 @@ fn too_long(buffer: &[u8]) -> Printing
 
 // The print of the tree at a node. It is written to scratch first, so that the buffer is known to be large enough before its first byte
 // changes.
-fn lend_print(text: &[u8], nodes: &[u32], node: usize, buffer: &mut [u8]) -> Printing
+pub(crate) fn lend_print(text: &[u8], nodes: &[u32], node: usize, buffer: &mut [u8]) -> Printing
     requires { ⌜ node * 8 + 8 ≤ length (now nodes) ⌝ }
     ensures { λ r. ⌜ Lent (print (treeAt (now (text .entry)) (now (nodes .entry)) node)) (now (buffer .entry)) (record { answer = r; buffer = now (buffer .exit) }) ⌝ }
 {

@@ -10,9 +10,10 @@ use Rattle.paper.specs.declared.Loading.{Loading}
 use Rattle.paper.specs.declared.Running.{Running}
 use Rattle.paper.specs.declared.Printing.{Printing}
 use Rattle.paper.specs.declared.Fixing.{Fixing}
+use Rattle.paper.specs.declared.Drafting.{Drafting}
 use Rattle.paper.specs.Answers.{runningSays}
 use Rattle.paper.specs.TranslationCorrect.{judgedInSteps}
-use Rattle.paper.specs.Promised.{judgementOfRun, JudgePromised, TranslateResult, TranslatePromised, LoadPromised, RunPromised, PrintResult, FixResult}
+use Rattle.paper.specs.Promised.{judgementOfRun, JudgePromised, TranslateResult, TranslatePromised, LoadPromised, RunPromised, PrintResult, FixResult, DraftResult}
 use Rattle.paper.specs.Demands.{TranslateAnswered, blocksWritten, Carried}
 use Rattle.promises.specs.declared.calls.Carrying.{Carrying}
 use Rattle.promises.specs.declared.calls.Carrying.the-variants as W
@@ -28,6 +29,10 @@ lent r exit = record { answer = r; buffer = exit }
 -- and of `fix_octal`
 abbrev pub fixedTo : Fixing → List ℕ → FixResult
 fixedTo r exit = record { answer = r; buffer = exit }
+
+-- and of `pact`
+abbrev pub draftedTo : Drafting → List ℕ → DraftResult
+draftedTo r exit = record { answer = r; buffer = exit }
 
 -- each answer keeps its call's promise; the blocks load with the number returned, and say of the entry what the text says, in the steps that
 -- are counted over its tree

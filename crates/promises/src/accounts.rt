@@ -4,10 +4,11 @@ ghost use Rattle.paper.specs.WrongPrints.{WrongPrintsFail};
 ghost use Rattle.paper.specs.WrongFixers.{WrongFixersFail};
 ghost use Rattle.paper.specs.WrongRunners.{WrongRunnersFail};
 ghost use Rattle.paper.specs.WrongCheckers.{WrongCheckersFail};
+ghost use Rattle.paper.specs.WrongDrafters.{WrongDraftersFail};
 ghost use Rattle.paper.specs.WrongPrograms.{WrongProgramsExist, WrongProgramsFail, NoWrongProgram, PaddingSeen};
 
-// For all inputs one result keeps the promise of a call, and no second; of `translate`, `print` and `fix_octal`, one answer with one buffer at
-// exit.
+// For all inputs one result keeps the promise of a call, and no second; of `translate`, `print`, `fix_octal` and `pact`, one answer with one
+// buffer at exit.
 pub fn no_second_result()
     ensures { λ _. ⌜ NoSecondResult ⌝ }
 {}
@@ -29,7 +30,8 @@ pub fn wrong_programs_exist()
 // a summary that counts ::priority or misses the key of a field, a run that reports the code's instructions as its steps or whose skips leave the
 // old bool, a load check that compares the heights of landings, a pass over octal that changes strings or comments, keeps leading zeros or drops
 // the letters of the prefix, a type check that reduces numbers still, looks at right operands alone, gives 23 at the operator or takes no number
-// below zero: each fails a demand, refusal 18, or the place of refusal 23.
+// below zero, a translation of contracts with NOT over the last assertion only, with joins from the right, with exclusive or as "||" or with clauses
+// joined by "&&": each fails a demand, refusal 18, or the place of refusal 23.
 pub fn wrong_programs_fail()
     ensures { λ _. ⌜ WrongProgramsFail ⌝ }
 {}
@@ -66,4 +68,10 @@ pub fn wrong_runners_fail()
 // no number below zero: each fails what is asked of a check, or its promise.
 pub fn wrong_checkers_fail()
     ensures { λ _. ⌜ WrongCheckersFail ⌝ }
+{}
+
+// A translation of contracts that puts NOT over the last assertion only, one that joins from the right, one that takes exclusive or for "||", one that
+// joins clauses by "&&": each fails what is asked of it.
+pub fn wrong_drafters_fail()
+    ensures { λ _. ⌜ WrongDraftersFail ⌝ }
 {}

@@ -1,9 +1,10 @@
 // The real calls, held to the demands. Each function calls `valve`, and its contract states for its own inputs what is demanded of what was
 // answered, in the words of `paper` (specs/Demands). It holds by the contracts of `valve` alone, so one that is weakened fails here.
-ghost use Rattle.paper.specs.Demands.{ReadAnswered, ReadRight, CheckAnswered, CheckedRight, JudgeAnswered, JudgedRight, TranslateAnswered, TranslatedRight, LoadAnswered, RunAnswered, RanRight, PrintAnswered, PrintedRight, FixAnswered, FixesRight, ExplainAnswered, ExplainRight, SummarizeAnswered, SummarizeRight, RecheckAnswered, RecheckRight};
-ghost use Rattle.promises.specs.Held.{gave, lent, fixedTo, Carries};
+ghost use Rattle.paper.specs.Demands.{ReadAnswered, ReadRight, CheckAnswered, CheckedRight, JudgeAnswered, JudgedRight, TranslateAnswered, TranslatedRight, LoadAnswered, RunAnswered, RanRight, PrintAnswered, PrintedRight, FixAnswered, FixesRight, DraftAnswered, DraftsRight, ExplainAnswered, ExplainRight, SummarizeAnswered, SummarizeRight, RecheckAnswered, RecheckRight};
+ghost use Rattle.promises.specs.Held.{gave, lent, fixedTo, draftedTo, Carries};
 use blocks::Block;
 use paper::Checking;
+use paper::Drafting;
 use paper::Explanation;
 use paper::Fixing;
 use paper::Judgement;
@@ -77,6 +78,14 @@ pub fn fix_octal(text: &[u8], buffer: &mut [u8]) -> Fixing
     ensures { λ r. ⌜ FixesRight (now (text .entry)) (now (buffer .entry)) (fixedTo r (now (buffer .exit))) ⌝ }
 {
     valve::fix_octal(text, buffer)
+}
+
+// Demands 1 and 2 of `pact`.
+pub fn pact(contract: &[u8], table: &[u64], names: &[u8], buffer: &mut [u8]) -> Drafting
+    ensures { λ r. ⌜ DraftAnswered (now (contract .entry)) (now (table .entry)) (now (names .entry)) (now (buffer .entry)) (draftedTo r (now (buffer .exit))) ⌝ }
+    ensures { λ r. ⌜ DraftsRight (now (contract .entry)) (now (table .entry)) (now (names .entry)) (now (buffer .entry)) (draftedTo r (now (buffer .exit))) ⌝ }
+{
+    valve::pact(contract, table, names, buffer)
 }
 
 // Demands 1 and 2 of the numbers of an explanation. What is demanded of its pieces stands in `pieces`.

@@ -1,7 +1,7 @@
 // The demands, each as one statement: programs that keep the promises of the public calls meet it.
 ghost use Rattle.paper.specs.Demands.{DemandOneMet, DemandTwoMet, DemandThreeMet};
 
-// Every input gets an answer. A refusal has a number from 1 to 22 and a place in an input that was lent, or at its length; and it changes
+// Every input gets an answer. A refusal has a number from 1 to 24 and a place in an input that was lent, or at its length; and it changes
 // no byte of the buffer.
 pub fn every_input_is_answered()
     ensures { λ _. ⌜ DemandOneMet ⌝ }
@@ -11,7 +11,8 @@ pub fn every_input_is_answered()
 // accepted exactly when the restriction holds of it. A text is printed exactly when it is read and its print may be lent, and its octal numerals
 // are written in hex exactly when it has tokens by the old rules and the result may be lent. Of a violated entry the first false part is named, of
 // a bad record its key, and else nothing. A summary has the keys that the text names, and an earlier answer is reused exactly where both entries
-// conform and are the same in all that the text names.
+// conform and are the same in all that the text names. A contract becomes a text exactly when it has a meaning with its names and user numbers and the
+// text may be lent, and the text passes and says of every entry what the contract says of its numbers.
 pub fn judged_as_the_text_means()
     ensures { λ _. ⌜ DemandTwoMet ⌝ }
 {}

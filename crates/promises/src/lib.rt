@@ -4,6 +4,7 @@ mod accounts;
 mod bases;
 mod bits;
 mod calls;
+mod contracts;
 mod damage;
 mod demands;
 mod dependence;

@@ -21,6 +21,7 @@ ghost use Rattle.paper.specs.TranslationExamples.{TranslationExamples};
 ghost use Rattle.paper.specs.SkipExamples.{SkipExamples};
 ghost use Rattle.paper.specs.PrintExamples.{PrintExamples};
 ghost use Rattle.paper.specs.FixExamples.{FixExamples};
+ghost use Rattle.paper.specs.DraftExamples.{DraftExamples};
 ghost use Rattle.paper.specs.PartExamples.{PartExamples};
 ghost use Rattle.paper.specs.SummaryExamples.{SummaryExamples};
 ghost use Rattle.paper.specs.AnswerExamples.{AnswerExamples};
@@ -151,6 +152,11 @@ pub fn examples_of_prints()
 // Texts with what the pass over octal makes of them, what it refuses by the old rules, and what is lent.
 pub fn examples_of_fixes()
     ensures { λ _. ⌜ FixExamples ⌝ }
+{}
+
+// Contracts with their texts, document 000's among them, every sort of fault, both sides of each limit, and what is lent.
+pub fn examples_of_contracts()
+    ensures { λ _. ⌜ DraftExamples ⌝ }
 {}
 
 // Texts with their parts, both sides of each limit, and what is shown of an entry: a part, a key, or nothing.

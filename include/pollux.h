@@ -7,17 +7,19 @@
  *   On site                  pollux_explain, with text and entry: which part of the restriction, or which key, turned it away
  *   When entries are edited  pollux_summarize: which keys a text names; pollux_recheck: the earlier answer, where it still holds
  *   For texts on file        pollux_fix_octal: the same text with its octal numerals in hex, which the other calls refuse
+ *   For a partner's terms    pollux_pact: a Pact contract as a text, with a name for each of its inputs
  *
  * Inputs
  *   Each input is a pointer and a length in bytes, in that order. It may have any length and any content: whatever does not
- *   conform is refused with a number and a place. No alignment is asked for.
+ *   conform is refused with a number and a place. No alignment is asked for. Only the table of pollux_pact is a pointer to
+ *   uint64_t, aligned as these are, and a count of them.
  *   A pointer is never NULL. For an input of length 0 pass any other pointer; no byte there is touched.
- *   The buffer of pollux_translate, pollux_print or pollux_fix_octal must not overlap the text or the key list. Inputs that are only
- *   read may overlap.
+ *   The buffer of pollux_translate, pollux_print, pollux_fix_octal or pollux_pact must not overlap another input. Inputs that are
+ *   only read may overlap.
  *
  * What a call touches
  *   A call reads no byte outside the inputs that it is given and writes none but those of the buffer that pollux_translate,
- *   pollux_print or pollux_fix_octal is given. It keeps nothing: there are no globals, no heap and no system calls, and the same
+ *   pollux_print, pollux_fix_octal or pollux_pact is given. It keeps nothing: there are no globals, no heap and no system calls, and the same
  *   inputs always have the same answer. Threads may call at the same time, as long as nobody writes what another one's call has
  *   been given.
  *
@@ -67,6 +69,10 @@ extern "C" {
 #define POLLUX_RECORD_SIZE 36
 #define POLLUX_ENTRY_SIZE(keys) (POLLUX_PRIORITY_SIZE + POLLUX_RECORD_SIZE * (size_t)(keys))
 
+#define POLLUX_MAX_INPUTS 16       /* names of a contract's inputs */
+#define POLLUX_MAX_USER_NUMBERS 16 /* numbers of its table */
+#define POLLUX_INPUT_WIDTH 64      /* bits of each input: a name is an exact key of this width */
+
 #define POLLUX_BLOCK_SIZE 512
 #define POLLUX_BLOCK_INSTRUCTIONS 25
 #define POLLUX_INSTRUCTION_SIZE 20
@@ -83,7 +89,7 @@ enum pollux_says {
     POLLUX_REFUSED = 0,
     POLLUX_ACCEPTED = 1, /* the restriction is true of the entry */
     POLLUX_VIOLATED = 2, /* it is false of the entry */
-    POLLUX_DONE = 3      /* read, passed, translated, loaded, printed or fixed */
+    POLLUX_DONE = 3      /* read, passed, translated, loaded, printed, fixed or drafted */
 };
 
 /* The input that a refusal lies in. */
@@ -93,14 +99,17 @@ enum pollux_input {
     POLLUX_LIST = 2,
     POLLUX_ENTRY = 3,
     POLLUX_BLOCKS = 4,
-    POLLUX_BUFFER = 5
+    POLLUX_BUFFER = 5,
+    POLLUX_PACT = 6, /* a contract */
+    POLLUX_TABLE = 7 /* whose offset counts numbers, not bytes */
 };
 
 /* Why an input was refused, and where in it. */
 enum pollux_refusal {
     POLLUX_TEXT_TOO_LONG = 1,   /* at 4096 */
     POLLUX_LIST_LENGTH = 2,     /* not a multiple of 80, or over 2,560; at its length */
-    POLLUX_KEY_LAYOUT = 3,      /* a byte 3 that is neither 0 nor 1 included; at the record */
+    POLLUX_KEY_LAYOUT = 3,      /* a byte 3 that is neither 0 nor 1 included; of a contract's names also one that is not exact or not
+                                   of width 64, or a 17th; at the record */
     POLLUX_KEY_REPEATED = 4,    /* at the later record */
     POLLUX_NO_TOKEN = 5,        /* at the first byte that forms no token */
     POLLUX_NUMERAL_LARGE = 6,   /* above 2^128 - 1; at the numeral */
@@ -119,16 +128,21 @@ enum pollux_refusal {
                                    left at the end is not one bool */
     POLLUX_ENTRY_LENGTH = 19,   /* at its length */
     POLLUX_ENTRY_RULE = 20,     /* at the priority (0) or at the key's record, the absence of a key that must be present included */
-    POLLUX_PRINT_LONG = 21,     /* over 4,096 bytes, or what is written over the buffer; at the buffer's length */
+    POLLUX_PRINT_LONG = 21,     /* over 4,096 bytes, or what is written over the buffer; a contract's text also over 1,024 tokens or
+                                   64 levels; at the buffer's length */
     POLLUX_OCTAL = 22,          /* a well-formed octal numeral; at its first byte */
-    POLLUX_BITS_LOST = 23       /* a number of the text that does not fit the W bits of the operand it is compared with, so none from -2^(W-1) to
+    POLLUX_BITS_LOST = 23,      /* a number of the text that does not fit the W bits of the operand it is compared with, so none from -2^(W-1) to
                                    2^W - 1; at its numeral or address, or at the outermost of its minus signs */
+    POLLUX_CONTRACT = 24        /* over 16 user numbers; at 16 in the table. IN, a reserved bit, an unused operation number, a conjunction
+                                   with no assertion directly before it; at the opcode. An index without a name or a user number; at the
+                                   index byte. A contract that ends after an opcode; at its length */
 };
 
 /*
  * An answer of any call but pollux_explain, pollux_summarize and pollux_recheck, which have more to tell.
  *
- *   refused               says POLLUX_REFUSED, number and input as above, value the byte offset in that input
+ *   refused               says POLLUX_REFUSED, number and input as above, value the byte offset in that input, in a table the index
+ *                         of a number
  *   accepted, violated    number and input are 0; value is the steps that pollux_run took, and 0 of any other call
  *   done                  number and input are 0; value is the count that the call gives, or 0
  */
@@ -193,6 +207,20 @@ struct pollux_answer pollux_print(const uint8_t *text, size_t text_length,
  */
 struct pollux_answer pollux_fix_octal(const uint8_t *text, size_t text_length,
                                       uint8_t *buffer, size_t buffer_length);
+
+/*
+ * Makes a restriction's text of a Pact contract at the front of the buffer, in house style. names is a key list with a name for each
+ * input of the contract: at most POLLUX_MAX_INPUTS exact keys of width POLLUX_INPUT_WIDTH, of which not all need be used. table holds the user
+ * numbers, at most POLLUX_MAX_USER_NUMBERS. An assertion is a comparison, an assertion or a join under NOT stands under "!", AND, OR and
+ * XOR join from the left as "&&", "||" and "!=" of two bools, clauses are joined by ";", and a contract without a byte is "true".
+ * The text passes with names as its key list, and judged on an entry it says what the contract says of the entry's numbers.
+ * It refuses with 2, 3, 4, 24 and 21, in this order. Done: value is the number of bytes written. Later bytes of the buffer stay as they
+ * were; on a refusal every byte does. A buffer of POLLUX_MAX_TEXT bytes is large enough for any text.
+ */
+struct pollux_answer pollux_pact(const uint8_t *contract, size_t contract_length,
+                                 const uint64_t *table, size_t table_count,
+                                 const uint8_t *names, size_t names_length,
+                                 uint8_t *buffer, size_t buffer_length);
 
 /*
  * What broke for an entry. The first four are what pollux_judge answers; the last four show a piece of the text or of the key list,
@@ -262,7 +290,7 @@ struct pollux_rechecked {
 /*
  * Rechecks an entry after an edit, given the entry before it and what pollux_judge answered then. If that was the old entry's
  * judgement, the result is the new entry's. Four numbers that are no answer of a judgement (says above 2; accepted or violated with
- * another number than 0 beside it; refused with a number above 255, or in none of the five inputs) count as refused with 20 at byte 0
+ * another number than 0 beside it; refused with a number above 255, or in none of the seven inputs) count as refused with 20 at byte 0
  * of the entry. So what pollux_run answered is handed in without its steps, with value 0.
  */
 struct pollux_rechecked pollux_recheck(const uint8_t *text, size_t text_length,

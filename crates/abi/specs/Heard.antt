@@ -13,11 +13,15 @@ abbrev pub noAnswer : Judgement
 noAnswer = J.Refused 20 (P.Entry 0)
 
 abbrev pub placeIn : ℕ → ℕ → Place
-placeIn i at = cond (eqb i 1) (P.Text at) (cond (eqb i 2) (P.List at) (cond (eqb i 3) (P.Entry at) (cond (eqb i 4) (P.Blocks at) (P.Buffer at))))
+placeIn i at =
+    cond (eqb i 1) (P.Text at)
+    (cond (eqb i 2) (P.List at)
+    (cond (eqb i 3) (P.Entry at)
+    (cond (eqb i 4) (P.Blocks at) (cond (eqb i 5) (P.Buffer at) (cond (eqb i 6) (P.Contract at) (P.Table at))))))
 
--- a number that a byte holds, in one of the five inputs
+-- a number that a byte holds, in one of the seven inputs
 abbrev pub refusalIn : PolluxAnswer → Judgement
-refusalIn p = cond (leb (p .number) 255 && leb 1 (p .input) && leb (p .input) 5) (J.Refused (p .number) (placeIn (p .input) (p .value))) noAnswer
+refusalIn p = cond (leb (p .number) 255 && leb 1 (p .input) && leb (p .input) 7) (J.Refused (p .number) (placeIn (p .input) (p .value))) noAnswer
 
 -- nothing but a verdict
 abbrev pub plain : PolluxAnswer → Bool

@@ -1,5 +1,6 @@
--- An answer of the paper as four numbers: what it says (0 refused, 1 accepted, 2 violated, 3 passed, read, written, loaded, printed or fixed), the
--- refusal's number or 0, its input (0 none, 1 text, 2 list, 3 entry, 4 blocks, 5 buffer), and the offset, or the count, or the steps, or 0.
+-- An answer of the paper as four numbers: what it says (0 refused, 1 accepted, 2 violated, 3 passed, read, written, loaded, printed, fixed or
+-- drafted), the refusal's number or 0, its input (0 none, 1 text, 2 list, 3 entry, 4 blocks, 5 buffer, 6 contract, 7 table), and the offset, or
+-- the count, or the steps, or 0.
 --
 -- A reason as eight: the four of the judgement, and the number of the part that is shown, or 0; the place of its root in the text, or of the
 -- key's record in the entry; and the start and length of its stretch of the text, or of the name in the list. Where nothing is shown these are 0.
@@ -13,7 +14,7 @@ use mathlib.Core.Bool.{Bool, true, false, cond}
 use lib.Count.{ones}
 use lib.Dec.{eqb}
 use mathlib.Core.List.{List}
-use Rattle.paper.specs.Answers.{Answer, ok, refused, Input, inText, inList, inEntry, inBlocks, inBuffer, Ran, readingSays, checkingSays, judgementSays, translationSays, loadingSays, runningSays, printingSays}
+use Rattle.paper.specs.Answers.{Answer, ok, refused, Input, inText, inList, inEntry, inBlocks, inBuffer, inContract, inTable, Ran, readingSays, checkingSays, judgementSays, translationSays, loadingSays, runningSays, printingSays}
 use Rattle.paper.specs.Code.{bit}
 use Rattle.paper.specs.Explained.{Reason, inPart, atKey, nothingToShow, keyIndex, stretchFrom, explanationSays}
 use Rattle.paper.specs.ExplainedRight.{judgementOf}
@@ -21,7 +22,8 @@ use Rattle.paper.specs.Named.{Summary, summarizingSays}
 use Rattle.paper.specs.Rechecking.{Rechecked, reused, recheckingSays}
 use Rattle.paper.specs.Rechecking as Rechecking
 use Rattle.paper.specs.Fixing.{fixingSays}
-use Rattle.paper.specs.Promised.{ReadPromised, CheckPromised, JudgePromised, TranslateResult, TranslatePromised, LoadPromised, RunPromised, PrintPromised, FixPromised, ExplainPromised, SummarizePromised, RecheckPromised, Sole}
+use Rattle.paper.specs.Drafting.{draftingSays}
+use Rattle.paper.specs.Promised.{ReadPromised, CheckPromised, JudgePromised, TranslateResult, TranslatePromised, LoadPromised, RunPromised, PrintPromised, FixPromised, DraftPromised, ExplainPromised, SummarizePromised, RecheckPromised, Sole}
 use Rattle.paper.specs.declared.Judgement.{Judgement}
 use Rattle.paper.specs.declared.Judgement.the-variants as J
 use Rattle.paper.specs.declared.Explanation.{Explanation}
@@ -37,6 +39,8 @@ inputNo inList = 2
 inputNo inEntry = 3
 inputNo inBlocks = 4
 inputNo inBuffer = 5
+inputNo inContract = 6
+inputNo inTable = 7
 
 abbrev pub done : ℕ → PolluxAnswer
 done n = record { says = 3; number = 0; input = 0; value = n }
@@ -147,6 +151,11 @@ PrintTold text buffer exit = Tells (λ r. PrintPromised text buffer (record { an
 abbrev pub FixTold : List ℕ → List ℕ → List ℕ → PolluxAnswer → Type 0
 FixTold text buffer exit = Tells (λ r. FixPromised text buffer (record { answer = r; buffer = exit })) (λ r. counted (fixingSays r))
 
+-- with what the buffer holds at exit
+abbrev pub DraftTold : List ℕ → List ℕ → List ℕ → List ℕ → List ℕ → PolluxAnswer → Type 0
+DraftTold contract table list buffer exit =
+    Tells (λ r. DraftPromised contract table list buffer (record { answer = r; buffer = exit })) (λ r. counted (draftingSays r))
+
 abbrev pub ExplainTold : List ℕ → List ℕ → List ℕ → PolluxReason → Type 0
 ExplainTold text list entry = Tells (ExplainPromised text list entry) (λ r. reasoned (explanationSays r))
 
@@ -157,7 +166,7 @@ SummarizeTold text list = Tells (SummarizePromised text list) (λ r. summarized 
 abbrev pub RecheckTold : List ℕ → List ℕ → List ℕ → PolluxAnswer → List ℕ → PolluxRechecked → Type 0
 RecheckTold text list old earlier new = Tells (RecheckPromised text list old (heardAs earlier) new) (λ r. rechecked (recheckingSays r))
 
--- so for all inputs C is told one thing, and no second; of `translate`, `print` and `fix_octal`, one answer with one buffer at exit
+-- so for all inputs C is told one thing, and no second; of `translate`, `print`, `fix_octal` and `pact`, one answer with one buffer at exit
 pub record OneAnswerForC : Type 0 where
   pub read : (text : List ℕ) → Sole (ReadTold text)
   pub check : (text list : List ℕ) → Sole (CheckTold text list)
@@ -170,6 +179,8 @@ pub record OneAnswerForC : Type 0 where
       → (a ≡ b) × (exit ≡ other)
   pub fix : (text buffer exit other : List ℕ) (a b : PolluxAnswer) → FixTold text buffer exit a → FixTold text buffer other b
       → (a ≡ b) × (exit ≡ other)
+  pub draft : (contract table list buffer exit other : List ℕ) (a b : PolluxAnswer) → DraftTold contract table list buffer exit a
+      → DraftTold contract table list buffer other b → (a ≡ b) × (exit ≡ other)
   pub explain : (text list entry : List ℕ) → Sole (ExplainTold text list entry)
   pub summarize : (text list : List ℕ) → Sole (SummarizeTold text list)
   pub recheck : (text list old : List ℕ) (earlier : PolluxAnswer) (new : List ℕ) → Sole (RecheckTold text list old earlier new)
@@ -177,7 +188,10 @@ pub record OneAnswerForC : Type 0 where
 -- the way back, by which a caller reads an answer
 
 abbrev pub inputFrom : ℕ → Input
-inputFrom n = cond (eqb n 1) inText (cond (eqb n 2) inList (cond (eqb n 3) inEntry (cond (eqb n 4) inBlocks inBuffer)))
+inputFrom n =
+    cond (eqb n 1) inText
+    (cond (eqb n 2) inList
+    (cond (eqb n 3) inEntry (cond (eqb n 4) inBlocks (cond (eqb n 5) inBuffer (cond (eqb n 6) inContract inTable)))))
 
 abbrev pub heard : {A : Type 0} → (PolluxAnswer → A) → PolluxAnswer → Answer A
 heard means p = cond (eqb (p .says) 0) (refused (p .number) (inputFrom (p .input)) (p .value)) (ok (means p))

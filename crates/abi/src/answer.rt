@@ -2,8 +2,10 @@
 ghost use mathlib.Core.Path.{_≡_};
 ghost use Rattle.paper.specs.Answers.{inputOf, offsetOf, readingSays, checkingSays, judgementSays, translationSays, loadingSays, runningSays, printingSays};
 ghost use Rattle.paper.specs.Fixing.{fixingSays};
+ghost use Rattle.paper.specs.Drafting.{draftingSays};
 ghost use Rattle.abi.specs.Told.{turnedAway, counted, passed, judged, ran};
 use paper::Checking;
+use paper::Drafting;
 use paper::Fixing;
 use paper::Judgement;
 use paper::Loading;
@@ -52,6 +54,8 @@ fn refusal(number: u8, place: Place) -> PolluxAnswer
         Place::Entry(at) => refused_in(number, 3, at),
         Place::Blocks(at) => refused_in(number, 4, at),
         Place::Buffer(at) => refused_in(number, 5, at),
+        Place::Contract(at) => refused_in(number, 6, at),
+        Place::Table(at) => refused_in(number, 7, at),
     }
 }
 
@@ -126,5 +130,14 @@ pub(crate) fn of_fixing(r: Fixing) -> PolluxAnswer
     match r {
         Fixing::Fixed(n) => answer(3, n),
         Fixing::Refused(number, place) => refusal(number, place),
+    }
+}
+
+pub(crate) fn of_drafting(r: Drafting) -> PolluxAnswer
+    ensures { λ a. ⌜ a ≡ counted (draftingSays r) ⌝ }
+{
+    match r {
+        Drafting::Drafted(n) => answer(3, n),
+        Drafting::Refused(number, place) => refusal(number, place),
     }
 }

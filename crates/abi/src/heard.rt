@@ -21,11 +21,13 @@ fn place_in(input: u64, at: usize) -> Place
         2 => Place::List(at),
         3 => Place::Entry(at),
         4 => Place::Blocks(at),
-        _ => Place::Buffer(at),
+        5 => Place::Buffer(at),
+        6 => Place::Contract(at),
+        _ => Place::Table(at),
     }
 }
 
-// A number that a byte holds, in one of the five inputs.
+// A number that a byte holds, in one of the seven inputs.
 fn refusal(a: PolluxAnswer) -> Judgement
     ensures { λ r. ⌜ r ≡ spec.refusalIn a ⌝ }
 {
@@ -35,7 +37,7 @@ fn refusal(a: PolluxAnswer) -> Judgement
     if a.input < 1 {
         return no_answer();
     }
-    if 5 < a.input {
+    if 7 < a.input {
         return no_answer();
     }
     Judgement::Refused(a.number as u8, place_in(a.input, a.value as usize))

@@ -1,8 +1,8 @@
 // The calls for C: include/pollux.h says the same in its words.
 //
-// Each takes every input as a pointer and a length, and answers four numbers by value, `explain` eight, `summarize` seven and `recheck` five,
-// which stand for a result that keeps the promise of the call of `valve` below it (specs/Told); `translate`, `print` and `fix_octal` also
-// promise what each byte of the buffer holds afterwards.
+// Each takes every input as a pointer and a length, the length of a table counting its numbers, and answers four numbers by value, `explain` eight, `summarize` seven and `recheck` five,
+// which stand for a result that keeps the promise of the call of `valve` below it (specs/Told); `translate`, `print`, `fix_octal` and
+// `pact` also promise what each byte of the buffer holds afterwards.
 mod answer;
 mod heard;
 mod reason;
@@ -10,7 +10,7 @@ mod recheck;
 mod summary;
 mod told;
 
-ghost use Rattle.abi.specs.Told.{ReadTold, CheckTold, JudgeTold, TranslateTold, LoadTold, RunTold, PrintTold, FixTold, ExplainTold, SummarizeTold, RecheckTold};
+ghost use Rattle.abi.specs.Told.{ReadTold, CheckTold, JudgeTold, TranslateTold, LoadTold, RunTold, PrintTold, FixTold, DraftTold, ExplainTold, SummarizeTold, RecheckTold};
 use crate::answer::PolluxAnswer;
 use crate::reason::PolluxReason;
 use crate::recheck::PolluxRechecked;
@@ -78,6 +78,19 @@ pub extern "C" fn pollux_fix_octal(text: &[u8], buffer: &mut [u8]) -> PolluxAnsw
     ensures { λ r. ⌜ FixTold (now (text .entry)) (now (buffer .entry)) (now (buffer .exit)) r ⌝ }
 {
     answer::of_fixing(valve::fix_octal(text, buffer))
+}
+
+// How many bytes the text of a contract has, which stands in the buffer.
+#[no_mangle]
+pub extern "C" fn pollux_pact(
+    contract: &[u8],
+    table: &[u64],
+    names: &[u8],
+    buffer: &mut [u8],
+) -> PolluxAnswer
+    ensures { λ r. ⌜ DraftTold (now (contract .entry)) (now (table .entry)) (now (names .entry)) (now (buffer .entry)) (now (buffer .exit)) r ⌝ }
+{
+    answer::of_drafting(valve::pact(contract, table, names, buffer))
 }
 
 // What broke: the part that is false or the key whose record is bad, where it stands in the text or the list, and the judgement. A caller makes

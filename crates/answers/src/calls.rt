@@ -6,6 +6,7 @@ ghost use Rattle.answers.specs.Calls.{afterCall, written};
 use crate::adler;
 use crate::changes;
 use crate::framing;
+use crate::tables;
 use paper::Explanation;
 use paper::Summarizing;
 
@@ -32,8 +33,10 @@ const RECHECK: u8 = 10;
 
 const FIX_OCTAL: u8 = 11;
 
+const PACT: u8 = 12;
+
 // The sum of some bytes, after what a call answered.
-fn say_sum(bytes: &[u8]) {
+pub(crate) fn say_sum(bytes: &[u8]) {
     lines::say(b" ");
     lines::say_number(adler::adler_of(bytes));
 }
@@ -104,6 +107,7 @@ fn writing_call(call: u8, first: &[u8], second: &[u8], buffer: &mut [u8])
         TRANSLATE => translate(first, second, buffer),
         PRINT => print(first, buffer),
         FIX_OCTAL => fix_octal(first, buffer),
+        PACT => tables::pact(first, second, buffer),
         _ => reading_call(call, first, second, buffer),
     }
 }

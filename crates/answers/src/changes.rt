@@ -24,7 +24,8 @@ fn earlier_answer(byte: u8) -> Judgement
     }
 }
 
-fn malformed() {
+// Says that an input is shorter than what it is made of.
+pub(crate) fn malformed() {
     lines::say(b"malformed")
 }
 

@@ -32,7 +32,7 @@ pub(crate) fn too_long() -> bool
     true
 }
 
-fn wide(x: u8) -> usize
+pub(crate) fn wide(x: u8) -> usize
     ensures { λ r. ⌜ (r ≡ x) × (r < 256) ⌝ }
 {
     x as usize

@@ -10,15 +10,18 @@ use crate::names::JUDGE;
 use crate::names::LIST;
 use crate::names::LOAD;
 use crate::names::OLD;
+use crate::names::PACT;
 use crate::names::PRINT;
 use crate::names::READ;
 use crate::names::RECHECK;
 use crate::names::SUMMARIZE;
+use crate::names::TABLE;
 use crate::names::TEXT;
 use crate::names::TRANSLATE;
 use crate::scan::not_understood;
 use crate::scan::part;
 use blocks::Block;
+use paper::Drafting;
 use paper::Explanation;
 use paper::Fixing;
 use paper::Judgement;
@@ -47,7 +50,7 @@ fn say_translation(call: usize, translation: Translation) {
     }
 }
 
-// The longest print, fixed text, or piece of an input, that is shown.
+// The longest print, fixed text, text of a contract, or piece of an input, that is shown.
 const SHOWN: usize = 100;
 
 fn show(bytes: &[u8]) {
@@ -69,6 +72,23 @@ fn say_fixing(fixing: Fixing, room: &[u8]) {
     if let Fixing::Fixed(n) = fixing {
         show(lines::start(room, n))
     }
+}
+
+fn say_drafting(drafting: Drafting, room: &[u8]) {
+    lines::say_drafting(drafting);
+    if let Drafting::Drafted(n) = drafting {
+        show(lines::start(room, n))
+    }
+}
+
+// The text of a contract, with the table that is given in bytes.
+fn draft(contract: &[u8], table: &[u8], names: &[u8], room: &mut [u8]) {
+    let n = lines::kept(table.len() / lines::NUMBER);
+    let numbers = lines::numbers(table, 0, n);
+    say_drafting(
+        valve::pact(contract, lines::first(&numbers, n), names, room),
+        room,
+    )
 }
 
 // What broke for an entry, in numbers, and the piece itself as `explain` hands it back.
@@ -135,9 +155,21 @@ fn answer(call: usize, text: &[u8], list: &[u8], entry: &[u8], room: &[u8]) {
     }
 }
 
-// The text, or the instructions of `code`.
+// The text, or the instructions of `code`, or the contract of `pact`.
 fn first_input(call: usize) -> usize {
-    if call == CODE { CODE } else { TEXT }
+    match call {
+        CODE => CODE,
+        PACT => PACT,
+        _ => TEXT,
+    }
+}
+
+// A contract, with the names and the table that are given.
+pub(crate) fn pact(contract: &[u8], file: &[u8], at: usize, room: &mut [u8]) {
+    let mut all = io::large_buffer();
+    let l = put_input(file, at, LIST, &mut all, 0);
+    let t = put_input(file, at, TABLE, &mut all, l);
+    draft(contract, part(&all, l, t), part(&all, 0, l), room)
 }
 
 // Makes the call of the line at an offset, on the inputs that are given there.
@@ -148,6 +180,9 @@ pub(crate) fn make(call: usize, file: &[u8], at: usize, room: &mut [u8]) {
     let e = put_input(file, at, ENTRY, &mut all, l);
     let text = part(&all, 0, t);
     let list = part(&all, t, l);
+    if call == PACT {
+        return pact(text, file, at, room);
+    }
     if call <= FIX_OCTAL {
         return write(call, text, list, room);
     }

@@ -6,6 +6,7 @@ use crate::inputs::last;
 use crate::names::BLOCKS;
 use crate::names::CHANGE;
 use crate::names::CODE;
+use crate::names::EVERY;
 use crate::names::ROOM;
 use crate::names::RUN;
 use crate::names::SHOW;
@@ -35,6 +36,29 @@ fn change(rest: &[u8], room: &mut [u8]) {
 fn show(rest: &[u8], room: &[u8]) {
     lines::say(lines::start(room, number(rest, 0)));
     lines::say(b"\n")
+}
+
+fn put_byte(room: &mut [u8], at: usize, byte: u8) {
+    if at < room.len() {
+        room[at] = byte
+    }
+}
+
+// Makes the call of a contract for each of the 256 bytes that may stand at an offset of it: the offset, and words.
+fn every(file: &[u8], at: usize, room: &mut [u8])
+    requires { ⌜ at ≤ length (now file) ⌝ }
+{
+    let mut contract = io::large_buffer();
+    let rest = rest_of(file, at);
+    let place = number(rest, 0);
+    let end = put_words(rest, scan(rest, 0, b' '), &mut contract, 0);
+    for byte in 0..=255u8 {
+        put_byte(&mut contract, place, byte);
+        lines::say_hex(byte);
+        lines::say(b": ");
+        calls::pact(lines::start(&contract, end), file, at, room);
+        lines::say(b"\n")
+    }
 }
 
 fn case(command: usize, file: &[u8], at: usize, room: &mut [u8])
@@ -67,6 +91,7 @@ fn act(command: usize, file: &[u8], at: usize, room: &mut [u8])
         TITLE => title(rest_of(file, at)),
         CHANGE => change(rest_of(file, at), room),
         SHOW => show(rest_of(file, at), room),
+        EVERY => every(file, at, room),
         CODE..=BLOCKS => calls::make(command, file, at, room),
         TRANSLATE..=RUN => case(command, file, at, room),
         _ => unknown(file, at),

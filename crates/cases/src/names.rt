@@ -1,4 +1,4 @@
-// The commands, by the places of their names in a list: the first six give what calls are lent, and the last eleven print an answer.
+// The commands, by the places of their names in a list: the first seven give what calls are lent, and the last twelve print an answer.
 ghost use Prim.Native.Nat.{_≤_};
 ghost use mathlib.Core.Path.{_≡_};
 ghost use lib.ListN.{length};
@@ -17,39 +17,45 @@ pub const OLD: usize = 3;
 
 pub const EARLIER: usize = 4;
 
-pub const ROOM: usize = 5;
+pub const TABLE: usize = 5;
 
-pub const TITLE: usize = 6;
+pub const ROOM: usize = 6;
 
-pub const CHANGE: usize = 7;
+pub const TITLE: usize = 7;
 
-pub const SHOW: usize = 8;
+pub const CHANGE: usize = 8;
 
-pub const CODE: usize = 9;
+pub const SHOW: usize = 9;
 
-pub const BLOCKS: usize = 10;
+pub const EVERY: usize = 10;
 
-pub const TRANSLATE: usize = 11;
+pub const CODE: usize = 11;
 
-pub const PRINT: usize = 12;
+pub const BLOCKS: usize = 12;
 
-pub const FIX_OCTAL: usize = 13;
+pub const TRANSLATE: usize = 13;
 
-pub const READ: usize = 14;
+pub const PRINT: usize = 14;
 
-pub const CHECK: usize = 15;
+pub const FIX_OCTAL: usize = 15;
 
-pub const JUDGE: usize = 16;
+pub const PACT: usize = 16;
 
-pub const EXPLAIN: usize = 17;
+pub const READ: usize = 17;
 
-pub const SUMMARIZE: usize = 18;
+pub const CHECK: usize = 18;
 
-pub const RECHECK: usize = 19;
+pub const JUDGE: usize = 19;
 
-pub const LOAD: usize = 20;
+pub const EXPLAIN: usize = 20;
 
-pub const RUN: usize = 21;
+pub const SUMMARIZE: usize = 21;
+
+pub const RECHECK: usize = 22;
+
+pub const LOAD: usize = 23;
+
+pub const RUN: usize = 24;
 
 // Which of some words a word is, counted from 0; their count for none of them.
 fn place_in(words: &[u8], word: &[u8]) -> usize
@@ -74,7 +80,7 @@ pub(crate) fn command_at(file: &[u8], at: usize) -> usize
     ensures { λ r. ⌜ r ≡ commandAt (now (file .entry)) at ⌝ }
 {
     place_in(
-        b"text list entry old earlier room title change show code blocks translate print fix_octal read check judge explain summarize recheck load run",
+        b"text list entry old earlier table room title change show every code blocks translate print fix_octal pact read check judge explain summarize recheck load run",
         part(file, at, scan(file, at, b':')),
     )
 }

@@ -1,16 +1,19 @@
 // What the calls answer, in the words of a line on standard output: `read N`, `passed`, `accepted`, `violated`, `translated N`,
-// `loaded N`, `printed N`, `fixed N`, or `refused NUMBER INPUT OFFSET` with INPUT one of text, list, entry, blocks, buffer. A run tells
-// its steps too, `accepted STEPS` or `violated STEPS`. What broke for an entry is `part NUMBER at OFFSET START LENGTH`,
+// `loaded N`, `printed N`, `fixed N`, `drafted N`, or `refused NUMBER INPUT OFFSET` with INPUT one of text, list, entry, blocks, buffer,
+// contract, table. A run tells its steps too, `accepted STEPS` or `violated STEPS`. What broke for an entry is `part NUMBER at OFFSET START LENGTH`,
 // `key at OFFSET START LENGTH`, or `nothing ` and what was judged. What a text names is `summary BITS MARK`, and a recheck `reused ` or
 // `judged ` and what was judged. The programs share these words.
 //
 // These only write, and a line's end is written by the caller. `start` is for programs that fill a room and use as much of it as they
-// filled.
+// filled, and `numbers` for those that are given a table in bytes.
+mod tables;
+
 ghost use mathlib.Core.Path.{_≡_};
-ghost use Prim.Native.Nat.{_-_};
+ghost use Prim.Native.Nat.{_-_, _<_};
 ghost use lib.ListN.{take};
 use libc::STDOUT_FILENO;
 use paper::Checking;
+use paper::Drafting;
 use paper::Explanation;
 use paper::Fixing;
 use paper::Judgement;
@@ -22,6 +25,11 @@ use paper::Rechecking;
 use paper::Running;
 use paper::Summarizing;
 use paper::Translation;
+pub use tables::KEPT;
+pub use tables::NUMBER;
+pub use tables::first;
+pub use tables::kept;
+pub use tables::numbers;
 
 // Writes bytes as they are.
 pub fn say(s: &[u8]) {
@@ -31,6 +39,18 @@ pub fn say(s: &[u8]) {
 // Writes a number in decimal.
 pub fn say_number(n: u64) {
     io::print_decimal(STDOUT_FILENO, n);
+}
+
+fn hex_digit(n: u8) -> u8
+    requires { ⌜ n < 16 ⌝ }
+{
+    if n < 10 { b'0' + n } else { b'a' + (n - 10) }
+}
+
+// Writes a byte as two hexadecimal digits.
+pub fn say_hex(byte: u8) {
+    let digits = [hex_digit(byte / 16), hex_digit(byte % 16)];
+    say(&digits)
 }
 
 fn say_count(what: &[u8], n: usize) {
@@ -47,6 +67,8 @@ fn say_refused(number: u8, place: Place) {
         Place::Entry(at) => say_count(b" entry ", at),
         Place::Blocks(at) => say_count(b" blocks ", at),
         Place::Buffer(at) => say_count(b" buffer ", at),
+        Place::Contract(at) => say_count(b" contract ", at),
+        Place::Table(at) => say_count(b" table ", at),
     }
 }
 
@@ -113,6 +135,14 @@ pub fn say_fixing(fixing: Fixing) {
     match fixing {
         Fixing::Fixed(n) => say_count(b"fixed ", n),
         Fixing::Refused(number, place) => say_refused(number, place),
+    }
+}
+
+// Writes what `pact` answered.
+pub fn say_drafting(drafting: Drafting) {
+    match drafting {
+        Drafting::Drafted(n) => say_count(b"drafted ", n),
+        Drafting::Refused(number, place) => say_refused(number, place),
     }
 }
 

@@ -1,7 +1,7 @@
-// Polluxvalve for people: checks, prints, rids of octal, sums up, translates, loads, judges, explains, rechecks and runs what stands in
+// Polluxvalve for people: checks, prints, rids of octal, takes in contracts, sums up, translates, loads, judges, explains, rechecks and runs what stands in
 // files, and tells the answer in words.
 //
-// Each answer is a line on standard output whose first word is passed, translated, loaded, printed, fixed, named, accepted, violated,
+// Each answer is a line on standard output whose first word is passed, translated, loaded, printed, fixed, drafted, named, accepted, violated,
 // refused, cannot or usage; the script `pollux` at the root makes an exit status of it. A refusal of a text is followed by the line and a caret under
 // the place, what broke for an entry by the line and carets under the part, or by the key's name. A run tells how many steps each entry took.
 // Files may have any length: a place that is a length is the file's true length, and entries stream through one buffer. No output file is
@@ -10,16 +10,19 @@ mod bits;
 mod broken;
 mod calls;
 mod caret;
+mod contracts;
 mod entries;
 mod files;
 mod named;
 mod octal;
+mod pacts;
 mod ran;
 mod reasons;
 mod rechecks;
 mod refusals;
 mod say;
 mod sizes;
+mod tables;
 mod tally;
 mod writing;
 
@@ -27,6 +30,7 @@ use calls::Call;
 use calls::answer;
 use calls::fix_octal;
 use calls::print;
+use pacts::pact;
 use spelling::bytes::same_bytes;
 
 fn usage() {
@@ -34,6 +38,7 @@ fn usage() {
         b"usage: pollux check TEXT KEYS
        pollux print TEXT
        pollux fix-octal TEXT OUT
+       pollux pact CONTRACT TABLE KEYS OUT
        pollux translate TEXT KEYS OUT
        pollux load KEYS BLOCKS
        pollux judge TEXT KEYS ENTRIES
@@ -88,6 +93,8 @@ fn with_three(call: &[u8]) {
 fn with_four(call: &[u8]) {
     if same_bytes(call, b"recheck") {
         answer(Call::Recheck)
+    } else if same_bytes(call, b"pact") {
+        pact()
     } else {
         usage()
     }

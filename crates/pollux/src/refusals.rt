@@ -19,6 +19,8 @@ fn offset(place: Place) -> usize {
         Place::Entry(at) => at,
         Place::Blocks(at) => at,
         Place::Buffer(at) => at,
+        Place::Contract(at) => at,
+        Place::Table(at) => at,
     }
 }
 

@@ -33,6 +33,18 @@ enum-known-place-5 c = search needs
 refused-in-requires-5 : tie.Need-refused-in-requires-5
 refused-in-requires-5 c κs = search needs
 
+enum-known-place-6 : tie.Need-enum-known-place-6
+enum-known-place-6 c = search needs
+
+refused-in-requires-6 : tie.Need-refused-in-requires-6
+refused-in-requires-6 c κs = search needs
+
+enum-known-place-7 : tie.Need-enum-known-place-7
+enum-known-place-7 c = search needs
+
+refused-in-requires-7 : tie.Need-refused-in-requires-7
+refused-in-requires-7 c κs = search needs
+
 returns : tie.Need-returns
 returns c = rw (c .before .before .place .given .1) (c .refused-in .ensures)
 
@@ -48,6 +60,12 @@ returns-4 c = rw (c .before .before .place4 .given .1) (c .refused-in4 .ensures)
 returns-5 : tie.Need-returns-5
 returns-5 c = rw (c .before .before .place5 .given .1) (c .refused-in5 .ensures)
 
+returns-6 : tie.Need-returns-6
+returns-6 c = rw (c .before .before .place6 .given .1) (c .refused-in6 .ensures)
+
+returns-7 : tie.Need-returns-7
+returns-7 c = rw (c .before .before .place7 .given .1) (c .refused-in7 .ensures)
+
 pub refusal-spec : {M : Type 1} → statement M
 refusal-spec =
     tie.close
@@ -62,8 +80,14 @@ refusal-spec =
     refused-in-requires-4
     enum-known-place-5
     refused-in-requires-5
+    enum-known-place-6
+    refused-in-requires-6
+    enum-known-place-7
+    refused-in-requires-7
     returns
     returns-2
     returns-3
     returns-4
-    returns-5)
+    returns-5
+    returns-6
+    returns-7)

@@ -1,4 +1,4 @@
--- A number that no byte holds, or an input that is none of the five, tells no refusal.
+-- A number that no byte holds, or an input that is none of the seven, tells no refusal.
 use native.Mathlib.Omega.{arith}
 use borrow.Author.Needs.{needs}
 use borrow.Author.Tests.{le-leb, lt-leb}
@@ -13,17 +13,17 @@ nowhere c =
     let at-input = c .before in
     rw (le-leb _ 255 (at-input .before .before .if1 .left), lt-leb 1 _ (at-input .if2 .taken)) (c .no-answer2 .ensures)
 
-past-five : tie.Need-returns-3
-past-five c =
+past-seven : tie.Need-returns-3
+past-seven c =
     let at-last = c .before in
     let at-input = at-last .before .before in
-    rw (le-leb _ 255 (at-input .before .before .if1 .left), le-leb 1 _ (at-input .if2 .left), lt-leb _ 5 (at-last .if3 .taken)) (c .no-answer3 .ensures)
+    rw (le-leb _ 255 (at-input .before .before .if1 .left), le-leb 1 _ (at-input .if2 .left), lt-leb _ 7 (at-last .if3 .taken)) (c .no-answer3 .ensures)
 
 in-place : tie.Need-returns-4
 in-place c =
     let at-last = c .before .before in
     let at-input = at-last .before .before in
-    rw (le-leb _ 255 (at-input .before .before .if1 .left), le-leb 1 _ (at-input .if2 .left), le-leb _ 5 (at-last .if3 .left), c .place-in .ensures)
+    rw (le-leb _ 255 (at-input .before .before .if1 .left), le-leb 1 _ (at-input .if2 .left), le-leb _ 7 (at-last .if3 .left), c .place-in .ensures)
 
 pub refusal-spec : {M : Type 1} → statement M
 refusal-spec =
@@ -34,7 +34,7 @@ refusal-spec =
     (λ c κs. search needs)
     nowhere
     (λ c κs. search needs)
-    past-five
+    past-seven
     (λ c. search needs)
     (λ c κs. search needs)
     in-place)

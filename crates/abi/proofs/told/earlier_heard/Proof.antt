@@ -26,34 +26,38 @@ as-told (J.Refused n (P.List at)) h = rw (le-leb n 255 h)
 as-told (J.Refused n (P.Entry at)) h = rw (le-leb n 255 h)
 as-told (J.Refused n (P.Blocks at)) h = rw (le-leb n 255 h)
 as-told (J.Refused n (P.Buffer at)) h = rw (le-leb n 255 h)
+as-told (J.Refused n (P.Contract at)) h = rw (le-leb n 255 h)
+as-told (J.Refused n (P.Table at)) h = rw (le-leb n 255 h)
 
 -- four numbers are an answer
 abbrev four : ℕ → ℕ → ℕ → ℕ → PolluxAnswer
 four says number input value = record { says = says; number = number; input = input; value = value }
 
--- the place of a number from 1 to 5 and an offset is told by these
-place-told : (n i at : ℕ) → 1 ≤ i → i ≤ 5 → four 0 n i at ≡ judged (judgementSays (J.Refused n (placeIn i at)))
+-- the place of a number from 1 to 7 and an offset is told by these
+place-told : (n i at : ℕ) → 1 ≤ i → i ≤ 7 → four 0 n i at ≡ judged (judgementSays (J.Refused n (placeIn i at)))
 place-told n zero at low high = absurd (omega (arith, low))
 place-told n (suc zero) at low high = refl
 place-told n (suc (suc zero)) at low high = refl
 place-told n (suc (suc (suc zero))) at low high = refl
 place-told n (suc (suc (suc (suc zero)))) at low high = refl
 place-told n (suc (suc (suc (suc (suc zero))))) at low high = refl
-place-told n (suc (suc (suc (suc (suc (suc i)))))) at low high = absurd (omega (arith, high))
+place-told n (suc (suc (suc (suc (suc (suc zero)))))) at low high = refl
+place-told n (suc (suc (suc (suc (suc (suc (suc zero))))))) at low high = refl
+place-told n (suc (suc (suc (suc (suc (suc (suc (suc i)))))))) at low high = absurd (omega (arith, high))
 
 -- numbers that tell no judgement
 module _ (p : PolluxAnswer) (none-told : (j : Judgement) → Numbered j → p ≢ judged (judgementSays j)) where
   no-refusal : p .says ≡ 0 → refusalIn p ≡ noAnswer
-  no-refusal e = go (leb (p .number) 255 && leb 1 (p .input) && leb (p .input) 5) refl
+  no-refusal e = go (leb (p .number) 255 && leb 1 (p .input) && leb (p .input) 7) refl
     where
-      go : (b : Bool) → leb (p .number) 255 && leb 1 (p .input) && leb (p .input) 5 ≡ b → cond b (J.Refused (p .number) (placeIn (p .input) (p .value))) noAnswer ≡ noAnswer
+      go : (b : Bool) → leb (p .number) 255 && leb 1 (p .input) && leb (p .input) 7 ≡ b → cond b (J.Refused (p .number) (placeIn (p .input) (p .value))) noAnswer ≡ noAnswer
       go false h = refl
       go true h =
-          let (ab, c) = and-eq-true-iff (leb (p .number) 255 && leb 1 (p .input)) (leb (p .input) 5) .0 h in
+          let (ab, c) = and-eq-true-iff (leb (p .number) 255 && leb 1 (p .input)) (leb (p .input) 7) .0 h in
           let (a, b) = and-eq-true-iff (leb (p .number) 255) (leb 1 (p .input)) .0 ab in
           let is : p ≡ four 0 (p .number) (p .input) (p .value) = ap (λ (says : ℕ). four says (p .number) (p .input) (p .value)) e in
           absurd (none-told (J.Refused (p .number) (placeIn (p .input) (p .value))) (leb-true (p .number) 255 a)
-          (is ∙ place-told (p .number) (p .input) (p .value) (leb-true 1 (p .input) b) (leb-true (p .input) 5 c)))
+          (is ∙ place-told (p .number) (p .input) (p .value) (leb-true 1 (p .input) b) (leb-true (p .input) 7 c)))
 
   -- a verdict with nothing beside it
   only : (says : ℕ) → p .says ≡ says → plain p ≡ true → p ≡ four says 0 0 0

@@ -7,7 +7,7 @@ use mathlib.Core.Bool.{Bool, true, false}
 use mathlib.Core.List.{List}
 use lib.Dec.{eqb}
 use borrow.Author.Tests.{ne-eqb}
-use Rattle.paper.specs.Answers.{Answer, ok, refused, Input, inText, inList, inEntry, inBlocks, inBuffer, Ran, judgementSays}
+use Rattle.paper.specs.Answers.{Answer, ok, refused, Input, inText, inList, inEntry, inBlocks, inBuffer, inContract, inTable, Ran, judgementSays}
 use Rattle.paper.specs.declared.Explanation.{Explanation}
 use Rattle.paper.specs.declared.Explanation.the-variants as X
 use Rattle.paper.specs.Parts.{Stretch}
@@ -31,6 +31,8 @@ refusal-heard means n inList at = refl
 refusal-heard means n inEntry at = refl
 refusal-heard means n inBlocks at = refl
 refusal-heard means n inBuffer at = refl
+refusal-heard means n inContract at = refl
+refusal-heard means n inTable at = refl
 
 -- and so is every answer, where what is said of a good one is
 all-heard : {A : Type 0} (means : PolluxAnswer → A) (say : A → PolluxAnswer) → ((a : A) → heard means (say a) ≡ ok a)

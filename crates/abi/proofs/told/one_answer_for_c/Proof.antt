@@ -7,7 +7,8 @@ use Rattle.paper.specs.Explained.{explanationSays}
 use Rattle.paper.specs.Named.{summarizingSays}
 use Rattle.paper.specs.Rechecking.{recheckingSays}
 use Rattle.paper.specs.Fixing.{fixingSays}
-use Rattle.paper.specs.Promised.{TranslateResult, TranslatePromised, PrintResult, PrintPromised, FixResult, FixPromised, Sole}
+use Rattle.paper.specs.Drafting.{draftingSays}
+use Rattle.paper.specs.Promised.{TranslateResult, TranslatePromised, PrintResult, PrintPromised, FixResult, FixPromised, DraftResult, DraftPromised, Sole}
 use Rattle.paper.proofs.Promised.{no-second-result}
 use Rattle.abi.specs.declared.answer.PolluxAnswer.{PolluxAnswer}
 use Rattle.abi.specs.Heard.{heardAs}
@@ -54,6 +55,9 @@ one-answer =
       fix = λ text buffer.
           told-with-buffer (λ r s. record { answer = r; buffer = s }) (λ (r : FixResult). r .answer) (λ (r : FixResult). r .buffer) (λ r s. refl) (λ r s. refl)
           (FixPromised text buffer) (λ r. counted (fixingSays r)) (one .fix text buffer);
+      draft = λ contract table list buffer.
+          told-with-buffer (λ r s. record { answer = r; buffer = s }) (λ (r : DraftResult). r .answer) (λ (r : DraftResult). r .buffer) (λ r s. refl) (λ r s. refl)
+          (DraftPromised contract table list buffer) (λ r. counted (draftingSays r)) (one .draft contract table list buffer);
       explain = λ text list entry. told-once _ (λ r. reasoned (explanationSays r)) (one .explain text list entry);
       summarize = λ text list. told-once _ (λ r. summarized (summarizingSays r)) (one .summarize text list);
       recheck = λ text list old earlier new. told-once _ (λ r. rechecked (recheckingSays r)) (one .recheck text list old (heardAs earlier) new);

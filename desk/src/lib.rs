@@ -11,3 +11,4 @@ pub mod pack;
 pub mod reference;
 pub mod requests;
 pub mod show;
+pub mod tables;

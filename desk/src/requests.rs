@@ -1,18 +1,20 @@
 //! Requests and answer lines of the program `answers`.
 //!
 //! A request is one byte for the call (1 read, 2 check, 3 judge, 4 translate,
-//! 5 load, 6 run, 7 print, 8 explain, 9 summarize, 10 recheck, 11 fix_octal) and
-//! three inputs, each a 4-byte big-endian length and its bytes. Each request gets one
-//! line. The line of a run ends in the steps that it took. For a call that is lent a
+//! 5 load, 6 run, 7 print, 8 explain, 9 summarize, 10 recheck, 11 fix_octal, 12 pact)
+//! and three inputs, each a 4-byte big-endian length and its bytes. Each request gets
+//! one line. The line of a run ends in the steps that it took. For a call that is lent a
 //! buffer, the third input is what the buffer holds before, and the line ends in the
 //! sum of what it holds after. The line of an explanation ends in the sum of the piece
 //! that it shows. The third input of a recheck is a change, the earlier answer with
-//! both entries; one that is too short for that is `malformed`.
+//! both entries, and that of a pact is a table of numbers with a buffer; one that is
+//! too short for that is `malformed`.
 
 use std::io::{self, Read, Write};
 
 use crate::changes::Change;
 use crate::reference::{self, Explanation, Input};
+use crate::tables::TableAndBuffer;
 
 pub const LONGEST_INPUT: usize = 65_536;
 
@@ -30,6 +32,7 @@ pub enum Call {
     Summarize,
     Recheck,
     FixOctal,
+    Pact,
 }
 
 /// What an input is to a call.
@@ -38,10 +41,12 @@ pub enum Lent {
     One(Input),
     /// The earlier answer, the old entry and the new one in one.
     Change,
+    /// The number table and the buffer in one.
+    TableAndBuffer,
 }
 
 impl Call {
-    pub const ALL: [Call; 11] = [
+    pub const ALL: [Call; 12] = [
         Call::Read,
         Call::Check,
         Call::Judge,
@@ -53,6 +58,7 @@ impl Call {
         Call::Summarize,
         Call::Recheck,
         Call::FixOctal,
+        Call::Pact,
     ];
 
     pub fn from_byte(byte: u8) -> Option<Call> {
@@ -76,6 +82,7 @@ impl Call {
             Call::Summarize => "summarize",
             Call::Recheck => "recheck",
             Call::FixOctal => "fix_octal",
+            Call::Pact => "pact",
         }
     }
 
@@ -92,6 +99,7 @@ impl Call {
             Call::Run => [one(List), one(Blocks), one(Entry)],
             Call::Print | Call::FixOctal => [one(Text), None, one(Buffer)],
             Call::Recheck => [one(Text), one(List), Some(Lent::Change)],
+            Call::Pact => [one(Contract), one(List), Some(Lent::TableAndBuffer)],
         }
     }
 }
@@ -152,6 +160,7 @@ impl Request {
             Call::Summarize => reference::summarize(first, second),
             Call::Recheck => return recheck_line(first, second, third),
             Call::FixOctal => reference::fix_octal(first, &mut buffer),
+            Call::Pact => return pact_line(first, second, third),
         };
         if self.input(Input::Buffer).is_some() {
             format!("{answer} {}", adler32(&buffer))
@@ -175,6 +184,12 @@ impl Request {
         let index = self.lent(Lent::Change)?;
         Some((index, Change::from_bytes(&self.inputs[index])?))
     }
+
+    /// The index of the input that is a table with a buffer, and both, if it is whole.
+    pub fn table_and_buffer(&self) -> Option<(usize, TableAndBuffer)> {
+        let index = self.lent(Lent::TableAndBuffer)?;
+        Some((index, TableAndBuffer::from_bytes(&self.inputs[index])?))
+    }
 }
 
 fn explanation_line(explanation: Explanation) -> String {
@@ -190,6 +205,14 @@ fn recheck_line(text: &[u8], list: &[u8], third: &[u8]) -> String {
     };
     let earlier = change.earlier_answer();
     reference::recheck(text, list, &change.old, earlier, &change.new).to_string()
+}
+
+fn pact_line(contract: &[u8], names: &[u8], third: &[u8]) -> String {
+    let Some(TableAndBuffer { table, mut buffer }) = TableAndBuffer::from_bytes(third) else {
+        return "malformed".to_string();
+    };
+    let answer = reference::pact(contract, &table, names, &mut buffer);
+    format!("{answer} {}", adler32(&buffer))
 }
 
 /// Reads the next request.

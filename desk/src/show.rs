@@ -6,8 +6,10 @@ use crate::reference::blocks::{check_bytes, BLOCK, INSTRUCTIONS_IN_BLOCK};
 use crate::reference::code::{Instruction, Parts};
 use crate::reference::entries::{Entry, Record};
 use crate::reference::keys::{key_list, Key};
+use crate::reference::pact::{Assertion, Comparator, Conjunction, Opcode};
 use crate::reference::Input;
 use crate::requests::{Call, Lent, Request};
+use crate::tables::TableAndBuffer;
 
 /// The request in lines.
 pub fn request(request: &Request) -> String {
@@ -19,6 +21,7 @@ pub fn request(request: &Request) -> String {
         lines.push_str(&match input {
             Some(Lent::One(input)) => one(input, bytes, list_of(request)),
             Some(Lent::Change) => change(bytes, list_of(request)),
+            Some(Lent::TableAndBuffer) => table_and_buffer(bytes),
             None => passed_over(bytes),
         });
     }
@@ -32,6 +35,8 @@ fn one(input: Input, bytes: &[u8], keys: &[u8]) -> String {
         Input::Entry => entry("entry", bytes, keys),
         Input::Blocks => blocks(bytes),
         Input::Buffer => start_of("buffer", bytes),
+        Input::Contract => contract(bytes),
+        Input::Table => start_of("table", bytes),
     }
 }
 
@@ -44,6 +49,58 @@ fn change(bytes: &[u8], list: &[u8]) -> String {
     let old = entry("old entry", &change.old, list);
     let new = entry("new entry", &change.new, list);
     [earlier, old, new].concat()
+}
+
+fn table_and_buffer(bytes: &[u8]) -> String {
+    let Some(TableAndBuffer { table, buffer }) = TableAndBuffer::from_bytes(bytes) else {
+        return start_of("no table", bytes);
+    };
+    let numbers: Vec<String> = table.iter().map(u64::to_string).collect();
+    let table = format!("  table, {} numbers: {}\n", table.len(), numbers.join(" "));
+    [table, start_of("buffer", &buffer)].concat()
+}
+
+/// A line for each opcode with what belongs to it, as far as the opcodes are good.
+fn contract(contract: &[u8]) -> String {
+    let mut lines = format!("  contract, {} bytes:\n", contract.len());
+    let mut place = 0;
+    while place < contract.len() {
+        let rest = &contract[place..];
+        let (length, words) = match Opcode::from_byte(rest[0]) {
+            Some(Opcode::Comparator(comparator)) if rest.len() > 1 => {
+                (2, assertion(Assertion::new(comparator, rest[1])))
+            }
+            Some(Opcode::Comparator(_)) => (1, "cut after its opcode".to_string()),
+            Some(Opcode::Conjunction(conjunction)) => (1, conjoined(conjunction)),
+            None => (rest.len(), "from here no opcode".to_string()),
+        };
+        lines.push_str(&format!("    {} {words}\n", hex(&rest[..length])));
+        place += length;
+    }
+    lines
+}
+
+fn assertion(assertion: Assertion) -> String {
+    let Comparator {
+        inverted,
+        load,
+        relation,
+    } = assertion.comparator;
+    let (left, right) = (assertion.left, assertion.right);
+    let compared = format!("Input({left}) {relation:?} {load:?}({right})");
+    negated(inverted, compared)
+}
+
+fn conjoined(conjunction: Conjunction) -> String {
+    negated(conjunction.inverted, format!("{:?}", conjunction.linking))
+}
+
+fn negated(inverted: bool, words: String) -> String {
+    if inverted {
+        format!("Not {words}")
+    } else {
+        words
+    }
 }
 
 /// The key list of a request; empty if it has none.

@@ -6,7 +6,10 @@ use std::fs;
 use std::path::{Path, PathBuf};
 
 use common::*;
-use desk::reference::{check, judge, recheck, run, Answer, Rechecked};
+use desk::reference::contracts::clauses;
+use desk::reference::entries::Entry;
+use desk::reference::keys::key_list;
+use desk::reference::{check, judge, pact, recheck, run, Answer, Rechecked};
 
 struct Example {
     text: String,
@@ -88,6 +91,46 @@ fn acl() {
 #[test]
 fn uplink() {
     answers_as_expected("uplink");
+}
+
+#[test]
+fn terms() {
+    answers_as_expected("terms");
+}
+
+/// The text of `terms/` is that of its contract, and each entry gets the answer that the
+/// contract itself gives its inputs.
+#[test]
+fn terms_of_a_contract() {
+    let Example {
+        text,
+        list,
+        entries,
+        ..
+    } = example("terms");
+    let contract = fs::read(folder("terms").join("contract")).expect("a contract");
+    let table: Vec<u64> = contents("terms", "table.txt")
+        .lines()
+        .map(|line| line.parse().expect("a number"))
+        .collect();
+    assert_eq!(drafting(&contract, &table, &list), text);
+    let keys = key_list(&list).expect("good keys");
+    let clauses = clauses(&contract, keys.len(), table.len()).expect("a good contract");
+    let mut conforming = 0;
+    for entry in &entries {
+        if let Ok(read) = Entry::from_bytes(entry, &keys) {
+            let inputs = read.records.iter().map(|record| record.first);
+            let inputs: Vec<u64> = inputs.map(|input| input as u64).collect();
+            let holds = desk::reference::pact::holds(&clauses, &inputs, &table);
+            let wanted = if holds { "A" } else { "V" };
+            assert_eq!(short(judge(text.as_bytes(), &list, entry)), wanted);
+            conforming += 1;
+        }
+    }
+    assert!(conforming > 10);
+    let mut short_buffer = vec![0; text.len() - 1];
+    let answer = pact(&contract, &table, &list, &mut short_buffer);
+    assert_eq!(short(answer), format!("21 buffer {}", text.len() - 1));
 }
 
 /// After a day's edit each entry gets the answer in `rechecked.txt`, the same as by

@@ -47,7 +47,7 @@ fn one_seed_gives_one_run() {
 #[test]
 fn every_compared_call_occurs_and_no_other() {
     let mut counts = BTreeMap::new();
-    for index in 0..20_000 {
+    for index in 0..24_000 {
         if let Some(call) = Call::from_byte(request(9, index).call) {
             *counts.entry(call.byte()).or_insert(0) += 1;
         }
@@ -60,8 +60,8 @@ fn every_compared_call_occurs_and_no_other() {
 
 #[test]
 fn every_refusal_occurs_often() {
-    let counts = counts((0..36_000).map(|index| request(1, index)));
-    for number in 1..=23 {
+    let counts = counts((0..40_000).map(|index| request(1, index)));
+    for number in 1..=24 {
         let count = counts[&format!("refused {number}")];
         assert!(count >= 60, "refusal {number} occurs {count} times");
     }
@@ -76,6 +76,7 @@ fn every_refusal_occurs_often() {
         "summary",
         "judged",
         "fixed",
+        "drafted",
     ] {
         assert!(counts[answer] >= 1_000, "{answer}: {}", counts[answer]);
     }

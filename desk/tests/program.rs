@@ -10,6 +10,7 @@ use std::process::{Command, Output, Stdio};
 use common::*;
 use desk::changes::Change;
 use desk::requests::{adler32, Call, Request};
+use desk::tables::TableAndBuffer;
 
 const DESK: &str = env!("CARGO_BIN_EXE_desk");
 
@@ -61,6 +62,12 @@ fn answer_lines() {
         Change { earlier, old, new }.to_bytes()
     };
     let recheck = |third| Request::new(Call::Recheck, text("v == 1"), list(), third);
+    let lent = |table: &[u64], buffer: usize| {
+        let (table, buffer) = (table.to_vec(), vec![1; buffer]);
+        TableAndBuffer { table, buffer }.to_bytes()
+    };
+    let pact =
+        |contract: &[u8], third| Request::new(Call::Pact, contract.to_vec(), inputs(1), third);
     let requests = [
         Request::new(Call::Read, text("true && true"), none(), none()),
         Request::new(Call::Check, text("v == 1"), list(), none()),
@@ -95,6 +102,14 @@ fn answer_lines() {
         Request::new(Call::FixOctal, text(")0O10"), vec![0; 3], vec![1; 3]),
         Request::new(Call::FixOctal, none(), none(), none()),
         Request::new(Call::Print, text(")0O10"), none(), vec![1; 3]),
+        pact(&[0x00, 0x01], lent(&[5, 6], 8)),
+        pact(&[0x00, 0x02], lent(&[5, 6], 3)),
+        pact(&[0x00, 0x01], lent(&[5, 6], 3)),
+        pact(&[0x00], lent(&[0; 17], 3)),
+        pact(&[], lent(&[], 0)),
+        pact(&[0x00], lent(&[5], 0)[..9].to_vec()),
+        pact(&[0x00], vec![0]),
+        Request::new(Call::Pact, none(), vec![0; 3], none()),
     ];
     let output = desk(&["answer"], &bytes(&requests));
     let sum = adler32(&block);
@@ -102,6 +117,7 @@ fn answer_lines() {
     let part_sum = adler32(b"(false)");
     let key_sum = adler32(b"v");
     let [ones_sum, fixed_sum] = [&[1; 9], &b")0x8\x01"[..]].map(adler32);
+    let draft_sum = adler32(b"i0 == 6\x01");
     let wanted = format!(
         "read 3\npassed\naccepted\nviolated\ntranslated 4 {sum}\nrefused 15 buffer 3 589828\n\
          loaded 4\naccepted 4\nviolated 2\nrefused 5 text 0\nrefused 2 list 3\nrefused 19 entry 0\n\
@@ -111,7 +127,9 @@ fn answer_lines() {
          reused accepted\nreused violated\nreused refused 20 entry 0\n\
          judged refused 19 entry 0\nmalformed\nmalformed\n\
          refused 5 text 6 {ones_sum}\nfixed 4 {fixed_sum}\nrefused 21 buffer 3 589828\n\
-         fixed 0 1\nrefused 22 text 1 589828\n"
+         fixed 0 1\nrefused 22 text 1 589828\n\
+         drafted 7 {draft_sum}\nrefused 24 contract 1 589828\nrefused 21 buffer 3 589828\n\
+         refused 24 table 16 589828\nrefused 21 buffer 0 1\nmalformed\nmalformed\nmalformed\n"
     );
     assert_eq!(text_of(&output.stdout), wanted);
 }
@@ -219,6 +237,30 @@ fn show_a_fix() {
     let wanted = format!(
         "fix_octal\n  text, 4 bytes: \"0o10\"\n  buffer, 4 bytes: 01010101...\n  \
          answer: fixed 3 {sum}\n\n"
+    );
+    assert_eq!(shown, wanted);
+}
+
+#[test]
+fn show_a_contract() {
+    let contract = vec![0x04, 0x01, 0xc0, 0x68, 0x13, 0x00, 0x02, 0x84, 0x0c, 0x00];
+    let (table, buffer) = (vec![7, 8], vec![0x61; 3]);
+    let third = TableAndBuffer { table, buffer }.to_bytes();
+    let cut = vec![0x88, 0x00];
+    let requests = [
+        Request::new(Call::Pact, contract, inputs(2), third),
+        Request::new(Call::Pact, cut, Vec::new(), vec![0]),
+    ];
+    let shown = text_of(&desk(&["show"], &bytes(&requests)).stdout);
+    let sum = adler32(b"aaa");
+    let wanted = format!(
+        "pact\n  contract, 10 bytes:\n    0401 Input(0) Greater User(1)\n    c0 Not And\n    \
+         6813 Not Input(1) GreaterEqual Input(3)\n    0002 Input(0) Equal User(2)\n    \
+         84 Or\n    0c00 from here no opcode\n  key list, 160 bytes:\n    \
+         i0 exact 64\n    i1 exact 64\n  table, 2 numbers: 7 8\n  \
+         buffer, 3 bytes: 616161...\n  answer: refused 24 contract 4 {sum}\n\n\
+         pact\n  contract, 2 bytes:\n    88 Xor\n    00 cut after its opcode\n  \
+         key list, 0 bytes:\n  no table, 1 bytes: 00...\n  answer: malformed\n\n"
     );
     assert_eq!(shown, wanted);
 }
@@ -341,9 +383,25 @@ fn differences_are_found_and_made_small() {
         .split(' ')
         .next()
         .unwrap();
-    assert!(length.parse::<usize>().unwrap() <= 6, "{smallest}");
+    assert!(length.parse::<usize>().unwrap() <= 7, "{smallest}");
     assert!(smallest.contains("reference: refused 13"));
     assert!(smallest.contains("program:   refused 11"));
+}
+
+/// Contract, names, table and buffer: all become small.
+#[test]
+fn a_wrong_draft_is_made_small() {
+    let found = compare_with_sed("s/^drafted/Drafted/");
+    let (_, smallest) = found.split_once("the smallest found:\n").expect("one");
+    let sum = adler32(b"true");
+    let wanted = format!(
+        "pact\n  contract, 0 bytes:\n  key list, 0 bytes:\n  table, 0 numbers: \n  \
+         buffer, 4 bytes: 00000000...\n  reference: drafted 4 {sum}\n  \
+         program:   Drafted 4 {sum}\n  in hex: 0c{}06{}\n",
+        "00".repeat(11),
+        "00".repeat(6)
+    );
+    assert_eq!(smallest, wanted);
 }
 
 /// Text, buffer and what is passed over: all become small.

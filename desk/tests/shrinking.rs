@@ -8,6 +8,7 @@ use desk::compare::pieces::{Deed, Division};
 use desk::reference::blocks::{all_parts, blocks_of};
 use desk::reference::code::Parts;
 use desk::requests::{Call, Request};
+use desk::tables::TableAndBuffer;
 
 /// A text is made smaller by its tokens although a call refuses it for one of them.
 #[test]
@@ -40,4 +41,26 @@ fn smaller_code_keeps_its_landings() {
     // The landing itself is left out.
     let without_landing = [t, skip(3), t, skip(1), t, skip(9)];
     assert_eq!(left(Deed::Drop, 5..7), without_landing);
+}
+
+/// A contract is made smaller by its assertions, with the conjunctions before them,
+/// and by the numbers of its table; the buffer stays.
+#[test]
+fn smaller_contracts_keep_whole_assertions() {
+    let contract = vec![0x04, 0x01, 0xc0, 0x00, 0x02, 0x84, 0x68, 0x13, 0x08];
+    let lent = |table: &[u64]| {
+        let (table, buffer) = (table.to_vec(), vec![7; 3]);
+        TableAndBuffer { table, buffer }.to_bytes()
+    };
+    let request = Request::new(Call::Pact, contract, Vec::new(), lent(&[1, 2, 3]));
+    assert_eq!(Division::Assertions.count(&request), 4);
+    let smaller = Division::Assertions.simpler(&request, Deed::Drop, 1..2);
+    let without_second = [0x04, 0x01, 0x84, 0x68, 0x13, 0x08];
+    assert_eq!(smaller.inputs[0], without_second);
+    let smaller = Division::Assertions.simpler(&request, Deed::Drop, 2..4);
+    assert_eq!(smaller.inputs[0], [0x04, 0x01, 0xc0, 0x00, 0x02]);
+    assert_eq!(Division::Numbers.count(&request), 3);
+    let smaller = Division::Numbers.simpler(&request, Deed::Drop, 0..2);
+    assert_eq!(smaller.inputs[2], lent(&[3]));
+    assert_eq!(Division::Tokens.count(&request), 0);
 }

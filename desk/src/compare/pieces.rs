@@ -6,6 +6,7 @@ use crate::reference::blocks::{all_parts, blocks_of, checked_layout, BLOCK};
 use crate::reference::code::{landing, Instruction, Parts};
 use crate::reference::entries::Entry;
 use crate::reference::keys::Key;
+use crate::reference::pact::Opcode;
 use crate::reference::tokens::old_tokens;
 use crate::reference::Input;
 use crate::requests::Request;
@@ -22,6 +23,10 @@ pub enum Division {
     Instructions,
     /// Whole blocks as they stand.
     Blocks,
+    /// Assertions of a contract, each with the conjunction before it.
+    Assertions,
+    /// Numbers of a table.
+    Numbers,
     /// Bytes of one of the three inputs.
     Bytes(usize),
     /// Bytes of one of the three inputs that are not zero.
@@ -71,7 +76,7 @@ impl Deed {
 }
 
 /// All steps that are tried, coarse ones first.
-pub const STEPS: [(Division, Deed); 18] = [
+pub const STEPS: [(Division, Deed); 20] = [
     (Division::Keys, Deed::Drop),
     (Division::Tokens, Deed::Drop),
     (Division::Tokens, Deed::Unwrap),
@@ -84,6 +89,8 @@ pub const STEPS: [(Division, Deed); 18] = [
     (Division::Instructions, Deed::False),
     (Division::Instructions, Deed::Zero),
     (Division::Blocks, Deed::Drop),
+    (Division::Assertions, Deed::Drop),
+    (Division::Numbers, Deed::Drop),
     (Division::Bytes(0), Deed::Drop),
     (Division::Bytes(1), Deed::Drop),
     (Division::Bytes(2), Deed::Drop),
@@ -101,6 +108,10 @@ impl Division {
             Division::Tokens => token_pieces(request).len(),
             Division::Instructions => code(request).map_or(0, |(_, code, _)| code.len()),
             Division::Blocks => length(request.input(Input::Blocks)) / BLOCK,
+            Division::Assertions => assertion_pieces(request).len(),
+            Division::Numbers => request
+                .table_and_buffer()
+                .map_or(0, |(_, lent)| lent.table.len()),
             Division::Bytes(input) => request.inputs[input].len(),
             Division::NonZeros(input) => non_zeros(&request.inputs[input]).count(),
         }
@@ -128,6 +139,18 @@ impl Division {
                 if let Some(input) = request.input(Input::Blocks) {
                     let bytes = stretch.start * BLOCK..stretch.end * BLOCK;
                     simpler.inputs[input].drain(bytes);
+                }
+            }
+            Division::Assertions => {
+                if let Some(input) = request.input(Input::Contract) {
+                    let pieces = changed(assertion_pieces(request), deed, stretch, None);
+                    simpler.inputs[input] = pieces.concat();
+                }
+            }
+            Division::Numbers => {
+                if let Some((input, mut lent)) = request.table_and_buffer() {
+                    lent.table.drain(stretch);
+                    simpler.inputs[input] = lent.to_bytes();
                 }
             }
             Division::Bytes(input) => {
@@ -201,6 +224,31 @@ fn token_pieces(request: &Request) -> Vec<Vec<u8>> {
     cuts.windows(2)
         .map(|cut| text[cut[0]..cut[1]].to_vec())
         .collect()
+}
+
+/// The contract cut behind each of its assertions, good or not; what stands behind the
+/// last one is a piece too.
+fn assertion_pieces(request: &Request) -> Vec<Vec<u8>> {
+    let Some(input) = request.input(Input::Contract) else {
+        return Vec::new();
+    };
+    let mut pieces = Vec::new();
+    let mut rest = &request.inputs[input][..];
+    while !rest.is_empty() {
+        let conjunctions = rest.iter().take_while(|&&byte| is_conjunction(byte));
+        let length = rest.len().min(conjunctions.count() + ASSERTION);
+        let (piece, behind) = rest.split_at(length);
+        pieces.push(piece.to_vec());
+        rest = behind;
+    }
+    pieces
+}
+
+/// The bytes of an assertion: opcode and index.
+const ASSERTION: usize = 2;
+
+fn is_conjunction(byte: u8) -> bool {
+    matches!(Opcode::from_byte(byte), Some(Opcode::Conjunction(_)))
 }
 
 /// The input that holds blocks of good layout, their code and number of keys.

@@ -1,6 +1,7 @@
 //! Buffers that a call may write to: of the size that it needs, one byte less,
 //! or another; what they hold before the call is anything but zeros.
 
+use super::contracts::Draft;
 use super::rng::Rng;
 use crate::reference;
 use crate::reference::blocks::bytes_needed;
@@ -9,6 +10,7 @@ use crate::reference::fixing::without_octal;
 use crate::reference::printing::print_of;
 use crate::reference::Answer;
 use crate::requests::LONGEST_INPUT;
+use crate::tables::TableAndBuffer;
 
 /// A buffer for the translation of this text.
 pub fn for_translation(rng: &mut Rng, text: &[u8], list: &[u8]) -> Vec<u8> {
@@ -42,6 +44,21 @@ pub fn for_print(rng: &mut Rng, text: &[u8]) -> Vec<u8> {
 pub fn for_fixed_text(rng: &mut Rng, text: &[u8]) -> Vec<u8> {
     let needed = without_octal(text).map_or(FOR_A_REFUSED_TEXT, |fixed| fixed.len());
     for_text(rng, needed)
+}
+
+/// A buffer for the text of this contract.
+pub fn for_draft(rng: &mut Rng, draft: &Draft) -> Vec<u8> {
+    let mut text = [0; LONGEST_TEXT];
+    let answer = reference::pact(&draft.contract, &draft.table, &draft.names, &mut text);
+    let needed = match answer {
+        Answer::Drafted(length) => length,
+        _ => FOR_A_REFUSED_TEXT,
+    };
+    // The table stands before the buffer in one input.
+    let mut buffer = for_text(rng, needed);
+    let table = TableAndBuffer::HEAD + draft.table.len() * TableAndBuffer::NUMBER;
+    buffer.truncate(LONGEST_INPUT - table);
+    buffer
 }
 
 /// A buffer for a text of so many bytes.

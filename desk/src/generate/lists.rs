@@ -85,7 +85,8 @@ fn width(rng: &mut Rng, keys: &[NamedKey]) -> u8 {
     rng.pick(&WIDTHS)
 }
 
-fn fresh_name(rng: &mut Rng, keys: &[NamedKey]) -> Vec<u8> {
+/// A name that none of these keys has.
+pub fn fresh_name(rng: &mut Rng, keys: &[NamedKey]) -> Vec<u8> {
     loop {
         let name = any_name(rng);
         if keys.iter().all(|key| key.name != name) {

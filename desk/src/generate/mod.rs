@@ -4,6 +4,9 @@ pub mod bits;
 pub mod blocks;
 pub mod buffers;
 pub mod cases;
+pub mod contract_faults;
+pub mod contract_limits;
+pub mod contracts;
 pub mod damage;
 pub mod entries;
 pub mod explanations;
@@ -39,6 +42,7 @@ pub const SHARES: &[(Call, usize)] = &[
     (Call::Summarize, 2),
     (Call::Recheck, 4),
     (Call::FixOctal, 3),
+    (Call::Pact, 4),
 ];
 
 /// Request `index` of the run with this seed.

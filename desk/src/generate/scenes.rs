@@ -2,8 +2,8 @@
 
 use super::rng::Rng;
 use super::{
-    bits, blocks, buffers, damage, entries, explanations, limits, lists, octals, prints, programs,
-    rechecks, skips, snippets, spelling, texts,
+    bits, blocks, buffers, contracts, damage, entries, explanations, limits, lists, octals, prints,
+    programs, rechecks, skips, snippets, spelling, texts,
 };
 use crate::lists::{list_bytes, NamedKey};
 use crate::reference;
@@ -66,6 +66,8 @@ impl Scene {
             Call::Summarize => self.summarize(rng),
             Call::Recheck => self.recheck(rng),
             Call::FixOctal => self.fix_octal(rng),
+            // A contract has names and a table of its own.
+            Call::Pact => contracts::request(rng),
         }
     }
 

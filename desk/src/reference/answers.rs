@@ -1,5 +1,6 @@
 //! Document 01, "Refusal numbers": "A refusal's place says which input it lies
-//! in (text, key list, entry, blocks, buffer) and a byte offset."
+//! in (text, key list, entry, blocks, buffer) and a byte offset." Document 02, request
+//! k: "Places may now lie in the contract or the number table."
 
 use std::fmt;
 
@@ -14,6 +15,9 @@ pub enum Input {
     Entry,
     Blocks,
     Buffer,
+    Contract,
+    /// An offset in it counts numbers.
+    Table,
 }
 
 /// A refusal on its way up through the stages.
@@ -46,6 +50,8 @@ pub enum Answer {
     Summary(Summary),
     /// The text was copied without octal numerals, in this many bytes.
     Fixed(usize),
+    /// The contract was made into a text of this many bytes.
+    Drafted(usize),
     Refused {
         number: u8,
         input: Input,
@@ -91,6 +97,8 @@ impl fmt::Display for Input {
             Input::Entry => "entry",
             Input::Blocks => "blocks",
             Input::Buffer => "buffer",
+            Input::Contract => "contract",
+            Input::Table => "table",
         })
     }
 }
@@ -110,6 +118,7 @@ impl fmt::Display for Answer {
             Answer::Printed(length) => write!(out, "printed {length}"),
             Answer::Summary(summary) => write!(out, "summary {summary}"),
             Answer::Fixed(length) => write!(out, "fixed {length}"),
+            Answer::Drafted(length) => write!(out, "drafted {length}"),
             Answer::Refused {
                 number,
                 input,

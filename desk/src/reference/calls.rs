@@ -8,13 +8,16 @@
 use super::answers::{Answer, Input, Refusal};
 use super::blocks::{blocks_of, bytes_needed, checked_layout};
 use super::code::Instruction;
+use super::contracts::clauses;
+use super::drafting::{surely_too_long, tree_of};
 use super::entries::Entry;
 use super::explaining::{first_false_part, key_of_record, Explanation};
 use super::fixing::without_octal;
 use super::grammar::tree;
-use super::keys::{key_list, Key};
+use super::keys::{key_list, name_list, Key};
 use super::loading::checked_code;
 use super::meaning::holds;
+use super::pact::MOST_INDICES;
 use super::printing::print_of;
 use super::rechecking::{reuses, Rechecked};
 use super::running::outcome;
@@ -137,6 +140,29 @@ pub fn fix_octal(text: &[u8], buffer: &mut [u8]) -> Answer {
         Ok(Answer::Fixed(write_text(&fixed, buffer)?))
     };
     fixing().into()
+}
+
+/// Makes a text of a Pact contract at the front of the buffer: 2 to 4 of the names, 24
+/// of the table, 24 of the contract, then "A text over a limit of 01, or over the lent
+/// buffer, is 21." Every later byte stays, and on a refusal every byte.
+pub fn pact(contract: &[u8], table: &[u64], names: &[u8], buffer: &mut [u8]) -> Answer {
+    let mut drafting = || {
+        let names = name_list(names)?;
+        if table.len() > MOST_INDICES {
+            return Err(Refusal::new(24, Input::Table, MOST_INDICES));
+        }
+        let clauses = clauses(contract, names.len(), table.len())?;
+        let over = Refusal::new(21, Input::Buffer, buffer.len());
+        if surely_too_long(&clauses) {
+            return Err(over);
+        }
+        let text = print_of(&tree_of(&clauses, &names, table));
+        // Over a limit of 01 is what `read` refuses, which has no other fault to find.
+        text_length(&text).map_err(|_| over)?;
+        text_tree(&text).map_err(|_| over)?;
+        Ok(Answer::Drafted(write_text(&text, buffer)?))
+    };
+    drafting().into()
 }
 
 /// Stage 1.

@@ -5,9 +5,12 @@
 //!
 //! Document 02, request i: "Byte 3 of a key record becomes a flag, 0 or 1; with 1
 //! the key must be present, and its absence is number 20. Other values are number
-//! 3. Old lists have 0 there and read as before." Bytes 4 to 15 stay zero.
+//! 3. Old lists have 0 there and read as before." Bytes 4 to 15 stay zero. Request k,
+//! of the names of a contract's inputs: "2 to 4 as before, and a record of another kind
+//! or width, or a 17th, is number 3 at it."
 
 use super::answers::{Input, Refusal};
+use super::pact::MOST_INDICES;
 use super::types::Type;
 use super::words::word_length;
 
@@ -154,13 +157,28 @@ pub fn find(keys: &[Key], name: &[u8]) -> Option<usize> {
 
 /// The keys of a list: stage 2, then stage 3 and 4.
 pub fn key_list(list: &[u8]) -> Result<Vec<Key<'_>>, Refusal> {
+    listed(list, |_, _| true)
+}
+
+/// The names of a contract's inputs, with the stages of a list.
+pub fn name_list(list: &[u8]) -> Result<Vec<Key<'_>>, Refusal> {
+    listed(list, |index, key| {
+        key.kind == Kind::Exact && key.width == NAME_WIDTH && index < MOST_INDICES
+    })
+}
+
+/// "all exact keys of width 64"
+pub const NAME_WIDTH: u8 = 64;
+
+/// The keys of a list; a record that may not stand at its index is number 3 as well.
+fn listed(list: &[u8], may_stand: fn(usize, &Key) -> bool) -> Result<Vec<Key<'_>>, Refusal> {
     if !list.len().is_multiple_of(Key::SIZE) || list.len() > Key::MOST * Key::SIZE {
         return Err(Refusal::new(2, Input::List, list.len()));
     }
     let mut keys = Vec::new();
     for (index, record) in list.chunks(Key::SIZE).enumerate() {
         let place = index * Key::SIZE;
-        let Some(key) = Key::from_record(record) else {
+        let Some(key) = Key::from_record(record).filter(|key| may_stand(index, key)) else {
             return Err(Refusal::new(3, Input::List, place));
         };
         if find(&keys, key.name).is_some() {

@@ -5,7 +5,8 @@
 //! judging one entry directly from the text, translating a text into blocks,
 //! loading blocks, running loaded blocks on an entry." And document 02's "Print
 //! a restriction in house style", "Tell me on site what broke", "A summary beside
-//! each rule", "Stop early, and count", "Octal goes" and "Numbers that lose bits".
+//! each rule", "Stop early, and count", "Octal goes", "Numbers that lose bits" and
+//! "Take in Pact contracts".
 //!
 //! The files follow the documents' sections. Plainness comes before speed:
 //! what stands here is meant to be held against the paper, line by line.
@@ -16,6 +17,8 @@ pub mod bits;
 pub mod blocks;
 pub mod calls;
 pub mod code;
+pub mod contracts;
+pub mod drafting;
 pub mod entries;
 pub mod explaining;
 pub mod fields;
@@ -26,6 +29,7 @@ pub mod ladder;
 pub mod loading;
 pub mod meaning;
 pub mod numbers;
+pub mod pact;
 pub mod parts;
 pub mod printing;
 pub mod rechecking;
@@ -39,7 +43,7 @@ pub mod values;
 pub mod words;
 
 pub use answers::{Answer, Input};
-pub use calls::{check, explain, fix_octal, judge, load, print};
+pub use calls::{check, explain, fix_octal, judge, load, pact, print};
 pub use calls::{read, recheck, run, summarize, translate};
 pub use explaining::Explanation;
 pub use rechecking::Rechecked;

@@ -10,7 +10,7 @@ use desk::pack::entries::Rules;
 use desk::pack::{entries_from_text, keys_from_text};
 use desk::reference::blocks::{bytes_needed, BLOCK, MOST_BLOCKS};
 use desk::reference::calls::LONGEST_TEXT;
-use desk::reference::{check, explain, fix_octal, judge, load, print};
+use desk::reference::{check, explain, fix_octal, judge, load, pact, print};
 use desk::reference::{read, recheck, run, summarize, translate};
 use desk::reference::{Answer, Explanation, Input, Outcome, Rechecked};
 use desk::requests::{Call, Request};
@@ -124,6 +124,21 @@ pub fn fixing(text: impl AsRef<[u8]>) -> String {
     let mut buffer = vec![0; LONGEST_TEXT];
     match fix_octal(text.as_ref(), &mut buffer) {
         Answer::Fixed(length) => String::from_utf8_lossy(&buffer[..length]).into_owned(),
+        refused => short(refused),
+    }
+}
+
+/// Names of inputs, as many as an index can choose from: i0 to i15.
+pub fn inputs(count: usize) -> Vec<u8> {
+    let keys: String = (0..count).map(|i| format!("i{i} exact 64\n")).collect();
+    list_of(&keys)
+}
+
+/// The text of a contract in a buffer that is long enough, or its refusal.
+pub fn drafting(contract: &[u8], table: &[u64], names: &[u8]) -> String {
+    let mut buffer = vec![0; LONGEST_TEXT];
+    match pact(contract, table, names, &mut buffer) {
+        Answer::Drafted(length) => String::from_utf8_lossy(&buffer[..length]).into_owned(),
         refused => short(refused),
     }
 }

@@ -1,10 +1,10 @@
 /*
  * Lends the inputs of every call at the very end of a page, with the next page out of bounds, and a little before it, so that
- * they begin at every alignment; and at the very start of a page, with the one before out of bounds. A call that touches a byte
+ * they begin at every alignment, a table at those that its numbers have; and at the very start of a page, with the one before out of bounds. A call that touches a byte
  * outside its inputs ends this program with a message that names the case.
  *
- *   page_end vary < REQUESTS > VARIED     the requests of the incident and of an octal numeral, and those given, each whole,
- *                                         and with one input a byte shorter or a byte longer
+ *   page_end vary < REQUESTS > VARIED     the requests of the incident, of an octal numeral and of a contract, and those given,
+ *                                         each whole, and with one input a byte shorter or a byte longer, of a table a number
  *   page_end VARIED LINES                 makes the calls and holds their answers to the lines
  *
  * LINES is what `desk answer` says of VARIED. The last line is 'N passed, M failed'; the status is 0 if M is 0.
@@ -41,19 +41,18 @@ enum { MORE = '1' };
 
 static void write_varied(const struct request *request, unsigned input)
 {
-    static uint8_t longer[LONGEST_INPUT];
+    static _Alignas(uint64_t) uint8_t longer[LONGEST_INPUT + sizeof(uint64_t)];
     struct request varied = *request;
-    size_t length = request->inputs[input].length;
+    size_t length = request->inputs[input].length, step = unit(request->call, input);
     if (length > 0) {
-        varied.inputs[input].length = length - 1;
+        varied.inputs[input].length = length - step;
         write_request(stdout, &varied);
     }
-    if (length < LONGEST_INPUT) {
-        memcpy(longer, request->inputs[input].at, length);
-        longer[length] = MORE;
-        varied.inputs[input] = (struct input){ longer, length + 1 };
+    memcpy(longer, request->inputs[input].at, length);
+    memset(longer + length, MORE, step);
+    varied.inputs[input] = (struct input){ longer, length + step };
+    if (can_be_read(&varied))
         write_request(stdout, &varied);
-    }
 }
 
 static void write_all_varied(const struct request *request)
@@ -102,11 +101,24 @@ static void write_octal(void)
     write_all_varied(&request);
 }
 
+/* A name that fills its record, the last number of a table, and a buffer that has no byte more than is written. */
+static void write_contract(void)
+{
+    static uint8_t contract[] = { 0x00, 0x01 }, list[POLLUX_KEY_SIZE] = { POLLUX_MAX_NAME, 0, POLLUX_INPUT_WIDTH };
+    static uint8_t buffer[POLLUX_MAX_NAME + sizeof " == 7" - 1];
+    static uint64_t table[] = { 0, 7 };
+    memset(list + POLLUX_KEY_SIZE - POLLUX_MAX_NAME, 'k', POLLUX_MAX_NAME);
+    struct request request = { .call = PACT, .inputs = { { contract, sizeof contract }, { list, sizeof list },
+                                                         { buffer, sizeof buffer }, { (uint8_t *)table, sizeof table } } };
+    write_all_varied(&request);
+}
+
 static int vary(void)
 {
     struct request request;
     write_incident();
     write_octal();
+    write_contract();
     while (read_request(stdin, &request))
         write_all_varied(&request);
     return fflush(stdout) == 0 ? 0 : 3;
@@ -165,9 +177,10 @@ static bool all_are(struct input part, uint8_t byte)
     return true;
 }
 
-static struct input lend(const struct arena *arena, struct input input, unsigned placing)
+/* Of the bytes between an input and the end of a page as many stay as its unit goes into. */
+static struct input lend(const struct arena *arena, struct input input, unsigned placing, size_t unit)
 {
-    uint8_t *at = placing == AT_START ? arena->room : arena->room + ROOM - placing - input.length;
+    uint8_t *at = placing == AT_START ? arena->room : arena->room + ROOM - placing / unit * unit - input.length;
     struct input lent = { at, input.length };
     struct input front = before(arena, lent), back = after(arena, lent);
     memcpy(at, input.at, input.length);
@@ -246,7 +259,7 @@ static bool failed(const char *what)
     return false;
 }
 
-/* Only the blocks, the print or the fixed text that an answer tells of may have changed, and after a refusal nothing. */
+/* Only the blocks or the text that an answer tells of may have changed, and after a refusal nothing. */
 static bool kept_rest(const struct request *request, const struct request *lent, struct told answer)
 {
     if (!writes(request->call))
@@ -274,7 +287,7 @@ static bool try_placing(const struct request *request, const char *line, unsigne
     now.lent = &lent;
     now.placing = placing;
     for (unsigned i = 0; i < INPUTS; i++) {
-        lent.inputs[i] = lend(&arenas[i], request->inputs[i], placing);
+        lent.inputs[i] = lend(&arenas[i], request->inputs[i], placing, unit(request->call, i));
         if (!writes(request->call) || i != 2)
             protect(&arenas[i], PROT_READ);
     }

@@ -7,7 +7,7 @@
 const char *call_name(unsigned call)
 {
     static const char *const names[] = { "no call", "read",    "check",     "judge",   "translate", "load",
-                                         "run",     "print",   "explain",   "summarize", "recheck", "fix_octal" };
+                                         "run",     "print",   "explain",   "summarize", "recheck", "fix_octal", "pact" };
     return names[call <= LAST_CALL ? call : 0];
 }
 
@@ -25,13 +25,19 @@ const char *input_name(unsigned call, unsigned input)
         [SUMMARIZE] = { "text", "list", "", "" },
         [RECHECK] = { "text", "list", "entry", [OLD_ENTRY] = "old entry" },
         [FIX_OCTAL] = { "text", "", "buffer", "" },
+        [PACT] = { "contract", "list", "buffer", [TABLE] = "table" },
     };
     return names[call][input];
 }
 
+size_t unit(unsigned call, unsigned input)
+{
+    return call == PACT && input == TABLE ? sizeof(uint64_t) : 1;
+}
+
 bool writes(unsigned call)
 {
-    return call == TRANSLATE || call == PRINT || call == FIX_OCTAL;
+    return call == TRANSLATE || call == PRINT || call == FIX_OCTAL || call == PACT;
 }
 
 static void read_exactly(FILE *file, uint8_t *into, size_t length)
@@ -42,8 +48,8 @@ static void read_exactly(FILE *file, uint8_t *into, size_t length)
     exit(3);
 }
 
-/* How many inputs a request has, and what stands before the old entry in the third one of a recheck. */
-enum { FRAMED = 3, CHANGE_HEAD = 5 };
+/* How many inputs a request has, and what stands before the old entry or the numbers in the third one of a recheck or a contract. */
+enum { FRAMED = 3, CHANGE_HEAD = 5, TABLE_HEAD = 2, NUMBER = sizeof(uint64_t) };
 
 static size_t size_at(const uint8_t head[4])
 {
@@ -87,6 +93,37 @@ static bool take_apart(struct request *request)
     return true;
 }
 
+static uint64_t number_at(const uint8_t *at)
+{
+    return (uint64_t)size_at(at) << 32 | size_at(at + 4);
+}
+
+/* The same of a contract's; its numbers go to where a machine can read them. */
+static bool take_table(struct request *request)
+{
+    static uint64_t numbers[LONGEST_INPUT / NUMBER];
+    struct input lent = request->inputs[2];
+    if (lent.length < TABLE_HEAD)
+        return false;
+    size_t count = (size_t)lent.at[0] << 8 | lent.at[1], room = lent.length - TABLE_HEAD;
+    if (count * NUMBER > room)
+        return false;
+    for (size_t i = 0; i < count; i++)
+        numbers[i] = number_at(lent.at + TABLE_HEAD + i * NUMBER);
+    request->inputs[TABLE] = (struct input){ (uint8_t *)numbers, count * NUMBER };
+    request->inputs[2] = (struct input){ lent.at + TABLE_HEAD + count * NUMBER, room - count * NUMBER };
+    return true;
+}
+
+static bool take_third(struct request *request)
+{
+    switch (request->call) {
+    case RECHECK: return take_apart(request);
+    case PACT: return take_table(request);
+    default: return true;
+    }
+}
+
 bool read_request(FILE *file, struct request *request)
 {
     static uint8_t memory[FRAMED][LONGEST_INPUT];
@@ -96,7 +133,7 @@ bool read_request(FILE *file, struct request *request)
         *request = (struct request){ .call = (unsigned)call, .inputs[OLD_ENTRY] = { memory[2], 0 } };
         for (int i = 0; i < FRAMED; i++)
             good &= read_input(file, memory[i], &request->inputs[i]);
-        if (good && (call != RECHECK || take_apart(request)))
+        if (good && take_third(request))
             return true;
     }
     return false;
@@ -118,16 +155,53 @@ static void write_old(FILE *file, const struct request *request)
     fwrite(old->at, 1, old->length, file);
 }
 
+/* The count and the numbers, which stand before the buffer in the third input of a contract. */
+static void write_table(FILE *file, const struct request *request)
+{
+    const uint64_t *numbers = (const uint64_t *)request->inputs[TABLE].at;
+    size_t count = request->inputs[TABLE].length / NUMBER;
+    uint8_t head[TABLE_HEAD] = { (uint8_t)(count >> 8), (uint8_t)count };
+    fwrite(head, 1, sizeof head, file);
+    for (size_t i = 0; i < count; i++) {
+        write_size(file, (size_t)(numbers[i] >> 32));
+        write_size(file, (size_t)(uint32_t)numbers[i]);
+    }
+}
+
+/* The bytes that stand before the third input as it is lent. */
+static size_t length_before(const struct request *request)
+{
+    switch (request->call) {
+    case RECHECK: return CHANGE_HEAD + request->inputs[OLD_ENTRY].length;
+    case PACT: return TABLE_HEAD + request->inputs[TABLE].length;
+    default: return 0;
+    }
+}
+
+static void write_before(FILE *file, const struct request *request)
+{
+    if (request->call == RECHECK)
+        write_old(file, request);
+    if (request->call == PACT)
+        write_table(file, request);
+}
+
+bool can_be_read(const struct request *request)
+{
+    const struct input *inputs = request->inputs;
+    return inputs[0].length <= LONGEST_INPUT && inputs[1].length <= LONGEST_INPUT &&
+           length_before(request) + inputs[2].length <= LONGEST_INPUT;
+}
+
 void write_request(FILE *file, const struct request *request)
 {
     uint8_t call = (uint8_t)request->call;
     fwrite(&call, 1, 1, file);
     for (int i = 0; i < FRAMED; i++) {
         const struct input *input = &request->inputs[i];
-        bool change = call == RECHECK && i == 2;
-        write_size(file, input->length + (change ? CHANGE_HEAD + request->inputs[OLD_ENTRY].length : 0));
-        if (change)
-            write_old(file, request);
+        write_size(file, input->length + (i == 2 ? length_before(request) : 0));
+        if (i == 2)
+            write_before(file, request);
         fwrite(input->at, 1, input->length, file);
     }
 }
@@ -135,11 +209,12 @@ void write_request(FILE *file, const struct request *request)
 const struct calls pollux_calls = {
     pollux_read, pollux_check, pollux_judge,   pollux_translate, pollux_load,
     pollux_run,  pollux_print, pollux_explain, pollux_summarize, pollux_recheck, pollux_fix_octal,
+    pollux_pact,
 };
 
 static struct pollux_answer make_plain_call(const struct calls *calls, const struct request *request)
 {
-    const struct input *a = &request->inputs[0], *b = &request->inputs[1], *c = &request->inputs[2];
+    const struct input *a = &request->inputs[0], *b = &request->inputs[1], *c = &request->inputs[2], *table = &request->inputs[TABLE];
     switch (request->call) {
     case READ: return calls->read(a->at, a->length);
     case CHECK: return calls->check(a->at, a->length, b->at, b->length);
@@ -148,6 +223,8 @@ static struct pollux_answer make_plain_call(const struct calls *calls, const str
     case LOAD: return calls->load(a->at, a->length, b->at, b->length);
     case PRINT: return calls->print(a->at, a->length, c->at, c->length);
     case FIX_OCTAL: return calls->fix_octal(a->at, a->length, c->at, c->length);
+    case PACT:
+        return calls->pact(a->at, a->length, (const uint64_t *)table->at, table->length / NUMBER, b->at, b->length, c->at, c->length);
     default: return calls->run(a->at, a->length, b->at, b->length, c->at, c->length);
     }
 }
@@ -217,7 +294,7 @@ static bool fits_call(unsigned call, struct told answer)
 {
     bool judges = call == JUDGE || call == RUN || call == EXPLAIN || call == RECHECK;
     switch (answer.says) {
-    case POLLUX_REFUSED: return answer.number >= 1 && answer.input >= POLLUX_TEXT && answer.input <= POLLUX_BUFFER;
+    case POLLUX_REFUSED: return answer.number >= 1 && answer.input >= POLLUX_TEXT && answer.input <= POLLUX_TABLE;
     case POLLUX_ACCEPTED:
     case POLLUX_VIOLATED: return judges && answer.number == 0 && answer.input == 0 && (call == RUN || answer.value == 0);
     case POLLUX_DONE:
@@ -281,9 +358,10 @@ static bool fits_named(const struct request *request, struct told answer)
 
 static void add_answer(char line[LINE_SIZE], unsigned call, struct told answer)
 {
-    static const char *const inputs[] = { "", "text", "list", "entry", "blocks", "buffer" };
+    static const char *const inputs[] = { "", "text", "list", "entry", "blocks", "buffer", "contract", "table" };
     static const char *const counted[] = {
-        [READ] = "read", [TRANSLATE] = "translated", [LOAD] = "loaded", [PRINT] = "printed", [FIX_OCTAL] = "fixed"
+        [READ] = "read",   [TRANSLATE] = "translated", [LOAD] = "loaded", [PRINT] = "printed",
+        [FIX_OCTAL] = "fixed", [PACT] = "drafted"
     };
     if (answer.says == POLLUX_REFUSED)
         ADD(line, "refused %" PRIu64 " %s %" PRIu64, answer.number, inputs[answer.input], answer.value);

@@ -3,9 +3,10 @@
  *
  * A request is a byte for the call and three inputs, each a length of 4 bytes, big-endian, and its bytes; a call that has fewer
  * inputs finds the rest empty. The third input of a recheck is made of a byte for the earlier answer, the old entry's length in 4
- * bytes, the old entry and the new one, which are two inputs here. The line of a verdict by blocks ends in the steps of the run, that of a
- * translation, a print or a fixed text in the Adler-32 sum of the buffer as it stands after the call, and that of an explanation in the
- * sum of the piece that is shown.
+ * bytes, the old entry and the new one, which are two inputs here. That of a contract is made of how many numbers the table has, in 2
+ * bytes, the numbers, in 8 bytes each, and the buffer, which are two inputs here too; the table's are in the machine's own order. The line
+ * of a verdict by blocks ends in the steps of the run, that of a translation, a print, a fixed text or a text of a contract in the Adler-32
+ * sum of the buffer as it stands after the call, and that of an explanation in the sum of the piece that is shown.
  */
 #ifndef REQUESTS_H
 #define REQUESTS_H
@@ -15,8 +16,8 @@
 
 #include "pollux.h"
 
-enum { READ = 1, CHECK, JUDGE, TRANSLATE, LOAD, RUN, PRINT, EXPLAIN, SUMMARIZE, RECHECK, FIX_OCTAL, LAST_CALL = FIX_OCTAL };
-enum { INPUTS = 4, OLD_ENTRY = 3, LONGEST_INPUT = 65536, LINE_SIZE = 300 };
+enum { READ = 1, CHECK, JUDGE, TRANSLATE, LOAD, RUN, PRINT, EXPLAIN, SUMMARIZE, RECHECK, FIX_OCTAL, PACT, LAST_CALL = PACT };
+enum { INPUTS = 4, OLD_ENTRY = 3, TABLE = 3, LONGEST_INPUT = 65536, LINE_SIZE = 300 };
 
 struct input {
     uint8_t *at; /* never NULL */
@@ -29,21 +30,30 @@ struct request {
     uint8_t earlier; /* of a recheck: 1 accepted, 2 violated, any other refused with 20 at entry 0 */
 };
 
-/* The call's name, and which input of a request it is: "text", "list", "entry", "old entry", "blocks", "buffer", or "" if it has none. */
+/*
+ * The call's name, and which input of a request it is: "text", "list", "entry", "old entry", "blocks", "buffer", "contract", "table",
+ * or "" if it has none.
+ */
 const char *call_name(unsigned call);
 const char *input_name(unsigned call, unsigned input);
+
+/* How many bytes an input of the call is made of at a time: those of a number for a table, and else one. A table is aligned to them. */
+size_t unit(unsigned call, unsigned input);
 
 /* Does the call write into its third input? */
 bool writes(unsigned call);
 
 /*
  * Reads the next request into memory that the next one uses again; false at the end. Requests that name no call, have an input
- * over 65,536 bytes, or are too short for a recheck are passed over. A cut one ends the program with status 3.
+ * over 65,536 bytes, or are too short for a recheck or a table are passed over. A cut one ends the program with status 3.
  */
 bool read_request(FILE *file, struct request *request);
+
+/* Can the request be written so that none of its inputs is over 65,536 bytes? */
+bool can_be_read(const struct request *request);
 void write_request(FILE *file, const struct request *request);
 
-/* Someone's version of the calls; who has no fix_octal is not asked for it. */
+/* Someone's version of the calls; who has no fix_octal or pact is not asked for it. */
 struct calls {
     struct pollux_answer (*read)(const uint8_t *, size_t);
     struct pollux_answer (*check)(const uint8_t *, size_t, const uint8_t *, size_t);
@@ -57,6 +67,7 @@ struct calls {
     struct pollux_rechecked (*recheck)(const uint8_t *, size_t, const uint8_t *, size_t, const uint8_t *, size_t, struct pollux_answer,
                                        const uint8_t *, size_t);
     struct pollux_answer (*fix_octal)(const uint8_t *, size_t, uint8_t *, size_t);
+    struct pollux_answer (*pact)(const uint8_t *, size_t, const uint64_t *, size_t, const uint8_t *, size_t, uint8_t *, size_t);
 };
 
 extern const struct calls pollux_calls;

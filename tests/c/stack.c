@@ -4,7 +4,7 @@
  *
  *   stack < REQUESTS
  *
- * Makes the deepest texts that the limits allow, and the requests given. Prints the most that each call took, in bytes, and then
+ * Makes the deepest texts and contracts that the limits allow, and the requests given. Prints the most that each call took, in bytes, and then
  * 'N passed, M failed': a call passes if it stayed within POLLUX_MAX_STACK.
  */
 #include <stdlib.h>
@@ -142,12 +142,40 @@ static void measure_deepest(void)
     measure_octal(text);
 }
 
+/*
+ * Contracts of one input and one number: the most clauses and the most levels that a text may have, by exclusive or and by NOT over AND,
+ * one more of each, and a contract that is far longer than any text.
+ */
+static void measure_contracts(void)
+{
+    static const struct {
+        uint8_t conjunction; /* 0 for none */
+        size_t assertions;
+    } contracts[] = { { 0, 256 }, { 0, 257 }, { 0x88, 65 }, { 0x88, 66 }, { 0xc0, 33 }, { 0xc0, 34 }, { 0x80, 256 }, { 0xc8, 20000 } };
+    static uint8_t contract[LONGEST_INPUT], list[POLLUX_KEY_SIZE] = { 1, 0, POLLUX_INPUT_WIDTH, [POLLUX_KEY_SIZE - POLLUX_MAX_NAME] = 'i' };
+    static uint64_t table[] = { 1 };
+    struct request request = { .call = PACT, .inputs = { { contract, 0 }, { list, sizeof list }, { buffer, sizeof buffer },
+                                                         { (uint8_t *)table, sizeof table } } };
+    for (size_t i = 0; i < sizeof contracts / sizeof contracts[0]; i++) {
+        size_t end = 0;
+        for (size_t made = 0; made < contracts[i].assertions; made++) {
+            if (made > 0 && contracts[i].conjunction != 0)
+                contract[end++] = contracts[i].conjunction;
+            contract[end++] = 0;
+            contract[end++] = 0;
+        }
+        request.inputs[0].length = end;
+        measure(&request);
+    }
+}
+
 int main(void)
 {
     struct request request;
     for (unsigned call = READ; call <= LAST_CALL; call++)
         stacks[call] = make_stack();
     measure_deepest();
+    measure_contracts();
     while (read_request(stdin, &request))
         measure(&request);
     unsigned failed = 0;

@@ -17,6 +17,7 @@ void raw_pollux_load(answer *, bytes, size_t, bytes, size_t);
 void raw_pollux_run(answer *, bytes, size_t, bytes, size_t, bytes, size_t);
 void raw_pollux_print(answer *, bytes, size_t, uint8_t *, size_t);
 void raw_pollux_fix_octal(answer *, bytes, size_t, uint8_t *, size_t);
+void raw_pollux_pact(answer *, bytes, size_t, const uint64_t *, size_t, bytes, size_t, uint8_t *, size_t);
 void raw_pollux_explain(struct pollux_reason *, bytes, size_t, bytes, size_t, bytes, size_t);
 void raw_pollux_summarize(struct pollux_summary *, bytes, size_t, bytes, size_t);
 void raw_pollux_recheck(struct pollux_rechecked *, bytes, size_t, bytes, size_t, bytes, size_t, bytes, uint64_t, uint64_t, uint64_t,
@@ -75,6 +76,14 @@ answer pollux_fix_octal(bytes text, size_t text_length, uint8_t *buffer, size_t 
 {
     answer given;
     raw_pollux_fix_octal(&given, text, text_length, buffer, buffer_length);
+    return given;
+}
+
+answer pollux_pact(bytes contract, size_t contract_length, const uint64_t *table, size_t table_count, bytes names, size_t names_length,
+                   uint8_t *buffer, size_t buffer_length)
+{
+    answer given;
+    raw_pollux_pact(&given, contract, contract_length, table, table_count, names, names_length, buffer, buffer_length);
     return given;
 }
 

@@ -1,18 +1,16 @@
 -- Programs that keep the promises return what the definitions say, so it is enough that these say the same of both entries. Of entries that
--- agree in what the text names they do: each part of the text names no more than the text. And an entry with an absent record spelled out
--- is read as the same entry.
-use Prim.Native.Nat.{ℕ, suc, _+_, _*_}
+-- agree in what the text names they do: each part of the text names no more than the text. An entry with an absent record spelled out is
+-- read as the same entry. And the bits of a summary are what the text names, so what is said of the one is said of the other.
+use Prim.Native.Nat.{ℕ}
 use mathlib.Core.Path.{_≡_, refl, sym, ap, ap₂, subst, _∙_}
-use mathlib.Core.Bool.{true, cond}
+use mathlib.Core.Bool.{Bool, cond}
 use mathlib.Core.Option.{Option, some}
-use mathlib.Core.List.{List, [], _∷_, _++_}
-use lib.ListN.{take, drop}
-use lib.Dec.{lit<}
+use mathlib.Core.List.{List, [], _∷_}
+use Rattle.paper.specs.declared.Summarizing.the-variants as S
 use Rattle.paper.specs.Answers.{Answer, ok, refused, _>>=_}
-use Rattle.paper.specs.Numbers.{bigEndian}
 use Rattle.paper.specs.Tokens.{sequel}
 use Rattle.paper.specs.Keys.{Key, keys}
-use Rattle.paper.specs.Entry.{Entry, headSize, matchSize, entryOf}
+use Rattle.paper.specs.Entry.{Entry, entryOf}
 use Rattle.paper.specs.Grammar as G
 use Rattle.paper.specs.Grammar.{Tree}
 use Rattle.paper.specs.Meaning.{Value, valueOf, isTrue}
@@ -23,19 +21,20 @@ use Rattle.paper.specs.TranslationCorrect.{judgedInSteps}
 use Rattle.paper.specs.Parts.{Part, parts}
 use Rattle.paper.specs.PartsDecide.{JoinedLeft, alone, then, roots}
 use Rattle.paper.specs.Explained.{holdsOn, firstFalse, falsePart, reasonFor, explainAnswer}
-use Rattle.paper.specs.Named.{names, marked, Summary, summarizingSays}
+use Rattle.paper.specs.Named.{names, marked, setOf, Summary, summaryAnswer, summarizingSays}
 use Rattle.paper.specs.RecheckedRight.{bitAt, SameNamed, BothConform}
 use Rattle.paper.specs.Promised.{Bytes, Programs, Kept}
-use Rattle.paper.specs.Dependence.{Alike, UnnamedDoesNotMatter, SummaryTellsAll, secondOf, spellOut, withRecord, SpelledOutDoesNotMatter}
+use Rattle.paper.specs.Dependence.{Alike, UnnamedDoesNotMatter, SummaryTellsAll, SummaryTellsNoMore, spellOut, withRecord, SpelledOutDoesNotMatter}
 use Rattle.paper.proofs.Basics.{all-append, all-some}
-use Rattle.paper.proofs.Stages.{ok-same}
-use Rattle.paper.proofs.ByteLists.{append-bytes, take-bytes, drop-bytes, number-bytes}
+use Rattle.paper.proofs.Stages.{ok-same, bind-ok}
 use Rattle.paper.proofs.KeyLists.{keys-listed}
 use Rattle.paper.proofs.TranslationCorrect.{passing}
 use Rattle.paper.proofs.PartsCut.{text-is-its-parts}
 use Rattle.paper.proofs.Depends.{Agree, Joins, left-agree, right-agree, agree-value, same-agree, same-judgement, same-steps}
 use Rattle.paper.proofs.RecheckedRight.{summary, summarizes, summary-there}
-use Rattle.paper.proofs.SpelledOut.{same-entry}
+use Rattle.paper.proofs.CanMatter.{named-can-matter}
+use Rattle.paper.proofs.AnotherRecord.{with-bytes, written-bytes}
+use Rattle.paper.proofs.SpelledOut.{reading, spelled-fits, same-entry}
 use Rattle.paper.proofs.Promised.{judgement-same, running-same, explanation-same}
 use Rattle.paper.proofs.DemandThree.{runs-in-steps}
 
@@ -100,22 +99,48 @@ pub unnamed-does-not-matter : UnnamedDoesNotMatter
 unnamed-does-not-matter p kept text list entry other t l en ot both same =
     alike p kept text list entry other t l en ot (named-alike text list entry other both same)
 
+-- what the summary of a text and a list that pass tells
+
+module _ (p : Programs) (kept : Kept p) (text list : List ℕ) (t : Bytes text) (l : Bytes list) (set : ℕ) (mark : Bool)
+    (says : p .summarize text list ≡ S.Summary set mark) where
+  abbrev told : Summary
+  told = record { keys = set; priority = mark }
+
+  answered : summaryAnswer text list ≡ ok told
+  answered = sym (kept .summarize text list t l) ∙ ap summarizingSays says
+
+  passes : (r : Restriction) × (restriction text list ≡ ok r)
+  unfolding summaryAnswer
+  passes =
+      let (r, passed, _) = bind-ok (restriction text list) (λ r. ok (summaryOf r)) told answered in
+      (r, passed)
+    where
+      summaryOf : Restriction → Summary
+      summaryOf r = record { keys = setOf (names (r .keys) (r .root)); priority = marked (r .root) }
+
+  module _ (r : Restriction) (passed : restriction text list ≡ ok r) where
+    is : told ≡ summary text list r passed
+    is = ok-same told (summary text list r passed) (sym answered ∙ summary-there text list r passed)
+
+    bit : (k : ℕ) → bitAt set k ≡ names (r .keys) (r .root) k
+    bit k = ap (λ (s : Summary). bitAt (s .keys) k) is ∙ summarizes text list r passed .bits k
+
+    marks : mark ≡ marked (r .root)
+    marks = ap (λ (s : Summary). s .priority) is
+
 pub summary-tells-all : SummaryTellsAll
-summary-tells-all p kept text list entry other t l en ot both named mark says records priority =
+summary-tells-all p kept text list entry other t l en ot both set mark says records priority =
     let rule = both .rule in
-    let told : Summary = record { keys = named; priority = mark } in
-    let is : told ≡ summary text list rule (both .passes) =
-    ok-same told (summary text list rule (both .passes))
-    (sym (ap summarizingSays says) ∙ kept .summarize text list t l ∙ summary-there text list rule (both .passes))
-    in
-    let bit : (k : ℕ) → names (rule .keys) (rule .root) k ≡ true → bitAt named k ≡ true =
-    λ k h. ap (λ (s : Summary). bitAt (s .keys) k) is ∙ summarizes text list rule (both .passes) .bits k ∙ h
-    in
     unnamed-does-not-matter p kept text list entry other t l en ot both
     (record {
-      records = λ k h. records k (bit k h);
-      priority = λ h. priority (ap (λ (s : Summary). s .priority) is ∙ h);
+      records = λ k h. records k (bit p kept text list t l set mark says rule (both .passes) k ∙ h);
+      priority = λ h. priority (marks p kept text list t l set mark says rule (both .passes) ∙ h);
     })
+
+pub summary-tells-no-more : SummaryTellsNoMore
+summary-tells-no-more p kept text list t l set mark says k h =
+    let (r, passed) = passes p kept text list t l set mark says in
+    named-can-matter p kept text list r l passed k (sym (bit p kept text list t l set mark says r passed k) ∙ h)
 
 -- entries that are read alike
 
@@ -145,21 +170,11 @@ module _ (text list entry other : List ℕ) (ks : List Key) (listed : keys list 
   unfolding runAnswer
   ran-alike blocks = rw (listed, same)
 
-spelled-bytes : (entry : List ℕ) (k : ℕ) (x : Key) → Bytes entry → Bytes (withRecord entry k (spellOut x))
-spelled-bytes entry k x en =
-    let from = headSize + k * matchSize in
-    let to = headSize + suc k * matchSize in
-    let second = secondOf (x .kind) (x .width) in
-    let numbers = append-bytes (bigEndian 16 0) (bigEndian 16 second) (number-bytes 16 0) (number-bytes 16 second) in
-    append-bytes (take from entry ++ spellOut x) (drop to entry)
-    (append-bytes (take from entry) (spellOut x) (take-bytes from entry en) (lit< tt, (lit< tt, (lit< tt, (lit< tt, numbers)))))
-    (drop-bytes to entry en)
-
 pub spelled-out-does-not-matter : SpelledOutDoesNotMatter
 spelled-out-does-not-matter p kept text list entry ks e k x t l en listed conforms there is-absent =
     let other = withRecord entry k (spellOut x) in
-    let ot = spelled-bytes entry k x en in
     let (_, wide) = all-some (λ y. Width (y .width)) ks k x (keys-listed list ks listed .widths) there in
+    let ot = with-bytes entry (spellOut x) k en (written-bytes x wide (reading x) (spelled-fits x)) in
     let again : entryOf ks other ≡ ok e = same-entry ks entry e k x wide conforms there is-absent in
     let same = conforms ∙ sym again in (
       again,

@@ -3,17 +3,16 @@
 use Prim.Native.Nat.{ℕ, zero, suc, _≤_, _<_}
 use native.Mathlib.Omega.{arith}
 use mathlib.Core.Path.{_≡_, refl, sym, ap, subst, _∙_}
-use mathlib.Core.Option.{some, Option·map, Option·none-ne-some, Option·some-injective}
+use mathlib.Core.Option.{some}
 use mathlib.Core.List.{List, [], _∷_, map}
 use lib.ListN.{length, getD, getElem?, length-map}
-use Rattle.paper.specs.Answers.{Answer, ok, refused, _>>=_}
+use Rattle.paper.specs.Answers.{Answer, ok, _>>=_}
 use Rattle.paper.specs.Tokens.{mostText}
 use Rattle.paper.specs.Keys.{Key}
 use Rattle.paper.specs.Entry.{Match, Entry, entryOf}
 use Rattle.paper.specs.Grammar.{Tree}
-use Rattle.paper.specs.Types.{Ty, bool, typeOf, typed}
-use Rattle.paper.specs.Meaning.{truth, tyOf, valueOf, isTrue}
-use Rattle.paper.specs.Translating.{hasType}
+use Rattle.paper.specs.Types.{typed}
+use Rattle.paper.specs.Meaning.{truth, valueOf, isTrue}
 use Rattle.paper.specs.Print.{bare}
 use Rattle.paper.specs.Sized.{Clean}
 use Rattle.paper.specs.BlocksRoundTrip.{All}
@@ -26,7 +25,7 @@ use Rattle.paper.specs.Promised.{UserNumbers}
 use Rattle.paper.specs.Demands.{inputsOf}
 use Rattle.paper.specs.DraftedRight.{LimitsAreReads, TextsMean}
 use Rattle.paper.proofs.Stages.{ok-same, bind-ok}
-use Rattle.paper.proofs.TypeSoundness.{values-have-types}
+use Rattle.paper.proofs.TypeSoundness.{bool-typed}
 use Rattle.paper.proofs.PrintReadsBack.{clean-print-reads, read-within}
 use Rattle.paper.proofs.BasesIgnored.{restricted, check-is, judge-is}
 use Rattle.paper.proofs.SameMeaning.{same-meaning}
@@ -38,10 +37,6 @@ use Rattle.paper.proofs.InputNames.{mapped-there, name-worth, input-num
 use Rattle.paper.proofs.ContractClean.{namesIn, small-at, clean-contract}
 
 -- the tree's type is that of its value on any entry, and some entry has a number for each name
-
-has-type : (x : Answer Ty) (a : Ty) → hasType x ≡ some a → x ≡ ok a
-has-type (ok b) a e = ap (λ (c : Ty). ok c) (Option·some-injective b a e)
-has-type (refused n i at) a e = absurd (Option·none-ne-some a e)
 
 abbrev nought : Match
 nought = record { first = 0; second = 0; length = 0 }
@@ -88,15 +83,11 @@ module _ (contract table list : List ℕ) (small : UserNumbers table) (t : Tree)
     worth-alike : (e : Entry) → Numbers e → valueOf (d .ks) e r ≡ some (truth (contractHolds (inputsOf e) table (d .read-as)))
     worth-alike e numbers = same-meaning t r same .values (d .ks) e ∙ worth e numbers
 
-    is-bool : typeOf (d .ks) r ≡ ok bool
-    is-bool =
+    is-typed : typed (d .ks) r ≡ ok tt
+    is-typed =
         let e = noughts (d .ks) in
         let covers : Covers (d .ks) e = length-map (d .ks) (λ (k : Key). nought) in
-        has-type (typeOf (d .ks) r) bool (values-have-types (d .ks) e covers r ∙ ap (Option·map tyOf) (worth-alike e all-noughts))
-
-    is-typed : typed (d .ks) r ≡ ok tt
-    unfolding typed
-    is-typed = rw is-bool
+        bool-typed (d .ks) e covers r _ (worth-alike e all-noughts)
 
   -- its text passes, with that tree
 

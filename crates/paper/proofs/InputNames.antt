@@ -13,8 +13,8 @@ use lib.Dec.{eqb, ltb}
 use borrow.Author.Tests.{eqb-true}
 use Rattle.paper.specs.Answers.{ok}
 use Rattle.paper.specs.Numbers.{byteAt, bytesAt, numberAt}
-use Rattle.paper.specs.Tokens.{bytes, sameBytes, isKey}
-use Rattle.paper.specs.Keys.{exact, Key, allZero, recordSize, recordsIn, recordAt, nameOf, recordOk, findFrom, find, keys}
+use Rattle.paper.specs.Tokens.{isKey}
+use Rattle.paper.specs.Keys.{exact, Key, allZero, recordSize, recordsIn, recordAt, nameOf, findFrom, find, keys}
 use Rattle.paper.specs.Entry.{Match, Entry, matchAt, matchOk, matchOf, spelledOut, presentRule, kindRule, entryOf}
 use Rattle.paper.specs.Grammar.{key}
 use Rattle.paper.specs.Sentences.{Name}
@@ -23,11 +23,11 @@ use Rattle.paper.specs.Faults.{name-repeated}
 use Rattle.paper.specs.Table.{Clear, listStagesBy}
 use Rattle.paper.specs.Drafting.{nameRule, namesOf}
 use Rattle.paper.specs.Demands.{inputsOf}
-use Rattle.paper.proofs.Basics.{and-false, and-right}
-use Rattle.paper.proofs.Words.{not-bytes, bytes-same, bytes-not}
+use Rattle.paper.proofs.Basics.{and-right}
+use Rattle.paper.proofs.Words.{bytes-same, bytes-not}
 use Rattle.paper.proofs.StagesInOrder.{Follows}
 use Rattle.paper.proofs.ListFaults.{list-follows-by}
-use Rattle.paper.proofs.NamesInList.{key-there}
+use Rattle.paper.proofs.NamesInList.{key-there, key-named}
 use Rattle.paper.proofs.Required.{match-kept}
 use Rattle.paper.proofs.Depends.{match-there}
 use Rattle.paper.proofs.KeyLists.{NameRecord, list-passed, names-recorded, names-are-keys}
@@ -54,33 +54,6 @@ first-found (y ∷ ks) m (suc i) x there new =
     let next : suc m + i ≡ m + suc i = omega arith in
     rw (bytes-not (y .name) (x .name) (new 0 y (omega arith) refl))
     (first-found ks (suc m) i x there (λ j z l. new (suc j) z (suc-le-suc l)) ∙ ap (λ n. some n) next)
-
--- the name of a record that keeps its layout
-record Named (r : List ℕ) : Type 0 where
-  word : isKey (nameOf r) ≡ true
-  name : Name (nameOf r)
-
-named-so : (r : List ℕ) → recordOk r ≡ true → Named r
-named-so r h =
-    record {
-      word = word (isKey (nameOf r)) refl;
-      name = (
-        not-bytes (nameOf r) (bytes "true") (not-true (sameBytes (nameOf r) (bytes "true")) refl),
-        not-bytes (nameOf r) (bytes "false") (not-false (sameBytes (nameOf r) (bytes "false")) refl),
-      );
-    }
-  where
-    word : (b : Bool) → isKey (nameOf r) ≡ b → b ≡ true
-    word true e = refl
-    word false e = (simp (e, and-false) at h)
-
-    not-true : (b : Bool) → sameBytes (nameOf r) (bytes "true") ≡ b → b ≡ false
-    not-true true e = sym (simp (e, and-false) at h)
-    not-true false e = refl
-
-    not-false : (b : Bool) → sameBytes (nameOf r) (bytes "false") ≡ b → b ≡ false
-    not-false true e = sym (simp (e, and-false) at h)
-    not-false false e = refl
 
 module _ (list : List ℕ) (ks : List Key) (named : namesOf list ≡ ok ks) where
   listed : keys list ≡ ok ks
@@ -109,7 +82,7 @@ module _ (list : List ℕ) (ks : List Key) (named : namesOf list ≡ ok ks) wher
       let (x, there) = there-below ks i l in
       let (inside, same) = key-there list ks listed i x there in
       let kept = keeps i inside in
-      let n = named-so (recordAt list i) (kept .laid-out) in
+      let n = key-named list ks listed i x there in
       let new : (j : ℕ) (y : Key) → j < i → getElem? ks j ≡ some y → y .name ≢ x .name = λ j y less at e.
       let (_, same-y) = key-there list ks listed j y at in
       let again : nameOf (recordAt list j) ≡ nameOf (recordAt list i) =
@@ -124,8 +97,8 @@ module _ (list : List ℕ) (ks : List Key) (named : namesOf list ≡ ok ks) wher
         kind = rw (same, kept .exact);
         width = rw (same, kept .wide);
         found = first-found ks 0 i x there new ∙ ap (λ n. some n) zeroth;
-        word = rw same (n .word);
-        name = rw same (n .name);
+        word = n .word;
+        name = n .name;
       }
 
   -- its name among the names

@@ -123,6 +123,7 @@ pub mod RecordsRefused
 pub mod NamesInList
 pub mod Depends
 pub mod Required
+pub mod AnotherRecord
 pub mod SpelledOut
 pub mod BitsKept
 pub mod KeySets
@@ -138,6 +139,10 @@ pub mod DemandOne
 pub mod RunsRight
 pub mod DemandTwo
 pub mod DemandThree
+pub mod NamedOperands
+pub mod ZeroOrNot
+pub mod SomeEntry
+pub mod CanMatter
 pub mod Dependence
 pub mod WrongPrints
 pub mod WrongExplainers

@@ -19,7 +19,7 @@ use Rattle.paper.proofs.Basics.{If}
 use Rattle.paper.proofs.Stages.{never-ok, bind-ok}
 use Rattle.paper.proofs.CodeInRange.{found-below}
 
-either-true : (a b : Bool) → a || b ≡ true → (a ≡ true) ⊎ (b ≡ true)
+pub either-true : (a b : Bool) → a || b ≡ true → (a ≡ true) ⊎ (b ≡ true)
 either-true true b h = inl h
 either-true false b h = inr h
 
@@ -55,7 +55,7 @@ module _ (ks : List Key) where
   attribute-priority to false a h = absurd (never-ok h)
 
   -- both operands have types
-  operands : (l r : Tree) (f : Ty → Ty → Answer Ty) (a : Ty) → (typeOf ks l >>= λ x. typeOf ks r >>= λ y. f x y) ≡ ok a
+  pub operands : (l r : Tree) (f : Ty → Ty → Answer Ty) (a : Ty) → (typeOf ks l >>= λ x. typeOf ks r >>= λ y. f x y) ≡ ok a
       → ((x : Ty) × (typeOf ks l ≡ ok x)) × ((y : Ty) × (typeOf ks r ≡ ok y))
   operands l r f a h =
       let (x, left, rest) = bind-ok (typeOf ks l) (λ x. typeOf ks r >>= λ y. f x y) a h in

@@ -7,19 +7,22 @@ use mathlib.Core.Path.{_≡_, refl, sym, ap, subst, _∙_}
 use mathlib.Core.Bool.{Bool, true, false, _&&_}
 use mathlib.Core.Option.{some, Option·none-ne-some}
 use mathlib.Core.List.{List, [], _∷_}
-use lib.ListN.{length, take, drop, getElem?}
+use lib.ListN.{length, take, drop, getElem?, length-take}
 use lib.Seq.{take-take, drop-drop}
 use lib.Dec.{eqb, leb}
 use borrow.Author.Tests.{leb-true}
 use Rattle.paper.specs.Answers.{ok, _>>=_, require, inTurn, inList}
 use Rattle.paper.specs.Numbers.{byteAt, bytesAt}
-use Rattle.paper.specs.Keys.{Key, recordSize, mostKeys, recordsIn, recordAt, keyOf, recordOk, keysFrom, recordTest, layoutRule, keys}
+use Rattle.paper.specs.Tokens.{bytes, sameBytes, isKey}
+use Rattle.paper.specs.Keys.{Key, recordSize, mostKeys, recordsIn, recordAt, nameOf, keyOf, recordOk, keysFrom, recordTest, layoutRule, keys}
+use Rattle.paper.specs.Sentences.{Name}
 use Rattle.paper.specs.Faults.{record-broken}
 use Rattle.paper.specs.Table.{Clear, listStages}
 use Rattle.paper.specs.Explained.{nameStart, nameStretch}
 use Rattle.paper.specs.ExplainedRight.{PieceOfList}
 use Rattle.paper.proofs.Basics.{and-false}
 use Rattle.paper.proofs.Stages.{ok-same, bind-ok}
+use Rattle.paper.proofs.Words.{not-bytes}
 use Rattle.paper.proofs.StagesInOrder.{Follows}
 use Rattle.paper.proofs.ListFaults.{list-follows}
 
@@ -78,6 +81,40 @@ module _ (r : List ℕ) (h : recordOk r ≡ true) where
       go : (b : Bool) → leb (byteAt r 0) 64 ≡ b → b ≡ true
       go true e = refl
       go false e = (simp (e, and-false) at h)
+
+-- the name of a record that keeps its layout: a word that a text can hold
+pub record Named (w : List ℕ) : Type 0 where
+  pub word : isKey w ≡ true
+  pub name : Name w
+  pub short : length w ≤ 64
+
+named-so : (r : List ℕ) → recordOk r ≡ true → Named (nameOf r)
+named-so r h =
+    record {
+      word = word (isKey (nameOf r)) refl;
+      name = (
+        not-bytes (nameOf r) (bytes "true") (not-true (sameBytes (nameOf r) (bytes "true")) refl),
+        not-bytes (nameOf r) (bytes "false") (not-false (sameBytes (nameOf r) (bytes "false")) refl),
+      );
+      short = simp length-take (omega (arith, most-bytes r h));
+    }
+  where
+    word : (b : Bool) → isKey (nameOf r) ≡ b → b ≡ true
+    word true e = refl
+    word false e = (simp (e, and-false) at h)
+
+    not-true : (b : Bool) → sameBytes (nameOf r) (bytes "true") ≡ b → b ≡ false
+    not-true true e = sym (simp (e, and-false) at h)
+    not-true false e = refl
+
+    not-false : (b : Bool) → sameBytes (nameOf r) (bytes "false") ≡ b → b ≡ false
+    not-false true e = sym (simp (e, and-false) at h)
+    not-false false e = refl
+
+pub key-named : (list : List ℕ) (ks : List Key) → keys list ≡ ok ks → (k : ℕ) (x : Key) → getElem? ks k ≡ some x → Named (x .name)
+key-named list ks listed k x there =
+    let (l, same) = key-there list ks listed k x there in
+    subst Named (sym (ap (λ (y : Key). y .name) same)) (named-so (recordAt list k) (record-kept list ks listed k l))
 
 -- bytes of a record are bytes of the list
 bytes-within : (from size n : ℕ) (s : List ℕ) → from + n ≤ size → bytesAt (take size s) from n ≡ bytesAt s from n

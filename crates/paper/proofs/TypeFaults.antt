@@ -25,22 +25,41 @@ use Rattle.paper.proofs.InOrder.{InOrder, root-place, text-in-order}
 
 -- a key that is found has a type
 
-found-there : (ks : List Key) (w : List ℕ) (m k : ℕ) → findFrom m ks w ≡ some k
-    → (i : ℕ) × (x : Key) × (k ≡ m + i) × (getElem? ks i ≡ some x)
+record FoundAt (ks : List Key) (w : List ℕ) (m k : ℕ) : Type 0 where
+  index : ℕ
+  it : Key
+  far : k ≡ m + index
+  there : getElem? ks index ≡ some it
+  named : it .name ≡ w
+
+found-there : (ks : List Key) (w : List ℕ) (m k : ℕ) → findFrom m ks w ≡ some k → FoundAt ks w m k
 found-there [] w m k h = absurd (Option·none-ne-some k h)
-found-there (x ∷ ks) w m k h = go (sameBytes (x .name) w) h (found-there ks w (suc m) k)
+found-there (x ∷ ks) w m k h = go (sameBytes (x .name) w) refl h (found-there ks w (suc m) k)
   where
-    go : (b : Bool) → cond b (some m) (findFrom (suc m) ks w) ≡ some k
-        → (findFrom (suc m) ks w ≡ some k → (i : ℕ) × (y : Key) × (k ≡ suc m + i) × (getElem? ks i ≡ some y))
-        → (i : ℕ) × (y : Key) × (k ≡ m + i) × (getElem? (x ∷ ks) i ≡ some y)
-    go true h later = (0, x, sym (Option·some-injective m k h) ∙ sym (add-zero m), refl)
-    go false h later = let (i, y, e, there) = later h in (suc i, y, omega (arith, e), there)
+    go : (b : Bool) → sameBytes (x .name) w ≡ b → cond b (some m) (findFrom (suc m) ks w) ≡ some k
+        → (findFrom (suc m) ks w ≡ some k → FoundAt ks w (suc m) k) → FoundAt (x ∷ ks) w m k
+    go true e h later =
+        record {
+          index = 0;
+          it = x;
+          far = sym (Option·some-injective m k h) ∙ sym (add-zero m);
+          there = refl;
+          named = same-bytes (x .name) w e;
+        }
+    go false e h later =
+        let f = later h in
+        record { index = suc (f .index); it = f .it; far = omega (arith, f .far); there = f .there; named = f .named }
+
+pub key-found : (ks : List Key) (w : List ℕ) (k : ℕ) → find ks w ≡ some k → (x : Key) × (getElem? ks k ≡ some x) × (x .name ≡ w)
+key-found ks w k h =
+    let f = found-there ks w 0 k h in
+    let same : k ≡ f .index = omega (arith, f .far) in
+    (f .it, ap (getElem? ks) same ∙ f .there, f .named)
 
 pub bare-found : (ks : List Key) (w : List ℕ) (k : ℕ) → find ks w ≡ some k → (a : Ty) × (bareType ks k ≡ some a)
 bare-found ks w k h =
-    let (i, x, e, there) = found-there ks w 0 k h in
-    let same : k ≡ i = omega (arith, e) in
-    (of (x .kind) (x .width), ap (Option·map (λ (x : Key). of (x .kind) (x .width))) (ap (getElem? ks) same ∙ there))
+    let (x, there, _) = key-found ks w k h in
+    (of (x .kind) (x .width), ap (Option·map (λ (x : Key). of (x .kind) (x .width))) there)
 
 -- what is known of a tree with a fault
 

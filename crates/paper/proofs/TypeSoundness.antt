@@ -5,16 +5,18 @@ use mathlib.Core.Path.{_≡_, refl, sym, ap, _∙_}
 use mathlib.Core.Logic.{_⊎_, inl, inr}
 use mathlib.Core.Bool.{Bool, true, false, not, cond, _&&_, and-false, false≢true}
 use mathlib.Core.Option.{Option, none, some, Option·map, Option·some-injective, Option·none-ne-some, Option·some-ne-none}
+use mathlib.Core.List.{List}
 use borrow.Author.Tests.{eq-eqb}
 use Rattle.paper.specs.Answers.{Answer, ok, refused, _>>=_, require, inText}
 use Rattle.paper.specs.Tokens.{bytes, sameBytes, Prefix, notSign, minusSign, Comparison}
-use Rattle.paper.specs.Keys.{kindNo, find}
-use Rattle.paper.specs.Entry.{isExact}
+use Rattle.paper.specs.Keys.{kindNo, Key, find}
+use Rattle.paper.specs.Entry.{Entry, isExact}
 use Rattle.paper.specs.Grammar as G
 use Rattle.paper.specs.Grammar.{Tree, placeOf}
 use Rattle.paper.specs.Types.{Ty, bool, int, of, sameTy, when, andThen, Field, fieldNamed, fieldType, bareType, prefixType, joinType, meet, compares, comparisonType, takes, suits, compareType, keepsBits, operatorType, comparedType, known, namedType, typeOf, rootType, typed}
 use Rattle.paper.specs.Meaning.{Value, truth, whole, matched, tyOf, bareValue, fieldValue, prefixValue, connective, inType, holds, compareValue, comparisonValue, valueOf}
 use Rattle.paper.specs.Translating.{hasType}
+use Rattle.paper.specs.LoadedBlocksRun.{Covers}
 use Rattle.paper.specs.TypeSoundness.{ValuesHaveTypes, TypedMeant, Judged}
 use Rattle.paper.proofs.Basics.{map-when}
 use Rattle.paper.proofs.Stages.{never-ok, bind-ok}
@@ -212,3 +214,15 @@ judged ks e covers t h =
     let v = typed-meant ks e covers t (root .0) (root .1) in
     let b = a-truth (v .worth) (v .type ∙ bool-root t (root .0) tt (root .2)) in
     (b .0, v .there ∙ ap (λ x. some x) (b .1))
+
+-- a tree that is worth a bool on some entry is typed
+
+has-type : (x : Answer Ty) (a : Ty) → hasType x ≡ some a → x ≡ ok a
+has-type (ok b) a e = ap (λ (c : Ty). ok c) (Option·some-injective b a e)
+has-type (refused n i at) a e = absurd (Option·none-ne-some a e)
+
+pub bool-typed : (ks : List Key) (e : Entry) → Covers ks e → (t : Tree) (b : Bool) → valueOf ks e t ≡ some (truth b) → typed ks t ≡ ok tt
+unfolding typed
+bool-typed ks e covers t b worth =
+    let is : typeOf ks t ≡ ok bool = has-type (typeOf ks t) bool (values-have-types ks e covers t ∙ ap (Option·map tyOf) worth) in
+    rw is

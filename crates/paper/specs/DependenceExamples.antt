@@ -1,22 +1,23 @@
 -- 02 n by example, with the marked keys and the marked entry: each key sways a text that names it, bare or by a field, and so does the
 -- priority; records that a text does not name sway nothing, nor does a record that is spelled out; and of refused entries none of this holds.
+-- And which operands of a text name keys, each compared with 0.
 use Prim.Native.Nat.{ℕ, _^_}
 use Prim.Native.String as S
 use mathlib.Core.Path.{_≡_}
 use mathlib.Core.Bool.{Bool, true, false}
 use mathlib.Core.List.{List, [], _∷_, _++_, map}
 use lib.ListN.{drop, replicate}
-use Rattle.paper.specs.Answers.{ok, refused, inEntry}
+use Rattle.paper.specs.Answers.{Answer, ok, refused, _>>=_, inEntry}
 use Rattle.paper.specs.Numbers.{bigEndian}
 use Rattle.paper.specs.Tokens.{bytes}
 use Rattle.paper.specs.Keys.{Kind, ternary, lpm, range, optional}
 use Rattle.paper.specs.Entry.{headSize, matchRecord}
-use Rattle.paper.specs.Calls.{judgeAnswer, translateBuffer, runAnswer}
+use Rattle.paper.specs.Calls.{tree, judgeAnswer, translateBuffer, runAnswer}
 use Rattle.paper.specs.Explained.{inPart, explainAnswer}
 use Rattle.paper.specs.Named.{summaryAnswer}
 use Rattle.paper.specs.MarkedJudgements.{theKeys, theEntry}
 use Rattle.paper.specs.Examples.{on, Agree, On}
-use Rattle.paper.specs.Dependence.{spellOut, withRecord}
+use Rattle.paper.specs.Dependence.{spellOut, withRecord, naming, againstZero}
 
 -- a text that names key k alone and holds of the marked entry, and a record of k with which it does not
 
@@ -59,6 +60,15 @@ pub record EachSways : Type 0 where
 -- the marked entry with another priority
 abbrev pub atPriority : ℕ → List ℕ
 atPriority n = bigEndian 4 n ++ drop headSize theEntry
+
+-- the operands of a text that name keys, in order, and the texts that compare them with 0
+abbrev pub zeroTexts : S.String → Answer (List (List ℕ))
+zeroTexts text = tree (bytes text) >>= λ t. ok (map againstZero (naming t))
+
+abbrev pub OperandsNamed : Type 0
+OperandsNamed =
+    zeroTexts "true; 5 == v -> !(d::mask == p) || ::priority != 3 && -r::low < 2"
+    ≡ ok (bytes "v == 0" ∷ bytes "d::mask == 0" ∷ bytes "p == 0" ∷ bytes "r::low == 0" ∷ [])
 
 pub record PrioritySways : Type 0 where
   pub named-alone : summaryAnswer (bytes "::priority == 10") theKeys ≡ ok (record { keys = 0; priority = true })
@@ -112,6 +122,7 @@ unnamedBroken = on theEntry (ok true) ∷ on (withRecord theEntry 4 (matchRecord
 pub record DependenceExamples : Type 0 where
   pub each-sways : EachSways
   pub priority-sways : PrioritySways
+  pub operands-named : OperandsNamed
   pub others-do-not : AllViolated "v == 1; d::mask == 0" othersChanged 2 16 8 20 10
   pub spelled-out-does-not : AllViolated "d::mask == 0; p::prefix_length == 0; o::mask == 0; r::high < 65535" spelledOut 4 59 51 66 21
   pub refused-not-covered : Agree (judgeAnswer (bytes "v == 1") theKeys) unnamedBroken

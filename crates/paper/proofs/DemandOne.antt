@@ -9,6 +9,7 @@ use Rattle.paper.specs.declared.Checking.{Checking}
 use Rattle.paper.specs.declared.Judgement.{Judgement}
 use Rattle.paper.specs.declared.Loading.{Loading}
 use Rattle.paper.specs.declared.Running.{Running}
+use Rattle.paper.specs.declared.Agreement.{Agreement}
 use Rattle.paper.specs.declared.Explanation.{Explanation}
 use Rattle.paper.specs.declared.Summarizing.{Summarizing}
 use Rattle.paper.specs.declared.Rechecking.{Rechecking}
@@ -22,9 +23,10 @@ use Rattle.paper.specs.Rechecking.{Rechecked, reused, judged}
 use Rattle.paper.specs.RecheckedRight.{Reusable, Rechecks, is-reused, is-judged}
 use Rattle.paper.specs.Fixing.{fixAnswer, fixingSays}
 use Rattle.paper.specs.Drafting.{nameRule, draftAnswer, draftingSays}
-use Rattle.paper.specs.Table.{Clear, ByTable, Stage, sizeStages, listStagesBy, listStages, treeStages, entryStages, blockStages, bufferStages, printingStages, fixingStages, draftingStages, checkStages, readStages, judgeStages, translateStages, loadStages, runStages, printStages, fixStages, draftStages}
-use Rattle.paper.specs.Promised.{ReadPromised, CheckPromised, JudgePromised, TranslateResult, TranslatePromised, LoadPromised, RunPromised, PrintResult, PrintPromised, FixResult, FixPromised, DraftResult, DraftPromised, ExplainPromised, SummarizePromised, RecheckPromised}
-use Rattle.paper.specs.Demands.{Lent, lent, Refusal, Answered, ReadAnswered, CheckAnswered, EntryAnswered, JudgeAnswered, TranslateAnswered, LoadAnswered, RunAnswered, PrintAnswered, FixAnswered, DraftAnswered, ExplainAnswered, SummarizeAnswered, RecheckAnswered, DemandOneMet}
+use Rattle.paper.specs.Comparing.{compareAnswer, agreementSays}
+use Rattle.paper.specs.Table.{Clear, ByTable, Stage, sizeStages, listStagesBy, listStages, treeStages, entryStages, blockStages, bufferStages, printingStages, fixingStages, draftingStages, checkStages, readStages, judgeStages, translateStages, loadStages, runStages, printStages, fixStages, draftStages, compareStages}
+use Rattle.paper.specs.Promised.{ReadPromised, CheckPromised, JudgePromised, TranslateResult, TranslatePromised, LoadPromised, RunPromised, PrintResult, PrintPromised, FixResult, FixPromised, DraftResult, DraftPromised, ComparePromised, ExplainPromised, SummarizePromised, RecheckPromised}
+use Rattle.paper.specs.Demands.{Lent, lent, Refusal, Answered, ReadAnswered, CheckAnswered, EntryAnswered, JudgeAnswered, TranslateAnswered, LoadAnswered, RunAnswered, PrintAnswered, FixAnswered, DraftAnswered, CompareAnswered, ExplainAnswered, SummarizeAnswered, RecheckAnswered, DemandOneMet}
 use Rattle.paper.proofs.TranslationCorrect.{refused-unchanged}
 use Rattle.paper.proofs.RefusalsLocated.{AllLocated, LiesIn, located-then, decided-lies, size-located, list-located-by, list-located, tree-located, check-located, buffer-located, block-located, entry-located, printing-located, fixing-located, drafting-located}
 use Rattle.paper.proofs.Table.{table-holds}
@@ -167,6 +169,13 @@ draft-answered contract table list buffer r promised =
       unchanged = draft-unchanged contract table list buffer r promised;
     }
 
+pub compare-answered : (text list blocks : List ℕ) (r : Agreement) → ComparePromised text list blocks r → CompareAnswered text list blocks r
+compare-answered text list blocks r promised =
+    let inputs = lent inText text ∷ lent inList list ∷ lent inBlocks blocks ∷ [] in
+    answered-by inputs (compareAnswer text list blocks) (agreementSays r) (compareStages text list blocks) (table-holds .compare text list blocks)
+    (located-then inputs (checkStages text list) (blockStages list blocks) (check-located inputs text list here second)
+    (λ _. block-located inputs list blocks third)) promised
+
 pub summarize-answered : (text list : List ℕ) (r : Summarizing) → SummarizePromised text list r → SummarizeAnswered text list r
 summarize-answered text list r promised =
     let inputs = lent inText text ∷ lent inList list ∷ [] in
@@ -222,4 +231,5 @@ demand-one-met p kept =
       fix = λ text buffer t b. fix-answered text buffer (p .fix text buffer) (kept .fix text buffer t b);
       draft = λ contract table list buffer c t l b.
           draft-answered contract table list buffer (p .draft contract table list buffer) (kept .draft contract table list buffer c t l b);
+      compare = λ text list blocks t l s. compare-answered text list blocks (p .compare text list blocks) (kept .compare text list blocks t l s);
     }

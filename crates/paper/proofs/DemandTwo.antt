@@ -2,10 +2,10 @@
 -- restriction holds.
 use Prim.Native.Nat.{ℕ, _+_, _*_, _≤_}
 use mathlib.Core.Path.{_≡_, refl, sym, ap, subst, _∙_}
-use mathlib.Core.Logic.{_↔_}
-use mathlib.Core.Bool.{Bool, true, false}
+use mathlib.Core.Logic.{_↔_, _⊎_, inl, inr}
+use mathlib.Core.Bool.{Bool, true, false, true≢false}
 use mathlib.Core.Option.{Option, some}
-use mathlib.Core.List.{List, [], _∷_}
+use mathlib.Core.List.{List}
 use lib.ListN.{length}
 use lib.Dec.{leb}
 use borrow.Author.Tests.{leb-true, le-leb}
@@ -16,12 +16,14 @@ use Rattle.paper.specs.declared.Checking.the-variants as C
 use Rattle.paper.specs.declared.Judgement.{Judgement}
 use Rattle.paper.specs.declared.Judgement.the-variants as J
 use Rattle.paper.specs.declared.Translation.the-variants as T
+use Rattle.paper.specs.declared.Agreement.{Agreement}
+use Rattle.paper.specs.declared.Agreement.the-variants as A
 use Rattle.paper.specs.declared.Explanation.{Explanation}
 use Rattle.paper.specs.declared.Summarizing.{Summarizing}
 use Rattle.paper.specs.declared.Summarizing.the-variants as S
 use Rattle.paper.specs.declared.Rechecking.{Rechecking}
 use Rattle.paper.specs.declared.Rechecking.the-variants as K
-use Rattle.paper.specs.Answers.{inText, Answer, ok, refused, _>>=_, readingSays, checkingSays, judgementSays, translationSays}
+use Rattle.paper.specs.Answers.{inText, Answer, ok, _>>=_, readingSays, checkingSays, judgementSays, translationSays}
 use Rattle.paper.specs.Tokens.{mostText}
 use Rattle.paper.specs.Keys.{keys}
 use Rattle.paper.specs.Entry.{entryOf}
@@ -35,13 +37,17 @@ use Rattle.paper.specs.Explained.{explanationSays}
 use Rattle.paper.specs.Named.{names, marked, setOf, Summary, summaryAnswer, summarizingSays}
 use Rattle.paper.specs.Rechecking.{saidBy, recheckingSays}
 use Rattle.paper.specs.RecheckedRight.{Summarizes}
-use Rattle.paper.specs.Promised.{verdict, ReadPromised, CheckPromised, JudgePromised, TranslateResult, TranslatePromised, ExplainPromised, SummarizePromised, RecheckPromised}
-use Rattle.paper.specs.Demands.{Checkable, Judgeable, Refuses, ReadRight, CheckedRight, JudgedRight, TranslatedRight, ExplainRight, SummarizeRight, judgementIn, RecheckRight, DemandTwoMet}
+use Rattle.paper.specs.Loading.{loaded}
+use Rattle.paper.specs.TranslationCorrect.{verdictOf}
+use Rattle.paper.specs.Comparing.{compareAnswer, agreementSays, agreement}
+use Rattle.paper.specs.ComparedRight as Q
+use Rattle.paper.specs.Promised.{verdict, judgementOfRun, Bytes, Programs, Kept, ComparePromised, ReadPromised, CheckPromised, JudgePromised, TranslateResult, TranslatePromised, ExplainPromised, SummarizePromised, RecheckPromised}
+use Rattle.paper.specs.Demands.{Checkable, Judgeable, Refuses, ReadRight, CheckedRight, JudgedRight, TranslatedRight, Comparable, CompareRight, AgreementMeans, ExplainRight, SummarizeRight, judgementIn, RecheckRight, DemandTwoMet}
 use Rattle.paper.proofs.Stages.{never-ok, ok-same, bind-ok, require-ok}
 use Rattle.paper.proofs.LoadedBlocksRun.{conforming}
 use Rattle.paper.proofs.TypeSoundness.{judged, bool-root}
 use Rattle.paper.proofs.TranslationCorrect.{passing, counted, translating, translates, translated}
-use Rattle.paper.proofs.Promised.{verdict-says, reading-same, checking-same, judgement-same, translation-same, summarizing-same}
+use Rattle.paper.proofs.Promised.{verdict-says, reading-same, checking-same, judgement-of-run, judgement-same, translation-same, agreement-says, agreement-same, summarizing-same}
 use Rattle.paper.proofs.WellFormed.{formed-tree, tree-formed, formed-answer, answer-formed}
 use Rattle.paper.proofs.PrintDemands.{printed-right}
 use Rattle.paper.proofs.FixDemands.{fixes-right}
@@ -50,6 +56,7 @@ use Rattle.paper.proofs.DraftsMean.{draft-means}
 use Rattle.paper.proofs.RunsRight.{ran-right}
 use Rattle.paper.proofs.ExplainedRight.{explained-is-right}
 use Rattle.paper.proofs.RecheckedRight.{summary, summary-there, summarizes, reused-exactly, fresh-if-true}
+use Rattle.paper.proofs.Compared.{agrees-exactly, compared, comparable, agreement-means-equal}
 use Rattle.paper.proofs.DemandOne.{recheck-judged}
 
 -- with a list, it passes a check: this is its restriction
@@ -236,6 +243,81 @@ module _ (text list : List ℕ) (r : Summarizing) (promised : SummarizePromised 
             subst (Summarizes (c .ks) (c .root)) (ok-same s given (sym there ∙ sym promised ∙ ap summarizingSays e)) right;
       }
 
+-- a comparison: of a text that passes and blocks that load with the keys of its restriction
+
+module _ (text list blocks : List ℕ) where
+  abbrev with-rule : Comparable text list blocks → Q.Comparable text list blocks
+  with-rule c =
+      record {
+        rule = restricts text list (c .passes);
+        passes = checkable-restriction text list (c .passes);
+        ps = c .ps;
+        divided = c .divided;
+        count = c .count;
+        loads = c .loads;
+      }
+
+  answer-comparable : (b : Bool) → compareAnswer text list blocks ≡ ok b → Comparable text list blocks
+  answer-comparable b e =
+      let q = comparable text list blocks b e in
+      let (c, same) = restriction-checkable text list (q .rule) (q .passes) in
+      record {
+        passes = c;
+        ps = q .ps;
+        divided = q .divided;
+        count = q .count;
+        loads = ap (λ (r : Restriction). loaded (r .keys) blocks) same ∙ q .loads;
+      }
+
+  either-way : (r : Agreement) (b : Bool) → r ≡ agreement b → (r ≡ A.Agrees) ⊎ (r ≡ A.Differs)
+  either-way r true e = inl e
+  either-way r false e = inr e
+
+  module _ (s : Bytes blocks) (r : Agreement) (promised : ComparePromised text list blocks r) where
+    said-compared : (b : Bool) → r ≡ agreement b → compareAnswer text list blocks ≡ ok b
+    said-compared b e = sym promised ∙ ap agreementSays e ∙ agreement-says b
+
+    compared-said : (b : Bool) → compareAnswer text list blocks ≡ ok b → r ≡ agreement b
+    compared-said b e = agreement-same r (agreement b) (promised ∙ e ∙ sym (agreement-says b))
+
+    one-said : (r ≡ A.Agrees) ⊎ (r ≡ A.Differs) → Comparable text list blocks
+    one-said (inl e) = answer-comparable true (said-compared true e)
+    one-said (inr e) = answer-comparable false (said-compared false e)
+
+    pub compare-right : CompareRight text list blocks r
+    compare-right =
+        record {
+          compares = (one-said, λ c. let (b, e) = compared text list blocks (with-rule c) in either-way r b (compared-said b e));
+          agrees = λ c.
+              let (there, back) = agrees-exactly text list blocks s (with-rule c) in
+              (λ e. there (said-compared true e), λ o. compared-said true (back o));
+        }
+
+  -- what a result that is right says
+
+  module _ (s : Bytes blocks) (r : Agreement) (right : CompareRight text list blocks r) where
+    right-agrees : Comparable text list blocks → (r ≡ A.Agrees) ↔ (compareAnswer text list blocks ≡ ok true)
+    right-agrees c =
+        let (there, back) = agrees-exactly text list blocks s (with-rule c) in
+        let (ours, said) = right .agrees c in
+        (λ e. back (ours e), λ e. said (there e))
+
+    pub right-compared : (b : Bool) → compareAnswer text list blocks ≡ ok b → r ≡ agreement b
+    right-compared true e = right-agrees (answer-comparable true e) .1 e
+    right-compared false e = let c = answer-comparable false e in go (right-agrees c .0) (right .compares .1 c)
+      where
+        go : (r ≡ A.Agrees → compareAnswer text list blocks ≡ ok true) → (r ≡ A.Agrees) ⊎ (r ≡ A.Differs) → r ≡ A.Differs
+        go agreed (inl h) = absurd (true≢false (ok-same true false (sym (agreed h) ∙ e)))
+        go agreed (inr h) = h
+
+agreement-means : (p : Programs) → Kept p → (text list blocks : List ℕ) → Bytes text → Bytes list → Bytes blocks → AgreementMeans p text list blocks
+agreement-means p kept text list blocks t l s e entry en =
+    judgement-same (judgementOfRun (p .run list blocks entry)) (p .judge text list entry)
+    (judgement-of-run (p .run list blocks entry)
+    ∙ ap verdictOf (kept .run list blocks entry l s en)
+    ∙ agreement-means-equal text list blocks s (sym (kept .compare text list blocks t l s) ∙ ap agreementSays e) entry
+    ∙ sym (kept .judge text list entry t l en))
+
 -- a recheck: what it says is what the judgement in it says
 
 said-in : (r : Rechecking) → judgementSays (judgementIn r) ≡ saidBy (recheckingSays r)
@@ -272,4 +354,6 @@ demand-two-met p kept =
       drafts = λ contract table list buffer c t l b.
           drafts-right contract table list buffer (p .draft contract table list buffer) (kept .draft contract table list buffer c t l b);
       drafts-mean = draft-means p kept;
+      compares = λ text list blocks t l s. compare-right text list blocks s (p .compare text list blocks) (kept .compare text list blocks t l s);
+      agreement-means = agreement-means p kept;
     }

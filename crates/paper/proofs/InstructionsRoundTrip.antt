@@ -25,7 +25,7 @@ use Rattle.paper.proofs.Digits.{drop-on, byte-there, number-back, Small
 
 -- by its parts
 
-named-back : (i : Instruction) → instructionNamed (partsOf i) ≡ some i
+pub named-back : (i : Instruction) → instructionNamed (partsOf i) ≡ some i
 named-back (pushBool true) = refl
 named-back (pushBool false) = refl
 named-back (pushInt n) = refl

@@ -119,6 +119,14 @@ pub mod PartsCut
 pub mod PartsDecide
 pub mod PartsTyped
 pub mod PartsInText
+pub mod PartsJoined
+pub mod Orders
+pub mod Ends
+pub mod Sole
+pub mod Records
+pub mod Fitting
+pub mod Compared
+pub mod CompareExamples
 pub mod RecordsRefused
 pub mod NamesInList
 pub mod Depends
@@ -152,6 +160,8 @@ pub mod WrongFixers
 pub mod WrongFixersExist
 pub mod WrongCheckers
 pub mod WrongDrafters
+pub mod WrongComparers
+pub mod WrongComparersExist
 pub mod WrongRecheckersExist
 pub mod WrongExplainersExist
 pub mod PiecesRight

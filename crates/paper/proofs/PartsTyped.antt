@@ -20,7 +20,7 @@ use Rattle.paper.proofs.TypeSoundness.{bool-root}
 use Rattle.paper.proofs.PartsCut.{text-is-its-parts}
 
 -- the trees of a text's parts are joined into its own
-roots-joined : (text : List ℕ) (t : Tree) (ps : List Part) → tree text ≡ ok t → parts text ≡ ok ps → JoinedLeft (roots ps) t
+pub roots-joined : (text : List ℕ) (t : Tree) (ps : List Part) → tree text ≡ ok t → parts text ≡ ok ps → JoinedLeft (roots ps) t
 roots-joined text t ps read have =
     let (qs, made, joins) = text-is-its-parts text t read in
     subst (λ (us : List Part). JoinedLeft (roots us) t) (ok-same qs ps (sym made ∙ have)) joins
@@ -34,22 +34,22 @@ takes-bools at int b c h = absurd (never-ok h)
 takes-bools at (of k w) b c h = absurd (never-ok h)
 
 module _ (ks : List Key) where
-  abbrev Right : Tree → Type 0
+  abbrev pub Right : Tree → Type 0
   Right t = typed ks t ≡ ok tt
 
   -- that is, it is a bool
 
-  is-bool : (t : Tree) → Right t → typeOf ks t ≡ ok bool
+  pub is-bool : (t : Tree) → Right t → typeOf ks t ≡ ok bool
   unfolding typed
   is-bool t h =
       let (a, is, root) = bind-ok (typeOf ks t) (rootType t) tt h in
       is ∙ ap ok (bool-root t a tt root)
 
-  right : (t : Tree) → typeOf ks t ≡ ok bool → Right t
+  pub right : (t : Tree) → typeOf ks t ≡ ok bool → Right t
   unfolding typed
   right t e = rw e
 
-  sides : (at : ℕ) (l r : Tree) → Right (joined at sequel l r) → Right l × Right r
+  pub sides : (at : ℕ) (l r : Tree) → Right (joined at sequel l r) → Right l × Right r
   unfolding typeOf
   sides at l r h =
       let (a, left, rest) = bind-ok (typeOf ks l) (λ a. typeOf ks r >>= λ b. operatorType at (joinType a b)) bool (is-bool (joined at sequel l r) h) in

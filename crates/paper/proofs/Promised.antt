@@ -24,6 +24,8 @@ use Rattle.paper.specs.declared.Fixing.{Fixing}
 use Rattle.paper.specs.declared.Fixing.the-variants as F
 use Rattle.paper.specs.declared.Drafting.{Drafting}
 use Rattle.paper.specs.declared.Drafting.the-variants as D
+use Rattle.paper.specs.declared.Agreement.{Agreement}
+use Rattle.paper.specs.declared.Agreement.the-variants as A
 use Rattle.paper.specs.declared.Explanation.{Explanation}
 use Rattle.paper.specs.declared.Explanation.the-variants as X
 use Rattle.paper.specs.declared.Summarizing.{Summarizing}
@@ -39,6 +41,7 @@ use Rattle.paper.specs.Named.{Summary, summaryAnswer, summarizingSays}
 use Rattle.paper.specs.Rechecking.{Rechecked, reused, judged, recheckAnswer, recheckingSays}
 use Rattle.paper.specs.Fixing.{fixAnswer, fixBuffer, fixingSays}
 use Rattle.paper.specs.Drafting.{draftAnswer, draftBuffer, draftingSays}
+use Rattle.paper.specs.Comparing.{compareAnswer, agreementSays, agreement}
 use Rattle.paper.specs.Promised.{ExplainPromised, RecheckPromised, verdict, verdictIn, judgementOfRun, Sole, NoSecondResult, CanBeKept}
 
 -- places
@@ -194,6 +197,18 @@ draftings = record { good = D.Drafted; refusal = D.Refused; good-says = λ n. re
     go (D.Drafted n) = is-good n
     go (D.Refused n p) = is-refusal n p
 
+pub agreement-says : (b : Bool) → agreementSays (agreement b) ≡ ok b
+agreement-says true = refl
+agreement-says false = refl
+
+agreements : Enum agreementSays
+agreements = record { good = agreement; refusal = A.Refused; good-says = agreement-says; refusal-says = λ n p. refl; either = go }
+  where
+    go : (r : Agreement) → Either agreement A.Refused r
+    go A.Agrees = is-good true
+    go A.Differs = is-good false
+    go (A.Refused n p) = is-refusal n p
+
 summaries : Enum summarizingSays
 summaries =
     record {
@@ -305,6 +320,9 @@ fixing-same = same-says fixingSays fixings
 pub drafting-same : (r s : Drafting) → draftingSays r ≡ draftingSays s → r ≡ s
 drafting-same = same-says draftingSays draftings
 
+pub agreement-same : (r s : Agreement) → agreementSays r ≡ agreementSays s → r ≡ s
+agreement-same = same-says agreementSays agreements
+
 pub summarizing-same : (r s : Summarizing) → summarizingSays r ≡ summarizingSays s → r ≡ s
 summarizing-same = same-says summarizingSays summaries
 
@@ -315,6 +333,9 @@ explanation-same r s h = sym (says-for r) ∙ ap explanationFor h ∙ says-for s
 
 pub one-checking : (a : Answer (Unit {0})) → Sole (λ r. checkingSays r ≡ a)
 one-checking = one-says checkingSays checkings
+
+pub one-agreement : (a : Answer Bool) → Sole (λ r. agreementSays r ≡ a)
+one-agreement = one-says agreementSays agreements
 
 -- calls
 
@@ -357,6 +378,7 @@ no-second-result =
             satisfies = record { says = answer .satisfies; holds = refl };
             no-second = λ r h i. record { answer = answer .no-second (r .answer) (h .says) i; buffer = h .holds i };
           };
+      compare = λ text list blocks. one-agreement (compareAnswer text list blocks);
     }
 
 pub can-be-kept : CanBeKept
@@ -375,6 +397,7 @@ can-be-kept =
         recheck = λ text list old earlier new. s .recheck text list old earlier new .result;
         fix = λ text buffer. s .fix text buffer .result;
         draft = λ contract table list buffer. s .draft contract table list buffer .result;
+        compare = λ text list blocks. s .compare text list blocks .result;
       },
       record {
         read = λ text _. s .read text .satisfies;
@@ -389,5 +412,6 @@ can-be-kept =
         recheck = λ text list old earlier new _ _ _ _. s .recheck text list old earlier new .satisfies;
         fix = λ text buffer _ _. s .fix text buffer .satisfies;
         draft = λ contract table list buffer _ _ _ _. s .draft contract table list buffer .satisfies;
+        compare = λ text list blocks _ _ _. s .compare text list blocks .satisfies;
       },
     )

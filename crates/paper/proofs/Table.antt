@@ -1,8 +1,8 @@
 -- Each call refuses exactly as the table of numbers says, and passes exactly when no stage has a fault.
-use Prim.Native.Nat.{ℕ, _*_}
+use Prim.Native.Nat.{ℕ, _-_, _*_}
 use native.Mathlib.Omega.{arith}
 use mathlib.Core.Path.{_≡_, refl}
-use mathlib.Core.Bool.{true}
+use mathlib.Core.Bool.{Bool, true}
 use mathlib.Core.List.{List, [], _∷_, _++_}
 use lib.ListN.{length}
 use lib.Dec.{leb}
@@ -22,8 +22,10 @@ use Rattle.paper.specs.Calls.{sized, tree, Restriction, restriction, rea
 use Rattle.paper.specs.Named.{names, marked, setOf, Summary, summaryAnswer}
 use Rattle.paper.specs.Fixing.{oldScan, oldTokens, fixed, fixable, fixAnswer}
 use Rattle.paper.specs.Drafting.{draftAnswer}
+use Rattle.paper.specs.Parts.{Part, parts}
+use Rattle.paper.specs.Comparing.{recordsIn, fits, partCodes, compareAnswer}
 use Rattle.paper.specs.Faults.{Faults, TextSize, text-over, TokenFaults, TextTokens, TextGrammar, BufferSize, buffer-short, LendingSize}
-use Rattle.paper.specs.Table.{Free, stage, Given, sizeStages, listStages, treeStages, typeStages, bufferStages, blockStages, entryStages, readStages, checkStages, judgeStages, translateStages, loadStages, runStages, printingStages, printStages, fixingStages, fixStages, draftStages, TableHolds}
+use Rattle.paper.specs.Table.{Free, stage, Given, sizeStages, listStages, treeStages, typeStages, bufferStages, blockStages, entryStages, readStages, checkStages, judgeStages, translateStages, loadStages, runStages, printingStages, printStages, fixingStages, fixStages, draftStages, compareStages, TableHolds}
 use Rattle.paper.proofs.TranslationCorrect.{passing}
 use Rattle.paper.proofs.Refusals.{parsed-is-right}
 use Rattle.paper.proofs.StagesInOrder.{Tells, test-tells, exact-tells, given-tells, Follows, follows-one, follows-as, follows-then, by-table}
@@ -34,6 +36,7 @@ use Rattle.paper.proofs.EntryFaults.{entry-follows}
 use Rattle.paper.proofs.CodeFaults.{blocks-follow, load-follows}
 use Rattle.paper.proofs.LendingFaults.{lending-tells}
 use Rattle.paper.proofs.DraftFaults.{draft-follows}
+use Rattle.paper.proofs.PartsCut.{text-is-its-parts}
 
 -- 1
 
@@ -175,6 +178,19 @@ summarize-follows text list =
     let summary : Restriction → Summary = λ r. record { keys = setOf (names (r .keys) (r .root)); priority = marked (r .root) } in
     follows-as (checkStages text list) (restriction text list) summary (restriction-follows text list)
 
+-- a text that is read has parts: nothing is refused between the text and the blocks
+compare-follows : (text list blocks : List ℕ) → Follows (compareStages text list blocks) (compareAnswer text list blocks)
+unfolding compareAnswer
+compare-follows text list blocks =
+    let agrees : Restriction → List Part → Bool = λ r ps. fits (length ps - 1) (partCodes (r .keys) ps) (recordsIn blocks) in
+    follows-then (checkStages text list) (blockStages list blocks) (restriction text list)
+    (λ r. parts text >>= λ ps. loaded (r .keys) blocks >>= λ _. ok (agrees r ps)) (restriction-follows text list)
+    (λ r passed.
+    let known = passing text list r passed in
+    let (ps, divided, _) = text-is-its-parts text (r .root) (known .read) in
+    rw divided
+    (follows-as (blockStages list blocks) (loaded (r .keys) blocks) (λ _. agrees r ps) (blocks-follow list (r .keys) blocks (known .listed))))
+
 pub table-holds : TableHolds
 table-holds =
     record {
@@ -190,4 +206,6 @@ table-holds =
       fix = λ text buffer. by-table (fixStages text buffer) (fixAnswer text buffer) (fix-follows text buffer);
       draft = λ contract table list buffer.
           by-table (draftStages contract table list buffer) (draftAnswer contract table list buffer) (draft-follows contract table list buffer);
+      compare = λ text list blocks.
+          by-table (compareStages text list blocks) (compareAnswer text list blocks) (compare-follows text list blocks);
     }

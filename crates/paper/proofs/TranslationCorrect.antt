@@ -19,7 +19,7 @@ use Rattle.paper.specs.Types.{bool, typeOf, rootType, typed}
 use Rattle.paper.specs.Meaning.{Value, truth, valueOf, isTrue}
 use Rattle.paper.specs.Code.{Instruction, ends, mostHeld}
 use Rattle.paper.specs.Blocks.{blockSize, blocksNeeded, blocksOf}
-use Rattle.paper.specs.Loading.{program, typesAlong, loaded, Step, done, after, runAlong}
+use Rattle.paper.specs.Loading.{program, typesAlong, loaded, Step, done, after, runFrom, runAlong}
 use Rattle.paper.specs.Translating.{codeOf, conversions, joins, stepsOf}
 use Rattle.paper.specs.Calls.{sized, tree, Restriction, restriction, checkAnswer, judgeAnswer, translatable, translateAnswer, over, filled, translateBuffer, loadAnswer, ranTo, runAnswer}
 use Rattle.paper.specs.LoadedBlocksRun.{Covers}
@@ -67,6 +67,19 @@ after-done : (path : List Step) (held : List Value) → afterAll path (done [] h
 after-done [] held = refl
 after-done (p ∷ path) held = ap (after p) (after-done path held)
 
+-- the code of a tree that has the right types, on an entry: what judging says, with the steps
+
+module _ (ks : List Key) (t : Tree) where
+  abbrev pub judgedOf : Entry → Ran
+  judgedOf e = record { accepted = isTrue (valueOf ks e t); steps = stepsOf ks e t }
+
+  pub code-ran : typed ks t ≡ ok tt → needs t ≤ mostHeld → (e : Entry) → Covers ks e → ranTo (runAlong ks e (map some (codeOf ks t))) ≡ judgedOf e
+  unfolding runAlong runFrom
+  code-ran right room e covers =
+      let v = judged ks e covers t right in
+      let (path, many, to) = code-pushes-value ks e covers t (truth (v .0)) (v .1) [] (omega (arith, room)) 0 [] in
+      rw (← append-nil (map some (codeOf ks t)), to, after-done path (truth (v .0) ∷ []), many, v .1)
+
 -- its blocks
 
 nodes-some : (t : Tree) → 1 ≤ nodes t
@@ -107,7 +120,7 @@ module _ (text list : List ℕ) (r : Restriction) (passed : restriction text lis
   pub counted : length code ≡ nodes t + conversions ks t + joins t
   counted = code-counted ks t bool a-bool
 
-  short : length code ≤ mostTranslated
+  pub short : length code ≤ mostTranslated
   unfolding tree
   short =
       let a = bind-ok (tokens text) (parsed (length text)) t (known .read) in
@@ -130,21 +143,13 @@ module _ (text list : List ℕ) (r : Restriction) (passed : restriction text lis
   unfolding loaded
   loads = rw (written .passes, types-end, written .total)
 
-  -- what judging says of an entry, with the steps
-  abbrev judgedOf : Entry → Ran
-  judgedOf e = record { accepted = isTrue (valueOf ks e t); steps = stepsOf ks e t }
-
-  ran : (e : Entry) → Covers ks e → ranTo (runAlong ks e (program blocks)) ≡ judgedOf e
-  unfolding runAlong
-  ran e covers =
-      let v = judged ks e covers t (known .checked) in
-      let (path, many, to) = code-pushes-value ks e covers t (truth (v .0)) (v .1) [] (omega (arith, room)) 0 [] in
-      rw (read-back, to, after-done path (truth (v .0) ∷ []), many, v .1)
+  ran : (e : Entry) → Covers ks e → ranTo (runAlong ks e (program blocks)) ≡ judgedOf ks t e
+  ran e covers = rw (written .back) (code-ran ks t (known .checked) room e covers)
 
   module _ (entry : List ℕ) where
     -- with what is known of the entry
     alike : (x : Answer Entry) → entryOf ks entry ≡ x
-        → (x >>= λ e. ok (ranTo (runAlong ks e (program blocks)))) ≡ (x >>= λ e. ok (judgedOf e))
+        → (x >>= λ e. ok (ranTo (runAlong ks e (program blocks)))) ≡ (x >>= λ e. ok (judgedOf ks t e))
     alike (ok e) h = ap (λ a. ok a) (ran e (conforming ks entry e h))
     alike (refused n i at) h = refl
 
@@ -152,15 +157,15 @@ module _ (text list : List ℕ) (r : Restriction) (passed : restriction text lis
     unfolding runAnswer
     runs = rw (known .listed, loads)
 
-    judged-so : judgedInSteps text list entry ≡ (entryOf ks entry >>= λ e. ok (judgedOf e))
+    judged-so : judgedInSteps text list entry ≡ (entryOf ks entry >>= λ e. ok (judgedOf ks t e))
     unfolding judgedInSteps
     judged-so = rw passed
 
-    verdict-so : verdictOf (entryOf ks entry >>= λ e. ok (judgedOf e)) ≡ judgeAnswer text list entry
+    verdict-so : verdictOf (entryOf ks entry >>= λ e. ok (judgedOf ks t e)) ≡ judgeAnswer text list entry
     unfolding judgeAnswer
-    verdict-so = rw passed (bind-again (entryOf ks entry) (λ e. ok (judgedOf e)) (λ a. ok (a .accepted)))
+    verdict-so = rw passed (bind-again (entryOf ks entry) (λ e. ok (judgedOf ks t e)) (λ a. ok (a .accepted)))
 
-    runs-alike : runAnswer list blocks entry ≡ (entryOf ks entry >>= λ e. ok (judgedOf e))
+    runs-alike : runAnswer list blocks entry ≡ (entryOf ks entry >>= λ e. ok (judgedOf ks t e))
     runs-alike = runs ∙ alike (entryOf ks entry) refl
 
   carries : Carries text list blocks (length code)
@@ -177,15 +182,21 @@ module _ (text list : List ℕ) (r : Restriction) (passed : restriction text lis
   abbrev size : ℕ
   size = blockSize * blocksNeeded (length code)
 
+  in-front : (buffer : List ℕ) → take size (over blocks buffer) ≡ blocks
+  in-front buffer = take-at blocks (drop (length blocks) buffer) size (written .size)
+
+  written-there : (buffer : List ℕ) → translateBuffer text list buffer ≡ over blocks buffer
+      → Written (length ks) code (take size (translateBuffer text list buffer))
+  written-there buffer e = rw (e, in-front buffer) written
+
   in-buffer : (buffer : List ℕ) → size ≤ length buffer → translateBuffer text list buffer ≡ over blocks buffer → Filled text list buffer (length code)
   in-buffer buffer room e =
       let rest = drop (length blocks) buffer in
-      let front : take size (over blocks buffer) ≡ blocks = take-at blocks rest size (written .size) in
       let back : drop size (over blocks buffer) ≡ rest = drop-at blocks rest size (written .size) in
       record {
         few = short;
         room = room;
-        carries = rw (e, front) carries;
+        carries = rw (e, in-front buffer) carries;
         later = rw (e, back, written .size);
         size = rw e (length-append blocks rest ∙ omega (arith, length-drop (length blocks) buffer, written .size));
       }
@@ -230,6 +241,17 @@ translation-carries text list buffer n h =
     let a = bind-ok (restriction text list) (translating buffer) n (sym (translates text list buffer) ∙ h) in
     let b = translated buffer (a .0) n (a .2) in
     subst (Filled text list buffer) (b .0) (in-buffer text list (a .0) (a .1) buffer (b .1) (fills text list buffer (a .0) (a .1) (b .1)))
+
+-- and the blocks in the buffer are those of its code
+pub translation-written : (text list buffer : List ℕ) (n : ℕ) → translateAnswer text list buffer ≡ ok n
+    → (r : Restriction) × (restriction text list ≡ ok r)
+    × Written (length (r .keys)) (codeOf (r .keys) (r .root)) (take (blockSize * blocksNeeded n) (translateBuffer text list buffer))
+translation-written text list buffer n h =
+    let (r, passed, rest) = bind-ok (restriction text list) (translating buffer) n (sym (translates text list buffer) ∙ h) in
+    let (many, room) = translated buffer r n rest in
+    let holds : ℕ → Type 0 =
+    λ m. Written (length (r .keys)) (codeOf (r .keys) (r .root)) (take (blockSize * blocksNeeded m) (translateBuffer text list buffer)) in
+    (r, passed, subst holds many (written-there text list r passed buffer (fills text list buffer r passed room)))
 
 pub checked-translates : CheckedTranslates
 unfolding checkAnswer

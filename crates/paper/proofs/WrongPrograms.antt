@@ -1,7 +1,7 @@
 -- The wrong programs fail, each at an input: the cases 2 and 7 of the marked judgements, `true` with no keys, `true; v == 0`, for printers
 -- `a;b`, `!(a==b)`, `0x10` and `ipv4('0.0.0.16')`, for explainers the texts of WrongExplainers, for summaries and rechecks those of
--- WrongRecheckers, for ways with skips the blocks of WrongRunners, for passes and checkers the texts of WrongFixers and WrongCheckers, and for
--- translations the contracts of WrongDrafters.
+-- WrongRecheckers, for ways with skips the blocks of WrongRunners, for passes and checkers the texts of WrongFixers and WrongCheckers, for
+-- translations the contracts of WrongDrafters, and for comparisons the texts and blocks of WrongComparers.
 use Prim.Native.Nat.{ℕ, zero, suc, _+_, _*_, _≤_}
 use native.Mathlib.Omega.{arith}
 use mathlib.Core.Path.{_≡_, refl, sym, ap, subst, _∙_}
@@ -37,7 +37,7 @@ use Rattle.paper.specs.RecheckedRight.{Summarizes}
 use Rattle.paper.specs.WrongExplainers.{Right}
 use Rattle.paper.specs.WrongRecheckers.{RechecksRight, SummarizesRight}
 use Rattle.paper.specs.WrongRunners.{RunsRight}
-use Rattle.paper.specs.WrongPrograms.{RefusesAll, AcceptsAll, WritesNothing, FirstPartOnly, PassesNothing, PassesAll, WantsAllBlocks, CountsRight, Lends, CopiesText, LeavesParentheses, EnclosesAll, WritesAndForSequel, ForgetsBases, WritesAddressesInHex, explainer, NamesLastPart, FollowsLeftSpine, ShowsKeyForPriority, RechecksNever, RechecksAlways, RechecksEqual, RechecksUnranked, RechecksReadings, NamesPriority, NamesBareOnly, StepsByCode, SkipsKeepBool, LandsByHeight, FixesStrings, FixesComments, FixesWithZeros, FixesToDecimal, ChecksReduced, ChecksRightOperands, ChecksAtOperator, ChecksAboveZero, DraftsLastInverted, DraftsFromRight, DraftsInclusive, DraftsByAnd, WrongProgramsFail, NoWrongProgram, paddedText, paddedBlocks, PaddingSeen}
+use Rattle.paper.specs.WrongPrograms.{RefusesAll, AcceptsAll, WritesNothing, FirstPartOnly, PassesNothing, PassesAll, WantsAllBlocks, CountsRight, Lends, CopiesText, LeavesParentheses, EnclosesAll, WritesAndForSequel, ForgetsBases, WritesAddressesInHex, explainer, NamesLastPart, FollowsLeftSpine, ShowsKeyForPriority, RechecksNever, RechecksAlways, RechecksEqual, RechecksUnranked, RechecksReadings, NamesPriority, NamesBareOnly, StepsByCode, SkipsKeepBool, LandsByHeight, FixesStrings, FixesComments, FixesWithZeros, FixesToDecimal, ChecksReduced, ChecksRightOperands, ChecksAtOperator, ChecksAboveZero, DraftsLastInverted, DraftsFromRight, DraftsInclusive, DraftsByAnd, AgreesAlways, DiffersAlways, ComparesFromFront, ComparesTwice, ComparesAnyShape, WrongProgramsFail, NoWrongProgram, paddedText, paddedBlocks, PaddingSeen}
 use Rattle.paper.proofs.Stages.{never-ok, ok-same}
 use Rattle.paper.proofs.LayoutPassed.{first-counted}
 use Rattle.paper.proofs.Table.{table-holds}
@@ -55,6 +55,7 @@ use Rattle.paper.proofs.WrongRunners.{wrong-runners-fail}
 use Rattle.paper.proofs.WrongFixers.{wrong-fixers-fail}
 use Rattle.paper.proofs.WrongCheckers.{keys-bytes, wrong-checkers-fail}
 use Rattle.paper.proofs.WrongDrafters.{wrong-drafters-fail}
+use Rattle.paper.proofs.WrongComparers.{wrong-comparers-fail}
 
 -- what demand 2 says of an entry that is judged
 by-demand-two : (p : Programs) → DemandTwo p → (text list entry : List ℕ) → Bytes text → Bytes list → Bytes entry → (b : Bool) → judgeAnswer text list entry ≡ ok b
@@ -425,6 +426,23 @@ taking-inclusive-fails p two takes = wrong-drafters-fail .inclusive (p .draft) t
 joining-by-and-fails : (p : Programs) → DemandTwo p → ¬ DraftsByAnd p
 joining-by-and-fails p two joins = wrong-drafters-fail .joining-by-and (p .draft) joins (two .drafts)
 
+-- and of comparisons
+
+always-agreeing-fails : (p : Programs) → DemandTwo p → ¬ AgreesAlways p
+always-agreeing-fails p two agrees = wrong-comparers-fail .agreeing (p .compare) agrees (two .compares)
+
+always-differing-fails : (p : Programs) → DemandTwo p → ¬ DiffersAlways p
+always-differing-fails p two differs = wrong-comparers-fail .differing (p .compare) differs (two .compares)
+
+matching-from-front-fails : (p : Programs) → DemandTwo p → ¬ ComparesFromFront p
+matching-from-front-fails p two matches = wrong-comparers-fail .from-front (p .compare) matches (two .compares)
+
+using-twice-fails : (p : Programs) → DemandTwo p → ¬ ComparesTwice p
+using-twice-fails p two uses = wrong-comparers-fail .twice (p .compare) uses (two .compares)
+
+ignoring-shape-fails : (p : Programs) → DemandTwo p → ¬ ComparesAnyShape p
+ignoring-shape-fails p two ignores = wrong-comparers-fail .shape (p .compare) ignores (two .compares)
+
 pub wrong-programs-fail : WrongProgramsFail
 wrong-programs-fail p =
     record {
@@ -467,6 +485,11 @@ wrong-programs-fail p =
       joining-right = joining-right-fails p;
       taking-inclusive = taking-inclusive-fails p;
       joining-by-and = joining-by-and-fails p;
+      always-agreeing = always-agreeing-fails p;
+      always-differing = always-differing-fails p;
+      matching-from-front = matching-from-front-fails p;
+      using-twice = using-twice-fails p;
+      ignoring-shape = ignoring-shape-fails p;
     }
 
 pub no-wrong-program : NoWrongProgram
@@ -513,6 +536,11 @@ no-wrong-program p kept =
       joining-right = joining-right-fails p two;
       taking-inclusive = taking-inclusive-fails p two;
       joining-by-and = joining-by-and-fails p two;
+      always-agreeing = always-agreeing-fails p two;
+      always-differing = always-differing-fails p two;
+      matching-from-front = matching-from-front-fails p two;
+      using-twice = using-twice-fails p two;
+      ignoring-shape = ignoring-shape-fails p two;
     }
 
 padded-loads : loadAnswer theKeys paddedBlocks ≡ ok 3

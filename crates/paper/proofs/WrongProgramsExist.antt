@@ -39,7 +39,8 @@ use Rattle.paper.specs.WrongFixers.{Fixer}
 use Rattle.paper.specs.BitsKept.{ComparisonRule, ruleBefore}
 use Rattle.paper.specs.WrongCheckers.{Checker, TypesBy, rightAlone, atOperator, aboveZero}
 use Rattle.paper.specs.WrongDrafters.{Drafter, Maker, Makes, lastMade, rightMade, inclusiveMade, andMade}
-use Rattle.paper.specs.WrongPrograms.{FirstPartOnly, WantsAllBlocks, StepsByCode, CountsRight, Lends, partOf, checking, judging, translating, loading, running, printing, explaining, summarizing, rechecking, fixing, drafting, OthersKept, ThereIs, WrongProgramsExist}
+use Rattle.paper.specs.WrongComparers.{Comparer, Rule, SaysBy, agreed, differing, fromFront}
+use Rattle.paper.specs.WrongPrograms.{FirstPartOnly, WantsAllBlocks, StepsByCode, CountsRight, Lends, partOf, checking, judging, translating, loading, running, printing, explaining, summarizing, rechecking, fixing, drafting, comparing, OthersKept, ThereIs, WrongProgramsExist}
 use Rattle.paper.proofs.Promised.{placeAt, explanationFor, translation-same, can-be-kept}
 use Rattle.paper.proofs.ByteLists.{zero-bytes, all-bytes}
 use Rattle.paper.proofs.LoadedBlocksRun.{load-counts}
@@ -50,6 +51,7 @@ use Rattle.paper.proofs.WrongRecheckersExist.{never-real, always-real, 
 use Rattle.paper.proofs.WrongFixersExist.{strings-real, comments-real, dropped-real, zeros-real}
 use Rattle.paper.proofs.WrongCheckers.{checker-real}
 use Rattle.paper.proofs.WrongDrafters.{drafter-real}
+use Rattle.paper.proofs.WrongComparersExist.{comparer-real, twice-real, shape-real}
 use Rattle.paper.proofs.WrongPrograms.{little, plain-written}
 
 -- a program that cuts: it translates what stands before the first ";"
@@ -97,13 +99,14 @@ module _ (q : Programs) (kept : Kept q) where
         recheck = q .recheck;
         fix = q .fix;
         draft = q .draft;
+        compare = q .compare;
       }
 
   others-than-check : (check : Checker) → OthersKept checking (checkers check)
   unfolding checkers
   others-than-check check = (
     (kept .read, kept .judge, kept .translate, kept .load, kept .run),
-    (kept .print, kept .explain, kept .summarize, kept .recheck, kept .fix, kept .draft),
+    (kept .print, kept .explain, kept .summarize, kept .recheck, kept .fix, kept .draft, kept .compare),
   )
 
   -- one that types by a rule of its own
@@ -130,11 +133,12 @@ module _ (q : Programs) (kept : Kept q) where
         recheck = q .recheck;
         fix = q .fix;
         draft = q .draft;
+        compare = q .compare;
       }
 
-  -- with other calls of 02 c, f, h and k
-  abbrev with-answers : (List ℕ → List ℕ → List ℕ → Explanation) → Summarizer → Rechecker → Fixer → Drafter → Programs
-  with-answers explain summarize recheck fix draft =
+  -- with other calls of 02 c, f, h, k and l
+  abbrev with-answers : (List ℕ → List ℕ → List ℕ → Explanation) → Summarizer → Rechecker → Fixer → Drafter → Comparer → Programs
+  with-answers explain summarize recheck fix draft compare =
       record {
         read = q .read;
         check = q .check;
@@ -148,6 +152,7 @@ module _ (q : Programs) (kept : Kept q) where
         recheck = recheck;
         fix = fix;
         draft = draft;
+        compare = compare;
       }
 
   -- with another judge
@@ -158,7 +163,7 @@ module _ (q : Programs) (kept : Kept q) where
   unfolding judges
   others-than-judge judge = (
     (kept .read, kept .check, kept .translate, kept .load, kept .run),
-    (kept .print, kept .explain, kept .summarize, kept .recheck, kept .fix, kept .draft),
+    (kept .print, kept .explain, kept .summarize, kept .recheck, kept .fix, kept .draft, kept .compare),
   )
 
   -- with another translator
@@ -169,7 +174,7 @@ module _ (q : Programs) (kept : Kept q) where
   unfolding translators
   others-than-translate translate = (
     (kept .read, kept .check, kept .judge, kept .load, kept .run),
-    (kept .print, kept .explain, kept .summarize, kept .recheck, kept .fix, kept .draft),
+    (kept .print, kept .explain, kept .summarize, kept .recheck, kept .fix, kept .draft, kept .compare),
   )
 
   -- with another loader
@@ -180,7 +185,7 @@ module _ (q : Programs) (kept : Kept q) where
   unfolding loaders
   others-than-load load = (
     (kept .read, kept .check, kept .judge, kept .translate, kept .run),
-    (kept .print, kept .explain, kept .summarize, kept .recheck, kept .fix, kept .draft),
+    (kept .print, kept .explain, kept .summarize, kept .recheck, kept .fix, kept .draft, kept .compare),
   )
 
   -- with another run
@@ -191,7 +196,7 @@ module _ (q : Programs) (kept : Kept q) where
   unfolding runners
   others-than-run run = (
     (kept .read, kept .check, kept .judge, kept .translate, kept .load),
-    (kept .print, kept .explain, kept .summarize, kept .recheck, kept .fix, kept .draft),
+    (kept .print, kept .explain, kept .summarize, kept .recheck, kept .fix, kept .draft, kept .compare),
   )
 
   -- with another printer
@@ -202,63 +207,81 @@ module _ (q : Programs) (kept : Kept q) where
   unfolding printers
   others-than-print print = (
     (kept .read, kept .check, kept .judge, kept .translate, kept .load, kept .run),
-    (kept .explain, kept .summarize, kept .recheck, kept .fix, kept .draft),
+    (kept .explain, kept .summarize, kept .recheck, kept .fix, kept .draft, kept .compare),
   )
 
   -- with another explainer
   explainers : (List ℕ → List ℕ → List ℕ → Explanation) → Programs
-  explainers explain = with-answers explain (q .summarize) (q .recheck) (q .fix) (q .draft)
+  explainers explain = with-answers explain (q .summarize) (q .recheck) (q .fix) (q .draft) (q .compare)
 
   others-than-explain : (explain : List ℕ → List ℕ → List ℕ → Explanation) → OthersKept explaining (explainers explain)
   unfolding explainers
   others-than-explain explain = (
     (kept .read, kept .check, kept .judge, kept .translate, kept .load, kept .run),
-    (kept .print, kept .summarize, kept .recheck, kept .fix, kept .draft),
+    (kept .print, kept .summarize, kept .recheck, kept .fix, kept .draft, kept .compare),
   )
 
   -- with another summary
   summarizers : Summarizer → Programs
-  summarizers summarize = with-answers (q .explain) summarize (q .recheck) (q .fix) (q .draft)
+  summarizers summarize = with-answers (q .explain) summarize (q .recheck) (q .fix) (q .draft) (q .compare)
 
   others-than-summarize : (summarize : Summarizer) → OthersKept summarizing (summarizers summarize)
   unfolding summarizers
   others-than-summarize summarize = (
     (kept .read, kept .check, kept .judge, kept .translate, kept .load, kept .run),
-    (kept .print, kept .explain, kept .recheck, kept .fix, kept .draft),
+    (kept .print, kept .explain, kept .recheck, kept .fix, kept .draft, kept .compare),
   )
 
   -- with another recheck
   recheckers : Rechecker → Programs
-  recheckers recheck = with-answers (q .explain) (q .summarize) recheck (q .fix) (q .draft)
+  recheckers recheck = with-answers (q .explain) (q .summarize) recheck (q .fix) (q .draft) (q .compare)
 
   others-than-recheck : (recheck : Rechecker) → OthersKept rechecking (recheckers recheck)
   unfolding recheckers
   others-than-recheck recheck = (
     (kept .read, kept .check, kept .judge, kept .translate, kept .load, kept .run),
-    (kept .print, kept .explain, kept .summarize, kept .fix, kept .draft),
+    (kept .print, kept .explain, kept .summarize, kept .fix, kept .draft, kept .compare),
   )
 
   -- with another pass
   fixers : Fixer → Programs
-  fixers fix = with-answers (q .explain) (q .summarize) (q .recheck) fix (q .draft)
+  fixers fix = with-answers (q .explain) (q .summarize) (q .recheck) fix (q .draft) (q .compare)
 
   others-than-fix : (fix : Fixer) → OthersKept fixing (fixers fix)
   unfolding fixers
   others-than-fix fix = (
     (kept .read, kept .check, kept .judge, kept .translate, kept .load, kept .run),
-    (kept .print, kept .explain, kept .summarize, kept .recheck, kept .draft),
+    (kept .print, kept .explain, kept .summarize, kept .recheck, kept .draft, kept .compare),
   )
 
   -- with another translation of contracts
   drafters : Drafter → Programs
-  drafters draft = with-answers (q .explain) (q .summarize) (q .recheck) (q .fix) draft
+  drafters draft = with-answers (q .explain) (q .summarize) (q .recheck) (q .fix) draft (q .compare)
 
   others-than-draft : (draft : Drafter) → OthersKept drafting (drafters draft)
   unfolding drafters
   others-than-draft draft = (
     (kept .read, kept .check, kept .judge, kept .translate, kept .load, kept .run),
-    (kept .print, kept .explain, kept .summarize, kept .recheck, kept .fix),
+    (kept .print, kept .explain, kept .summarize, kept .recheck, kept .fix, kept .compare),
   )
+
+  -- with another comparison
+  comparers : Comparer → Programs
+  comparers compare = with-answers (q .explain) (q .summarize) (q .recheck) (q .fix) (q .draft) compare
+
+  others-than-compare : (compare : Comparer) → OthersKept comparing (comparers compare)
+  unfolding comparers
+  others-than-compare compare = (
+    (kept .read, kept .check, kept .judge, kept .translate, kept .load, kept .run),
+    (kept .print, kept .explain, kept .summarize, kept .recheck, kept .fix, kept .draft),
+  )
+
+  -- one that goes by a rule of its own
+  there-compares : (rule : Rule) → ThereIs (λ p. SaysBy rule (p .compare)) comparing
+  unfolding comparers
+  there-compares rule =
+      let (x, says) = comparer-real rule in
+      (comparers x, says, others-than-compare x)
 
   -- one that makes a tree of its own
   there-drafts : (made : Maker) → ThereIs (λ p. Makes made (p .draft)) drafting
@@ -396,7 +419,7 @@ names-worded : (n : ℕ) (r : Reason) → Names n r → Names n (explanationSays
 names-worded n r (place, s, e) = (place, s, ap (λ (x : Reason). explanationSays (explanationFor x)) e)
 
 pub wrong-programs-exist : WrongProgramsExist
-unfolding judges translators loaders runners explainers summarizers recheckers fixers
+unfolding judges translators loaders runners explainers summarizers recheckers fixers comparers
 wrong-programs-exist =
     let (q, kept) = can-be-kept in
     let refuses : List ℕ → List ℕ → List ℕ → Judgement = λ text list entry. J.Refused 20 (P.Entry 0) in
@@ -469,4 +492,9 @@ wrong-programs-exist =
       joining-right = there-drafts q kept rightMade;
       taking-inclusive = there-drafts q kept inclusiveMade;
       joining-by-and = there-drafts q kept andMade;
+      always-agreeing = there-compares q kept agreed;
+      always-differing = there-compares q kept differing;
+      matching-from-front = there-compares q kept fromFront;
+      using-twice = let (x, uses) = twice-real in (comparers q kept x, uses, others-than-compare q kept x);
+      ignoring-shape = let (x, ignores) = shape-real in (comparers q kept x, ignores, others-than-compare q kept x);
     }

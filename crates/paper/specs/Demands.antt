@@ -9,7 +9,7 @@
 --    operand, never holding more than 384 values." With 02 g: "In demand 3 "each once" becomes "each at most once"."
 use Prim.Native.Nat.{ℕ, _+_, _*_, _≤_, _<_}
 use mathlib.Core.Path.{_≡_}
-use mathlib.Core.Logic.{_↔_}
+use mathlib.Core.Logic.{_↔_, _⊎_}
 use mathlib.Core.Bool.{Bool, true, false}
 use mathlib.Core.Option.{some}
 use mathlib.Core.List.{List, [], _∷_, map, List·Memᴰ}
@@ -30,6 +30,8 @@ use Rattle.paper.specs.declared.Running.the-variants as N
 use Rattle.paper.specs.declared.Printing.the-variants as W
 use Rattle.paper.specs.declared.Fixing.the-variants as F
 use Rattle.paper.specs.declared.Drafting.the-variants as D
+use Rattle.paper.specs.declared.Agreement.{Agreement}
+use Rattle.paper.specs.declared.Agreement.the-variants as A
 use Rattle.paper.specs.declared.Explanation.{Explanation}
 use Rattle.paper.specs.declared.Summarizing.{Summarizing}
 use Rattle.paper.specs.declared.Summarizing.the-variants as S
@@ -56,12 +58,15 @@ use Rattle.paper.specs.Rechecking.{recheckingSays}
 use Rattle.paper.specs.Fixing.{oldScan, fixed, fixingSays}
 use Rattle.paper.specs.Pact.{mostIndices, Clause, contractHolds, contractBytes, AllIndexed}
 use Rattle.paper.specs.Drafting.{contractTree, namesOf, draftingSays}
+use Rattle.paper.specs.Parts.{Part, parts}
+use Rattle.paper.specs.PartsDecide.{roots}
+use Rattle.paper.specs.Comparing.{Ours, agreementSays}
 use Rattle.paper.specs.BlocksRoundTrip.{All}
 use Rattle.paper.specs.RecheckedRight.{Summarizes, Rechecks}
 use Rattle.paper.specs.LoadedBlocksRun.{Runs}
 use Rattle.paper.specs.CodeCorrect.{mostTranslated}
 use Rattle.paper.specs.Faults.{CutsBy, Cuts}
-use Rattle.paper.specs.Table.{lastNumber, Stage, Clear, ByTable, readStages, checkStages, judgeStages, translateStages, loadStages, runStages, printStages, fixStages, draftStages}
+use Rattle.paper.specs.Table.{lastNumber, Stage, Clear, ByTable, readStages, checkStages, judgeStages, translateStages, loadStages, runStages, printStages, fixStages, draftStages, compareStages}
 use Rattle.paper.specs.Promised.{JudgePromised, verdict, verdictIn, judgementOfRun, TranslateResult, PrintResult, FixResult, DraftResult, Bytes, UserNumbers, Programs, Kept}
 
 -- Demand 1. An answer is one of the enum's cases. It is a refusal exactly as the table of 01 says, with that number at that place, and
@@ -134,6 +139,10 @@ pub record DraftAnswered (contract table list buffer : List ℕ) (r : DraftResul
       (draftStages contract table list buffer) (draftingSays (r .answer))
   pub unchanged : (n : ℕ) (at : Place) → r .answer ≡ D.Refused n at → r .buffer ≡ buffer
 
+abbrev pub CompareAnswered : List ℕ → List ℕ → List ℕ → Agreement → Type 0
+CompareAnswered text list blocks r =
+    Answered (lent inText text ∷ lent inList list ∷ lent inBlocks blocks ∷ []) (compareStages text list blocks) (agreementSays r)
+
 abbrev pub SummarizeAnswered : List ℕ → List ℕ → Summarizing → Type 0
 SummarizeAnswered text list r = Answered (lent inText text ∷ lent inList list ∷ []) (checkStages text list) (summarizingSays r)
 
@@ -158,6 +167,7 @@ pub record DemandOne (p : Programs) : Type 0 where
   pub fix : (text buffer : List ℕ) → Bytes text → Bytes buffer → FixAnswered text buffer (p .fix text buffer)
   pub draft : (contract table list buffer : List ℕ) → Bytes contract → UserNumbers table → Bytes list → Bytes buffer
       → DraftAnswered contract table list buffer (p .draft contract table list buffer)
+  pub compare : (text list blocks : List ℕ) → Bytes text → Bytes list → Bytes blocks → CompareAnswered text list blocks (p .compare text list blocks)
 
 -- Demand 2, for every call that takes a text or an entry. A text is refused exactly when it is over a limit or ill-formed, the list does
 -- not pass, or the text is ill-typed against it; an entry exactly when it does not conform to the list. Else it is accepted exactly when
@@ -279,6 +289,26 @@ pub record DraftMeans (p : Programs) (contract table list buffer : List ℕ) : T
   pub judged : (n : ℕ) (d : Draftable contract table list buffer n) (entry : List ℕ) (e : Entry) → Bytes entry → entryOf (d .ks) entry ≡ ok e
       → p .judge (take n (p .draft contract table list buffer .buffer)) list entry ≡ verdict (contractHolds (inputsOf e) table (d .clauses))
 
+-- a text that passes with a list, its parts, and blocks that load with the list
+pub record Comparable (text list blocks : List ℕ) : Type 0 where
+  pub passes : Checkable text list
+  pub ps : List Part
+  pub divided : parts text ≡ ok ps
+  pub count : ℕ
+  pub loads : loaded (passes .ks) blocks ≡ ok count
+
+-- ""agrees" exactly when the blocks load and are our translation of the same top-level parts .. Blocks that load and do not fit give
+-- "differs".": every other text, list or blocks is refused
+pub record CompareRight (text list blocks : List ℕ) (r : Agreement) : Type 0 where
+  pub compares : ((r ≡ A.Agrees) ⊎ (r ≡ A.Differs)) ↔ Comparable text list blocks
+  pub agrees : (c : Comparable text list blocks) → (r ≡ A.Agrees) ↔ Ours (c .passes .ks) (roots (c .ps)) blocks
+
+-- "Agreement means equal answers on every conforming entry.", and the same refusals of every other
+abbrev pub AgreementMeans : Programs → List ℕ → List ℕ → List ℕ → Type 0
+AgreementMeans p text list blocks =
+    p .compare text list blocks ≡ A.Agrees
+    → (entry : List ℕ) → Bytes entry → judgementOfRun (p .run list blocks entry) ≡ p .judge text list entry
+
 -- a run of blocks leaves one bool, in so many steps
 abbrev pub LeavesIn : (list blocks entry : List ℕ) → Runnable list blocks entry → Bool → ℕ → Type 0
 LeavesIn list blocks entry j b n =
@@ -330,6 +360,8 @@ pub record DemandTwo (p : Programs) : Type 0 where
       → DraftsRight contract table list buffer (p .draft contract table list buffer)
   pub drafts-mean : (contract table list buffer : List ℕ) → Bytes contract → UserNumbers table → Bytes list → Bytes buffer
       → DraftMeans p contract table list buffer
+  pub compares : (text list blocks : List ℕ) → Bytes text → Bytes list → Bytes blocks → CompareRight text list blocks (p .compare text list blocks)
+  pub agreement-means : (text list blocks : List ℕ) → Bytes text → Bytes list → Bytes blocks → AgreementMeans p text list blocks
 
 -- Demand 3. A text and a list that pass have a number of instructions, and are translated with it into every buffer that has room for
 -- its blocks; every other buffer is refused, 15 at its length. The blocks written load with that list, with the number returned, and

@@ -70,8 +70,11 @@ pub mod Required
 pub mod BitsKept
 pub mod Table
 pub mod Demands
+pub mod Comparing
+pub mod ComparedRight
 pub mod Dependence
 pub mod DependenceExamples
+pub mod CompareExamples
 pub mod WrongPrints
 pub mod WrongExplainers
 pub mod WrongRecheckers
@@ -80,5 +83,6 @@ pub mod WrongFixers
 pub mod WrongCheckers
 pub mod DraftedRight
 pub mod WrongDrafters
+pub mod WrongComparers
 pub mod PiecesRight
 pub mod WrongPrograms

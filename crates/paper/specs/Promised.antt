@@ -15,6 +15,7 @@ use Rattle.paper.specs.declared.Running.the-variants as N
 use Rattle.paper.specs.declared.Printing.{Printing}
 use Rattle.paper.specs.declared.Fixing.{Fixing}
 use Rattle.paper.specs.declared.Drafting.{Drafting}
+use Rattle.paper.specs.declared.Agreement.{Agreement}
 use Rattle.paper.specs.declared.Explanation.{Explanation}
 use Rattle.paper.specs.declared.Summarizing.{Summarizing}
 use Rattle.paper.specs.declared.Rechecking.{Rechecking}
@@ -25,6 +26,7 @@ use Rattle.paper.specs.Named.{summaryAnswer, summarizingSays}
 use Rattle.paper.specs.Rechecking.{recheckAnswer, recheckingSays}
 use Rattle.paper.specs.Fixing.{fixAnswer, fixBuffer, fixingSays}
 use Rattle.paper.specs.Drafting.{draftAnswer, draftBuffer, draftingSays}
+use Rattle.paper.specs.Comparing.{compareAnswer, agreementSays}
 use Rattle.paper.specs.Calls.{readAnswer, checkAnswer, judgeAnswer, translateAnswer, translateBuffer, loadAnswer, runAnswer, printAnswer, printBuffer}
 
 -- what is promised of the result of each call, for the bytes that are lent to it
@@ -80,6 +82,9 @@ pub record DraftPromised (contract table list buffer : List ℕ) (r : DraftResul
   pub says : draftingSays (r .answer) ≡ draftAnswer contract table list buffer
   pub holds : r .buffer ≡ draftBuffer contract table list buffer
 
+abbrev pub ComparePromised : List ℕ → List ℕ → List ℕ → Agreement → Type 0
+ComparePromised text list blocks r = agreementSays r ≡ compareAnswer text list blocks
+
 -- the numbers of an explanation; its pieces, which are references, stand in Pieces
 abbrev pub ExplainPromised : List ℕ → List ℕ → List ℕ → Explanation → Type 0
 ExplainPromised text list entry r = explanationSays r ≡ explainAnswer text list entry
@@ -125,6 +130,7 @@ pub record NoSecondResult : Type 0 where
   pub recheck : (text list old : List ℕ) (earlier : Judgement) (new : List ℕ) → Sole (RecheckPromised text list old earlier new)
   pub fix : (text buffer : List ℕ) → Sole (FixPromised text buffer)
   pub draft : (contract table list buffer : List ℕ) → Sole (DraftPromised contract table list buffer)
+  pub compare : (text list blocks : List ℕ) → Sole (ComparePromised text list blocks)
 
 -- what can be lent: numbers below 256
 abbrev pub Bytes : List ℕ → Type 0
@@ -149,6 +155,7 @@ pub record Programs : Type 0 where
   pub recheck : List ℕ → List ℕ → List ℕ → Judgement → List ℕ → Rechecking
   pub fix : List ℕ → List ℕ → FixResult
   pub draft : List ℕ → List ℕ → List ℕ → List ℕ → DraftResult
+  pub compare : List ℕ → List ℕ → List ℕ → Agreement
 
 abbrev pub KeepsRead : Programs → Type 0
 KeepsRead p = (text : List ℕ) → Bytes text → ReadPromised text (p .read text)
@@ -195,6 +202,10 @@ KeepsDraft p =
     (contract table list buffer : List ℕ) → Bytes contract → UserNumbers table → Bytes list → Bytes buffer
     → DraftPromised contract table list buffer (p .draft contract table list buffer)
 
+abbrev pub KeepsCompare : Programs → Type 0
+KeepsCompare p =
+    (text list blocks : List ℕ) → Bytes text → Bytes list → Bytes blocks → ComparePromised text list blocks (p .compare text list blocks)
+
 pub record Kept (p : Programs) : Type 0 where
   pub read : KeepsRead p
   pub check : KeepsCheck p
@@ -208,6 +219,7 @@ pub record Kept (p : Programs) : Type 0 where
   pub recheck : KeepsRecheck p
   pub fix : KeepsFix p
   pub draft : KeepsDraft p
+  pub compare : KeepsCompare p
 
 -- there are such programs
 abbrev pub CanBeKept : Type 0

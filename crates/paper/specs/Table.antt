@@ -13,6 +13,7 @@ use Rattle.paper.specs.Calls.{tree, restriction, readAnswer, checkAnswer
 use Rattle.paper.specs.Named.{summaryAnswer}
 use Rattle.paper.specs.Fixing.{oldScan, fixed, fixAnswer}
 use Rattle.paper.specs.Drafting.{nameRule, namesOf, drafted, draftAnswer}
+use Rattle.paper.specs.Comparing.{compareAnswer}
 use Rattle.paper.specs.Faults.{Faults, TextSize, ListSize, ListRecords, Cuts, TokenFaults, TextTokens, TextGrammar, TreeTypes, RootType, BufferSize, BlocksSize, BlocksLayout, BlocksCode, EntrySize, EntryRules, LendingSize, TableSize, ContractFaults, TextLimits}
 
 -- the table's numbers run from 1 to this one
@@ -145,6 +146,10 @@ fixStages text buffer = sizeStages text ++ fixingStages text buffer
 abbrev pub draftStages : List ℕ → List ℕ → List ℕ → List ℕ → List Stage
 draftStages contract table list buffer = listStagesBy nameRule list ++ draftingStages contract table list buffer
 
+-- text and list first, then the blocks
+abbrev pub compareStages : List ℕ → List ℕ → List ℕ → List Stage
+compareStages text list blocks = checkStages text list ++ blockStages list blocks
+
 pub record TableHolds : Type 0 where
   pub read : (text : List ℕ) → ByTable (readAnswer text) (readStages text)
   pub check : (text list : List ℕ) → ByTable (checkAnswer text list) (checkStages text list)
@@ -157,6 +162,7 @@ pub record TableHolds : Type 0 where
   pub fix : (text buffer : List ℕ) → ByTable (fixAnswer text buffer) (fixStages text buffer)
   pub draft : (contract table list buffer : List ℕ)
       → ByTable (draftAnswer contract table list buffer) (draftStages contract table list buffer)
+  pub compare : (text list blocks : List ℕ) → ByTable (compareAnswer text list blocks) (compareStages text list blocks)
 
 -- and a text that passes 5 to 7 and 22 is cut into its tokens
 abbrev pub TokensAreCut : Type 0

@@ -1,6 +1,6 @@
 -- 01, "Try these against it": programs that the promises must leave no room for; and wrong printers (02 a and e), explainers (02 c),
--- summaries and rechecks (02 f), ways with skips (02 g), passes over octal numerals (02 h), checkers of numbers that lose bits (02 j), and
--- translations of contracts (02 k). Each is refuted at an input, named in the proof.
+-- summaries and rechecks (02 f), ways with skips (02 g), passes over octal numerals (02 h), checkers of numbers that lose bits (02 j),
+-- translations of contracts (02 k), and comparisons (02 l). Each is refuted at an input, named in the proof.
 use Prim.Native.Nat.{ℕ, _+_, _*_, _≤_, _<_}
 use mathlib.Core.Path.{_≡_}
 use mathlib.Core.Bool.{true, false, cond}
@@ -24,7 +24,7 @@ use Rattle.paper.specs.Calls.{tree, Restriction, restriction, over, judg
 use Rattle.paper.specs.TranslationCorrect.{Carries}
 use Rattle.paper.specs.MarkedJudgements.{theKeys, theEntry}
 use Rattle.paper.specs.Explained.{explanationSays}
-use Rattle.paper.specs.Promised.{judgementOfRun, Bytes, Programs, KeepsRead, KeepsCheck, KeepsJudge, KeepsTranslate, KeepsLoad, KeepsRun, KeepsPrint, KeepsExplain, KeepsSummarize, KeepsRecheck, KeepsFix, KeepsDraft, Kept}
+use Rattle.paper.specs.Promised.{judgementOfRun, Bytes, Programs, KeepsRead, KeepsCheck, KeepsJudge, KeepsTranslate, KeepsLoad, KeepsRun, KeepsPrint, KeepsExplain, KeepsSummarize, KeepsRecheck, KeepsFix, KeepsDraft, KeepsCompare, Kept}
 use Rattle.paper.specs.WrongPrints.{withoutParentheses, withAllParentheses, withAndForSequel, inDecimal, addressesInHex}
 use Rattle.paper.specs.WrongExplainers.{Explainer, NamesLast, FollowsSpine, KeyForPriority}
 use Rattle.paper.specs.WrongRecheckers.{NeverReuses, AlwaysReuses, WantsEqualEntries, ForgetsPriority, ComparesReadings, CountsPriority, MissesFields}
@@ -32,6 +32,7 @@ use Rattle.paper.specs.WrongRunners.{ReportsInstructions, LeavesOldBool,
 use Rattle.paper.specs.WrongFixers.{ChangesStrings, ChangesComments, KeepsZeros, DropsPrefix}
 use Rattle.paper.specs.WrongCheckers.{ReducesStill, LooksRight, PlacesAtOperator, TakesNoneBelowZero}
 use Rattle.paper.specs.WrongDrafters.{InvertsLast, JoinsRight, TakesInclusive, JoinsByAnd}
+use Rattle.paper.specs.WrongComparers.{AlwaysAgrees, AlwaysDiffers, MatchesFromFront, UsesTwice, IgnoresShape}
 use Rattle.paper.specs.Demands.{Refuses, blocksWritten, DemandOne, DemandTwo, DemandThree}
 
 -- the bytes before the first ";"
@@ -205,10 +206,27 @@ DraftsInclusive p = TakesInclusive (p .draft)
 abbrev pub DraftsByAnd : Programs → Type 0
 DraftsByAnd p = JoinsByAnd (p .draft)
 
+-- those of WrongComparers
+
+abbrev pub AgreesAlways : Programs → Type 0
+AgreesAlways p = AlwaysAgrees (p .compare)
+
+abbrev pub DiffersAlways : Programs → Type 0
+DiffersAlways p = AlwaysDiffers (p .compare)
+
+abbrev pub ComparesFromFront : Programs → Type 0
+ComparesFromFront p = MatchesFromFront (p .compare)
+
+abbrev pub ComparesTwice : Programs → Type 0
+ComparesTwice p = UsesTwice (p .compare)
+
+abbrev pub ComparesAnyShape : Programs → Type 0
+ComparesAnyShape p = IgnoresShape (p .compare)
+
 -- each is real: there is such a program in which every other call keeps its promise
 
 pub data Call : Type 0 where
-  checking judging translating loading running printing explaining summarizing rechecking fixing drafting : Call
+  checking judging translating loading running printing explaining summarizing rechecking fixing drafting comparing : Call
 
 -- the calls of document 01, and those of 02
 
@@ -216,7 +234,7 @@ abbrev pub FirstKept : Programs → Type 0
 FirstKept p = KeepsRead p × KeepsCheck p × KeepsJudge p × KeepsTranslate p × KeepsLoad p × KeepsRun p
 
 abbrev pub LaterKept : Programs → Type 0
-LaterKept p = KeepsPrint p × KeepsExplain p × KeepsSummarize p × KeepsRecheck p × KeepsFix p × KeepsDraft p
+LaterKept p = KeepsPrint p × KeepsExplain p × KeepsSummarize p × KeepsRecheck p × KeepsFix p × KeepsDraft p × KeepsCompare p
 
 abbrev pub OthersKept : Call → Programs → Type 0
 OthersKept checking p = (KeepsRead p × KeepsJudge p × KeepsTranslate p × KeepsLoad p × KeepsRun p) × LaterKept p
@@ -224,12 +242,13 @@ OthersKept judging p = (KeepsRead p × KeepsCheck p × KeepsTranslate p × Keeps
 OthersKept translating p = (KeepsRead p × KeepsCheck p × KeepsJudge p × KeepsLoad p × KeepsRun p) × LaterKept p
 OthersKept loading p = (KeepsRead p × KeepsCheck p × KeepsJudge p × KeepsTranslate p × KeepsRun p) × LaterKept p
 OthersKept running p = (KeepsRead p × KeepsCheck p × KeepsJudge p × KeepsTranslate p × KeepsLoad p) × LaterKept p
-OthersKept printing p = FirstKept p × (KeepsExplain p × KeepsSummarize p × KeepsRecheck p × KeepsFix p × KeepsDraft p)
-OthersKept explaining p = FirstKept p × (KeepsPrint p × KeepsSummarize p × KeepsRecheck p × KeepsFix p × KeepsDraft p)
-OthersKept summarizing p = FirstKept p × (KeepsPrint p × KeepsExplain p × KeepsRecheck p × KeepsFix p × KeepsDraft p)
-OthersKept rechecking p = FirstKept p × (KeepsPrint p × KeepsExplain p × KeepsSummarize p × KeepsFix p × KeepsDraft p)
-OthersKept fixing p = FirstKept p × (KeepsPrint p × KeepsExplain p × KeepsSummarize p × KeepsRecheck p × KeepsDraft p)
-OthersKept drafting p = FirstKept p × (KeepsPrint p × KeepsExplain p × KeepsSummarize p × KeepsRecheck p × KeepsFix p)
+OthersKept printing p = FirstKept p × (KeepsExplain p × KeepsSummarize p × KeepsRecheck p × KeepsFix p × KeepsDraft p × KeepsCompare p)
+OthersKept explaining p = FirstKept p × (KeepsPrint p × KeepsSummarize p × KeepsRecheck p × KeepsFix p × KeepsDraft p × KeepsCompare p)
+OthersKept summarizing p = FirstKept p × (KeepsPrint p × KeepsExplain p × KeepsRecheck p × KeepsFix p × KeepsDraft p × KeepsCompare p)
+OthersKept rechecking p = FirstKept p × (KeepsPrint p × KeepsExplain p × KeepsSummarize p × KeepsFix p × KeepsDraft p × KeepsCompare p)
+OthersKept fixing p = FirstKept p × (KeepsPrint p × KeepsExplain p × KeepsSummarize p × KeepsRecheck p × KeepsDraft p × KeepsCompare p)
+OthersKept drafting p = FirstKept p × (KeepsPrint p × KeepsExplain p × KeepsSummarize p × KeepsRecheck p × KeepsFix p × KeepsCompare p)
+OthersKept comparing p = FirstKept p × (KeepsPrint p × KeepsExplain p × KeepsSummarize p × KeepsRecheck p × KeepsFix p × KeepsDraft p)
 
 abbrev pub ThereIs : (Programs → Type 0) → Call → Type 0
 ThereIs Wrong c = (p : Programs) × Wrong p × OthersKept c p
@@ -274,6 +293,11 @@ pub record WrongProgramsExist : Type 0 where
   pub joining-right : ThereIs DraftsFromRight drafting
   pub taking-inclusive : ThereIs DraftsInclusive drafting
   pub joining-by-and : ThereIs DraftsByAnd drafting
+  pub always-agreeing : ThereIs AgreesAlways comparing
+  pub always-differing : ThereIs DiffersAlways comparing
+  pub matching-from-front : ThereIs ComparesFromFront comparing
+  pub using-twice : ThereIs ComparesTwice comparing
+  pub ignoring-shape : ThereIs ComparesAnyShape comparing
 
 -- what excludes each: a demand, beside the calls that it is tried with; or a promise, that of `load` by 18, or that of `check` by a place
 pub record DemandsExclude (p : Programs) : Type 0 where
@@ -316,6 +340,11 @@ pub record DemandsExclude (p : Programs) : Type 0 where
   pub joining-right : DemandTwo p → ¬ DraftsFromRight p
   pub taking-inclusive : DemandTwo p → ¬ DraftsInclusive p
   pub joining-by-and : DemandTwo p → ¬ DraftsByAnd p
+  pub always-agreeing : DemandTwo p → ¬ AgreesAlways p
+  pub always-differing : DemandTwo p → ¬ DiffersAlways p
+  pub matching-from-front : DemandTwo p → ¬ ComparesFromFront p
+  pub using-twice : DemandTwo p → ¬ ComparesTwice p
+  pub ignoring-shape : DemandTwo p → ¬ ComparesAnyShape p
 
 abbrev pub WrongProgramsFail : Type 0
 WrongProgramsFail = (p : Programs) → DemandsExclude p
@@ -361,6 +390,11 @@ pub record Excluded (p : Programs) : Type 0 where
   pub joining-right : ¬ DraftsFromRight p
   pub taking-inclusive : ¬ DraftsInclusive p
   pub joining-by-and : ¬ DraftsByAnd p
+  pub always-agreeing : ¬ AgreesAlways p
+  pub always-differing : ¬ DiffersAlways p
+  pub matching-from-front : ¬ ComparesFromFront p
+  pub using-twice : ¬ ComparesTwice p
+  pub ignoring-shape : ¬ ComparesAnyShape p
 
 abbrev pub NoWrongProgram : Type 0
 NoWrongProgram = (p : Programs) → Kept p → Excluded p

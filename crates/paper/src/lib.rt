@@ -74,6 +74,13 @@ pub enum Drafting {
     Refused(u8, Place),
 }
 
+// Blocks against a text and a list: whether they are its translation, its parts in some order.
+pub enum Agreement {
+    Agrees,
+    Differs,
+    Refused(u8, Place),
+}
+
 // What broke for an entry: a part of the text, by its number from 1, its root's place, and its stretch from one byte up to another; the key of
 // a refused record, by the record's place in the entry, and the stretch of its name in the list; or nothing, with the entry's own judgement.
 pub enum Explanation {

@@ -37,6 +37,9 @@ module _ (ks : List Key) (blocks : List ℕ) (n : ℕ) (h : loaded ks blocks ≡
   pub loaded-within : n ≤ inBlock * blocksIn blocks
   loaded-within = laid-within (length ks) blocks n (parts .0) .0
 
+  pub loaded-count : totalOf blocks ≡ n
+  loaded-count = parts .1
+
   pub loaded-program : instructionsFrom blocks 0 n ≡ program blocks
   loaded-program = ap (instructionsFrom blocks 0) (sym (parts .1))
 

@@ -104,7 +104,7 @@ fn op_of(p: Parts, left: usize) -> Op
 }
 
 // The offset of the first byte of instruction number i.
-pub(crate) fn place_of(i: usize) -> usize
+pub fn place_of(i: usize) -> usize
     requires { ⌜ instructionAt i < 2 ^ 64 ⌝ }
     ensures { λ r. ⌜ r ≡ instructionAt i ⌝ }
 {

@@ -14,5 +14,6 @@ mod packing;
 mod running;
 
 pub use checking::check_code;
+pub use decoding::place_of;
 pub use running::Ran;
 pub use running::run_loaded;

@@ -1,3 +1,4 @@
+mod Agreements
 mod Compared
 mod Contracts
 mod Fixes

@@ -5,6 +5,7 @@ ghost use Rattle.paper.specs.WrongFixers.{WrongFixersFail};
 ghost use Rattle.paper.specs.WrongRunners.{WrongRunnersFail};
 ghost use Rattle.paper.specs.WrongCheckers.{WrongCheckersFail};
 ghost use Rattle.paper.specs.WrongDrafters.{WrongDraftersFail};
+ghost use Rattle.paper.specs.WrongComparers.{WrongComparersFail};
 ghost use Rattle.paper.specs.WrongPrograms.{WrongProgramsExist, WrongProgramsFail, NoWrongProgram, PaddingSeen};
 
 // For all inputs one result keeps the promise of a call, and no second; of `translate`, `print`, `fix_octal` and `pact`, one answer with one
@@ -31,7 +32,8 @@ pub fn wrong_programs_exist()
 // old bool, a load check that compares the heights of landings, a pass over octal that changes strings or comments, keeps leading zeros or drops
 // the letters of the prefix, a type check that reduces numbers still, looks at right operands alone, gives 23 at the operator or takes no number
 // below zero, a translation of contracts with NOT over the last assertion only, with joins from the right, with exclusive or as "||" or with clauses
-// joined by "&&": each fails a demand, refusal 18, or the place of refusal 23.
+// joined by "&&", a comparison that always agrees, always differs, matches the parts from the front of the code, lets a part be used twice or takes
+// any shape of the joins: each fails a demand, refusal 18, or the place of refusal 23.
 pub fn wrong_programs_fail()
     ensures { λ _. ⌜ WrongProgramsFail ⌝ }
 {}
@@ -74,4 +76,10 @@ pub fn wrong_checkers_fail()
 // joins clauses by "&&": each fails what is asked of it.
 pub fn wrong_drafters_fail()
     ensures { λ _. ⌜ WrongDraftersFail ⌝ }
+{}
+
+// A comparison that always agrees, one that always differs, one that matches the parts from the front of the code, one that lets a part be used
+// twice, one to which it is the same how the parts are joined: each fails what is asked of it.
+pub fn wrong_comparers_fail()
+    ensures { λ _. ⌜ WrongComparersFail ⌝ }
 {}

@@ -1,8 +1,9 @@
 // The real calls, held to the demands. Each function calls `valve`, and its contract states for its own inputs what is demanded of what was
 // answered, in the words of `paper` (specs/Demands). It holds by the contracts of `valve` alone, so one that is weakened fails here.
-ghost use Rattle.paper.specs.Demands.{ReadAnswered, ReadRight, CheckAnswered, CheckedRight, JudgeAnswered, JudgedRight, TranslateAnswered, TranslatedRight, LoadAnswered, RunAnswered, RanRight, PrintAnswered, PrintedRight, FixAnswered, FixesRight, DraftAnswered, DraftsRight, ExplainAnswered, ExplainRight, SummarizeAnswered, SummarizeRight, RecheckAnswered, RecheckRight};
+ghost use Rattle.paper.specs.Demands.{ReadAnswered, ReadRight, CheckAnswered, CheckedRight, JudgeAnswered, JudgedRight, TranslateAnswered, TranslatedRight, LoadAnswered, RunAnswered, RanRight, PrintAnswered, PrintedRight, FixAnswered, FixesRight, DraftAnswered, DraftsRight, CompareAnswered, CompareRight, ExplainAnswered, ExplainRight, SummarizeAnswered, SummarizeRight, RecheckAnswered, RecheckRight};
 ghost use Rattle.promises.specs.Held.{gave, lent, fixedTo, draftedTo, Carries};
 use blocks::Block;
+use paper::Agreement;
 use paper::Checking;
 use paper::Drafting;
 use paper::Explanation;
@@ -86,6 +87,14 @@ pub fn pact(contract: &[u8], table: &[u64], names: &[u8], buffer: &mut [u8]) -> 
     ensures { λ r. ⌜ DraftsRight (now (contract .entry)) (now (table .entry)) (now (names .entry)) (now (buffer .entry)) (draftedTo r (now (buffer .exit))) ⌝ }
 {
     valve::pact(contract, table, names, buffer)
+}
+
+// Demands 1 and 2 of `compare`.
+pub fn compare(text: &[u8], list: &[u8], blocks: &[u8]) -> Agreement
+    ensures { λ r. ⌜ CompareAnswered (now (text .entry)) (now (list .entry)) (now (blocks .entry)) r ⌝ }
+    ensures { λ r. ⌜ CompareRight (now (text .entry)) (now (list .entry)) (now (blocks .entry)) r ⌝ }
+{
+    valve::compare(text, list, blocks)
 }
 
 // Demands 1 and 2 of the numbers of an explanation. What is demanded of its pieces stands in `pieces`.

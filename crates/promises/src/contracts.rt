@@ -22,6 +22,7 @@ pub fn texts_say_what_contracts_say()
     ensures { λ _. ⌜ TextsMean ⌝ }
 {}
 
+// An empty contract, with names that pass, 16 user numbers at most and a buffer of 4 bytes or more, gives the text "true".
 pub fn an_empty_contract_is_true()
     ensures { λ _. ⌜ EmptyGivesTrue ⌝ }
 {}

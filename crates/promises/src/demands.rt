@@ -12,7 +12,9 @@ pub fn every_input_is_answered()
 // are written in hex exactly when it has tokens by the old rules and the result may be lent. Of a violated entry the first false part is named, of
 // a bad record its key, and else nothing. A summary has the keys that the text names, and an earlier answer is reused exactly where both entries
 // conform and are the same in all that the text names. A contract becomes a text exactly when it has a meaning with its names and user numbers and the
-// text may be lent, and the text passes and says of every entry what the contract says of its numbers.
+// text may be lent, and the text passes and says of every entry what the contract says of its numbers. Blocks of another translator are compared
+// exactly when the text passes with the list and they load with it; they agree exactly when they are our translation of the text's parts, each used
+// once, in some order, joined from the left; and then they say of every entry what the text says.
 pub fn judged_as_the_text_means()
     ensures { λ _. ⌜ DemandTwoMet ⌝ }
 {}

@@ -4,6 +4,7 @@ mod accounts;
 mod bases;
 mod bits;
 mod calls;
+mod comparing;
 mod contracts;
 mod damage;
 mod demands;

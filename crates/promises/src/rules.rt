@@ -22,6 +22,7 @@ ghost use Rattle.paper.specs.SkipExamples.{SkipExamples};
 ghost use Rattle.paper.specs.PrintExamples.{PrintExamples};
 ghost use Rattle.paper.specs.FixExamples.{FixExamples};
 ghost use Rattle.paper.specs.DraftExamples.{DraftExamples};
+ghost use Rattle.paper.specs.CompareExamples.{CompareExamples};
 ghost use Rattle.paper.specs.PartExamples.{PartExamples};
 ghost use Rattle.paper.specs.SummaryExamples.{SummaryExamples};
 ghost use Rattle.paper.specs.AnswerExamples.{AnswerExamples};
@@ -157,6 +158,12 @@ pub fn examples_of_fixes()
 // Contracts with their texts, document 000's among them, every sort of fault, both sides of each limit, and what is lent.
 pub fn examples_of_contracts()
     ensures { λ _. ⌜ DraftExamples ⌝ }
+{}
+
+// A text against blocks of its parts in every order, of parts that are alike, begin or end like one another or are joined otherwise, blocks with other
+// skips or none, and what is refused before blocks are compared.
+pub fn examples_of_comparing()
+    ensures { λ _. ⌜ CompareExamples ⌝ }
 {}
 
 // Texts with their parts, both sides of each limit, and what is shown of an entry: a part, a key, or nothing.

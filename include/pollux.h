@@ -8,6 +8,7 @@
  *   When entries are edited  pollux_summarize: which keys a text names; pollux_recheck: the earlier answer, where it still holds
  *   For texts on file        pollux_fix_octal: the same text with its octal numerals in hex, which the other calls refuse
  *   For a partner's terms    pollux_pact: a Pact contract as a text, with a name for each of its inputs
+ *   For a contractor's work  pollux_compare: are their blocks our translation of a text, its parts in some order?
  *
  * Inputs
  *   Each input is a pointer and a length in bytes, in that order. It may have any length and any content: whatever does not
@@ -89,7 +90,9 @@ enum pollux_says {
     POLLUX_REFUSED = 0,
     POLLUX_ACCEPTED = 1, /* the restriction is true of the entry */
     POLLUX_VIOLATED = 2, /* it is false of the entry */
-    POLLUX_DONE = 3      /* read, passed, translated, loaded, printed, fixed or drafted */
+    POLLUX_DONE = 3,     /* read, passed, translated, loaded, printed, fixed or drafted */
+    POLLUX_AGREES = 4,   /* the blocks are the text's translation, its parts in some order */
+    POLLUX_DIFFERS = 5   /* they load, and are not */
 };
 
 /* The input that a refusal lies in. */
@@ -145,6 +148,7 @@ enum pollux_refusal {
  *                         of a number
  *   accepted, violated    number and input are 0; value is the steps that pollux_run took, and 0 of any other call
  *   done                  number and input are 0; value is the count that the call gives, or 0
+ *   agrees, differs       number, input and value are 0
  */
 struct pollux_answer {
     uint64_t says;   /* enum pollux_says */
@@ -187,6 +191,18 @@ struct pollux_answer pollux_load(const uint8_t *list, size_t list_length,
 struct pollux_answer pollux_run(const uint8_t *list, size_t list_length,
                                 const uint8_t *blocks, size_t blocks_length,
                                 const uint8_t *entry, size_t entry_length);
+
+/*
+ * Compares blocks, which another translator may have made, with a text. Agrees: they load, and they are what pollux_translate writes
+ * of the text's parts (what stands between two ";" signs outside parentheses), each used once, in some order, joined from the left and
+ * with the same skips; then pollux_run says of every entry what pollux_judge says, though it may take other steps. Differs: they load,
+ * and are not; then nothing is known of what they say. Parts that translate alike are alike here, however they are spelled. Blocks without
+ * skips, as they were made before there were any, differ unless the text has nothing to skip. It refuses the text and the list as
+ * pollux_check does, and then the blocks with 16, 17 and 18.
+ */
+struct pollux_answer pollux_compare(const uint8_t *text, size_t text_length,
+                                    const uint8_t *list, size_t list_length,
+                                    const uint8_t *blocks, size_t blocks_length);
 
 /*
  * Prints a text in house style at the front of the buffer: one blank on each side of a binary operator and none elsewhere,

@@ -18,6 +18,7 @@ void raw_pollux_run(answer *, bytes, size_t, bytes, size_t, bytes, size_t);
 void raw_pollux_print(answer *, bytes, size_t, uint8_t *, size_t);
 void raw_pollux_fix_octal(answer *, bytes, size_t, uint8_t *, size_t);
 void raw_pollux_pact(answer *, bytes, size_t, const uint64_t *, size_t, bytes, size_t, uint8_t *, size_t);
+void raw_pollux_compare(answer *, bytes, size_t, bytes, size_t, bytes, size_t);
 void raw_pollux_explain(struct pollux_reason *, bytes, size_t, bytes, size_t, bytes, size_t);
 void raw_pollux_summarize(struct pollux_summary *, bytes, size_t, bytes, size_t);
 void raw_pollux_recheck(struct pollux_rechecked *, bytes, size_t, bytes, size_t, bytes, size_t, bytes, uint64_t, uint64_t, uint64_t,
@@ -84,6 +85,13 @@ answer pollux_pact(bytes contract, size_t contract_length, const uint64_t *table
 {
     answer given;
     raw_pollux_pact(&given, contract, contract_length, table, table_count, names, names_length, buffer, buffer_length);
+    return given;
+}
+
+answer pollux_compare(bytes text, size_t text_length, bytes list, size_t list_length, bytes blocks, size_t blocks_length)
+{
+    answer given;
+    raw_pollux_compare(&given, text, text_length, list, list_length, blocks, blocks_length);
     return given;
 }
 

@@ -1,6 +1,6 @@
 -- An answer of the paper as four numbers: what it says (0 refused, 1 accepted, 2 violated, 3 passed, read, written, loaded, printed, fixed or
--- drafted), the refusal's number or 0, its input (0 none, 1 text, 2 list, 3 entry, 4 blocks, 5 buffer, 6 contract, 7 table), and the offset, or
--- the count, or the steps, or 0.
+-- drafted, 4 agrees, 5 differs), the refusal's number or 0, its input (0 none, 1 text, 2 list, 3 entry, 4 blocks, 5 buffer, 6 contract,
+-- 7 table), and the offset, or the count, or the steps, or 0.
 --
 -- A reason as eight: the four of the judgement, and the number of the part that is shown, or 0; the place of its root in the text, or of the
 -- key's record in the entry; and the start and length of its stretch of the text, or of the name in the list. Where nothing is shown these are 0.
@@ -23,7 +23,8 @@ use Rattle.paper.specs.Rechecking.{Rechecked, reused, recheckingSays}
 use Rattle.paper.specs.Rechecking as Rechecking
 use Rattle.paper.specs.Fixing.{fixingSays}
 use Rattle.paper.specs.Drafting.{draftingSays}
-use Rattle.paper.specs.Promised.{ReadPromised, CheckPromised, JudgePromised, TranslateResult, TranslatePromised, LoadPromised, RunPromised, PrintPromised, FixPromised, DraftPromised, ExplainPromised, SummarizePromised, RecheckPromised, Sole}
+use Rattle.paper.specs.Comparing.{agreementSays}
+use Rattle.paper.specs.Promised.{ReadPromised, CheckPromised, JudgePromised, TranslateResult, TranslatePromised, LoadPromised, RunPromised, PrintPromised, FixPromised, DraftPromised, ComparePromised, ExplainPromised, SummarizePromised, RecheckPromised, Sole}
 use Rattle.paper.specs.declared.Judgement.{Judgement}
 use Rattle.paper.specs.declared.Judgement.the-variants as J
 use Rattle.paper.specs.declared.Explanation.{Explanation}
@@ -69,6 +70,14 @@ judged = told (verdictAfter 0)
 
 abbrev pub ran : Answer Ran → PolluxAnswer
 ran = told (λ r. verdictAfter (r .steps) (r .accepted))
+
+-- whether blocks agree with a text
+abbrev pub agreeing : Bool → PolluxAnswer
+agreeing true = record { says = 4; number = 0; input = 0; value = 0 }
+agreeing false = record { says = 5; number = 0; input = 0; value = 0 }
+
+abbrev pub compared : Answer Bool → PolluxAnswer
+compared = told agreeing
 
 -- what is shown, beside the judgement
 
@@ -156,6 +165,9 @@ abbrev pub DraftTold : List ℕ → List ℕ → List ℕ → List ℕ → List 
 DraftTold contract table list buffer exit =
     Tells (λ r. DraftPromised contract table list buffer (record { answer = r; buffer = exit })) (λ r. counted (draftingSays r))
 
+abbrev pub CompareTold : List ℕ → List ℕ → List ℕ → PolluxAnswer → Type 0
+CompareTold text list blocks = Tells (ComparePromised text list blocks) (λ r. compared (agreementSays r))
+
 abbrev pub ExplainTold : List ℕ → List ℕ → List ℕ → PolluxReason → Type 0
 ExplainTold text list entry = Tells (ExplainPromised text list entry) (λ r. reasoned (explanationSays r))
 
@@ -181,6 +193,7 @@ pub record OneAnswerForC : Type 0 where
       → (a ≡ b) × (exit ≡ other)
   pub draft : (contract table list buffer exit other : List ℕ) (a b : PolluxAnswer) → DraftTold contract table list buffer exit a
       → DraftTold contract table list buffer other b → (a ≡ b) × (exit ≡ other)
+  pub compare : (text list blocks : List ℕ) → Sole (CompareTold text list blocks)
   pub explain : (text list entry : List ℕ) → Sole (ExplainTold text list entry)
   pub summarize : (text list : List ℕ) → Sole (SummarizeTold text list)
   pub recheck : (text list old : List ℕ) (earlier : PolluxAnswer) (new : List ℕ) → Sole (RecheckTold text list old earlier new)
@@ -204,6 +217,9 @@ ranIn p = record { accepted = eqb (p .says) 1; steps = p .value }
 
 abbrev pub heardRan : PolluxAnswer → Answer Ran
 heardRan = heard ranIn
+
+abbrev pub heardCompared : PolluxAnswer → Answer Bool
+heardCompared = heard (λ p. eqb (p .says) 4)
 
 abbrev pub answerIn : PolluxReason → PolluxAnswer
 answerIn p = record { says = p .says; number = p .number; input = p .input; value = p .value }
@@ -236,6 +252,7 @@ pub record TellsAll : Type 0 where
   pub passes : (x : Answer (Unit {0})) → heard (λ _. tt) (passed x) ≡ x
   pub verdicts : (x : Answer Bool) → heardJudged (judged x) ≡ x
   pub runs : (x : Answer Ran) → heardRan (ran x) ≡ x
+  pub agreements : (x : Answer Bool) → heardCompared (compared x) ≡ x
   pub reasons : (text list entry : List ℕ) (r : Explanation) → ExplainPromised text list entry r
       → heardReason (reasoned (explanationSays r)) ≡ explanationSays r
   pub summaries : (x : Answer Summary) → heardSummary (summarized x) ≡ x

@@ -3,7 +3,9 @@ ghost use mathlib.Core.Path.{_≡_};
 ghost use Rattle.paper.specs.Answers.{inputOf, offsetOf, readingSays, checkingSays, judgementSays, translationSays, loadingSays, runningSays, printingSays};
 ghost use Rattle.paper.specs.Fixing.{fixingSays};
 ghost use Rattle.paper.specs.Drafting.{draftingSays};
-ghost use Rattle.abi.specs.Told.{turnedAway, counted, passed, judged, ran};
+ghost use Rattle.paper.specs.Comparing.{agreementSays};
+ghost use Rattle.abi.specs.Told.{turnedAway, counted, passed, judged, ran, compared};
+use paper::Agreement;
 use paper::Checking;
 use paper::Drafting;
 use paper::Fixing;
@@ -139,5 +141,15 @@ pub(crate) fn of_drafting(r: Drafting) -> PolluxAnswer
     match r {
         Drafting::Drafted(n) => answer(3, n),
         Drafting::Refused(number, place) => refusal(number, place),
+    }
+}
+
+pub(crate) fn of_agreement(r: Agreement) -> PolluxAnswer
+    ensures { λ a. ⌜ a ≡ compared (agreementSays r) ⌝ }
+{
+    match r {
+        Agreement::Agrees => answer(4, 0),
+        Agreement::Differs => answer(5, 0),
+        Agreement::Refused(number, place) => refusal(number, place),
     }
 }

@@ -10,7 +10,7 @@ mod recheck;
 mod summary;
 mod told;
 
-ghost use Rattle.abi.specs.Told.{ReadTold, CheckTold, JudgeTold, TranslateTold, LoadTold, RunTold, PrintTold, FixTold, DraftTold, ExplainTold, SummarizeTold, RecheckTold};
+ghost use Rattle.abi.specs.Told.{ReadTold, CheckTold, JudgeTold, TranslateTold, LoadTold, RunTold, PrintTold, FixTold, DraftTold, CompareTold, ExplainTold, SummarizeTold, RecheckTold};
 use crate::answer::PolluxAnswer;
 use crate::reason::PolluxReason;
 use crate::recheck::PolluxRechecked;
@@ -91,6 +91,14 @@ pub extern "C" fn pollux_pact(
     ensures { λ r. ⌜ DraftTold (now (contract .entry)) (now (table .entry)) (now (names .entry)) (now (buffer .entry)) (now (buffer .exit)) r ⌝ }
 {
     answer::of_drafting(valve::pact(contract, table, names, buffer))
+}
+
+// Whether the blocks are the text's translation, its parts in some order.
+#[no_mangle]
+pub extern "C" fn pollux_compare(text: &[u8], list: &[u8], blocks: &[u8]) -> PolluxAnswer
+    ensures { λ r. ⌜ CompareTold (now (text .entry)) (now (list .entry)) (now (blocks .entry)) r ⌝ }
+{
+    answer::of_agreement(valve::compare(text, list, blocks))
 }
 
 // What broke: the part that is false or the key whose record is bad, where it stands in the text or the list, and the judgement. A caller makes

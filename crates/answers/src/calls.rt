@@ -35,6 +35,8 @@ const FIX_OCTAL: u8 = 11;
 
 const PACT: u8 = 12;
 
+const COMPARE: u8 = 13;
+
 // The sum of some bytes, after what a call answered.
 pub(crate) fn say_sum(bytes: &[u8]) {
     lines::say(b" ");
@@ -73,6 +75,7 @@ fn reading_call(call: u8, first: &[u8], second: &[u8], third: &[u8]) {
         EXPLAIN => explain(first, second, third),
         SUMMARIZE => summarize(first, second),
         RECHECK => changes::recheck(first, second, third),
+        COMPARE => lines::say_agreement(valve::compare(first, second, third)),
         _ => lines::say(b"unknown"),
     }
 }

@@ -2,6 +2,7 @@
 use crate::inputs::put_input;
 use crate::names::CHECK;
 use crate::names::CODE;
+use crate::names::COMPARE;
 use crate::names::EARLIER;
 use crate::names::ENTRY;
 use crate::names::EXPLAIN;
@@ -150,6 +151,7 @@ fn answer(call: usize, text: &[u8], list: &[u8], entry: &[u8], room: &[u8]) {
         JUDGE => lines::say_judgement(valve::judge(text, list, entry)),
         EXPLAIN => explain(text, list, entry),
         SUMMARIZE => summarize(text, list),
+        COMPARE => lines::say_agreement(valve::compare(text, list, room)),
         LOAD => lines::say_loading(valve::load(list, room)),
         _ => lines::say_running(valve::run(list, room, entry)),
     }

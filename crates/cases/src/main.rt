@@ -9,8 +9,11 @@ mod words;
 
 use libc::STDIN_FILENO;
 
+// Room for the file, which has fewer bytes.
+const FILE: usize = 131_072;
+
 fn main() {
-    let mut file = io::large_buffer();
+    let mut file = [0u8; FILE];
     let n = io::read_full(STDIN_FILENO, &mut file);
     if n == file.len() {
         scan::not_understood();

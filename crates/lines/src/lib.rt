@@ -1,6 +1,6 @@
 // What the calls answer, in the words of a line on standard output: `read N`, `passed`, `accepted`, `violated`, `translated N`,
-// `loaded N`, `printed N`, `fixed N`, `drafted N`, or `refused NUMBER INPUT OFFSET` with INPUT one of text, list, entry, blocks, buffer,
-// contract, table. A run tells its steps too, `accepted STEPS` or `violated STEPS`. What broke for an entry is `part NUMBER at OFFSET START LENGTH`,
+// `loaded N`, `printed N`, `fixed N`, `drafted N`, `agrees`, `differs`, or `refused NUMBER INPUT OFFSET` with INPUT one of text, list,
+// entry, blocks, buffer, contract, table. A run tells its steps too, `accepted STEPS` or `violated STEPS`. What broke for an entry is `part NUMBER at OFFSET START LENGTH`,
 // `key at OFFSET START LENGTH`, or `nothing ` and what was judged. What a text names is `summary BITS MARK`, and a recheck `reused ` or
 // `judged ` and what was judged. The programs share these words.
 //
@@ -12,6 +12,7 @@ ghost use mathlib.Core.Path.{_≡_};
 ghost use Prim.Native.Nat.{_-_, _<_};
 ghost use lib.ListN.{take};
 use libc::STDOUT_FILENO;
+use paper::Agreement;
 use paper::Checking;
 use paper::Drafting;
 use paper::Explanation;
@@ -143,6 +144,15 @@ pub fn say_drafting(drafting: Drafting) {
     match drafting {
         Drafting::Drafted(n) => say_count(b"drafted ", n),
         Drafting::Refused(number, place) => say_refused(number, place),
+    }
+}
+
+// Writes what `compare` answered.
+pub fn say_agreement(agreement: Agreement) {
+    match agreement {
+        Agreement::Agrees => say(b"agrees"),
+        Agreement::Differs => say(b"differs"),
+        Agreement::Refused(number, place) => say_refused(number, place),
     }
 }
 

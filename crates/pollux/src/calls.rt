@@ -13,9 +13,11 @@ use crate::writing::write_argument;
 use blocks::Block;
 use lines::say;
 use lines::start;
+use paper::Agreement;
 use paper::Checking;
 use paper::Fixing;
 use paper::Loading;
+use paper::Place;
 use paper::Printing;
 use paper::Summarizing;
 use paper::Translation;
@@ -27,9 +29,12 @@ const SECOND: usize = 3;
 
 const OUT: usize = 4;
 
+const BLOCKS: usize = 4;
+
 pub enum Call {
     Check,
     Translate,
+    Compare,
     Load,
     Judge,
     Explain,
@@ -92,6 +97,36 @@ fn translate(text: &[u8], list: &[u8], text_size: usize, list_size: usize) {
     }
 }
 
+fn agrees() {
+    say(
+        b"agrees: the blocks are the text's translation, its parts in some order, so they say of every entry what the text says\n",
+    )
+}
+
+fn differs() {
+    say(
+        b"differs: the blocks load, but are not the text's translation in any order of its parts, so they may say something else\n",
+    )
+}
+
+// With the blocks in the file that argument 4 names.
+fn compare(text: &[u8], list: &[u8], text_size: usize, list_size: usize) {
+    let mut room = io::large_buffer();
+    let file = read_argument(BLOCKS, &mut room);
+    if !file.read {
+        return;
+    }
+    let blocks = start(&room, file.held);
+    match valve::compare(text, list, blocks) {
+        Agreement::Agrees => agrees(),
+        Agreement::Differs => differs(),
+        Agreement::Refused(number, place) => match place {
+            Place::Blocks(_) => refused(number, place, blocks, list, file.size, list_size),
+            _ => refused(number, place, text, list, text_size, list_size),
+        },
+    }
+}
+
 // What blocks that loaded are for.
 fn loaded(call: Call, instructions: usize, list: &[u8], blocks: &[u8]) {
     if let Call::Run = call {
@@ -121,6 +156,7 @@ fn answer_on(call: Call, first: &[u8], second: &[u8], first_size: usize, second_
         }
         Call::Summary => summarize(first, second, first_size, second_size),
         Call::Translate => translate(first, second, first_size, second_size),
+        Call::Compare => compare(first, second, first_size, second_size),
         Call::Load | Call::Run => load(call, first, second, first_size, second_size),
     }
 }

@@ -1,8 +1,8 @@
-// Polluxvalve for people: checks, prints, rids of octal, takes in contracts, sums up, translates, loads, judges, explains, rechecks and runs what stands in
-// files, and tells the answer in words.
+// Polluxvalve for people: checks, prints, rids of octal, takes in contracts, sums up, translates, compares, loads, judges, explains,
+// rechecks and runs what stands in files, and tells the answer in words.
 //
-// Each answer is a line on standard output whose first word is passed, translated, loaded, printed, fixed, drafted, named, accepted, violated,
-// refused, cannot or usage; the script `pollux` at the root makes an exit status of it. A refusal of a text is followed by the line and a caret under
+// Each answer is a line on standard output whose first word is passed, translated, loaded, printed, fixed, drafted, named, agrees, differs,
+// accepted, violated, refused, cannot or usage; the script `pollux` at the root makes an exit status of it. A refusal of a text is followed by the line and a caret under
 // the place, what broke for an entry by the line and carets under the part, or by the key's name. A run tells how many steps each entry took.
 // Files may have any length: a place that is a length is the file's true length, and entries stream through one buffer. No output file is
 // touched unless the whole call passes, and it is written whole or not at all.
@@ -40,6 +40,7 @@ fn usage() {
        pollux fix-octal TEXT OUT
        pollux pact CONTRACT TABLE KEYS OUT
        pollux translate TEXT KEYS OUT
+       pollux compare TEXT KEYS BLOCKS
        pollux load KEYS BLOCKS
        pollux judge TEXT KEYS ENTRIES
        pollux explain TEXT KEYS ENTRIES
@@ -78,6 +79,8 @@ fn with_two(call: &[u8]) {
 fn with_three(call: &[u8]) {
     if same_bytes(call, b"translate") {
         answer(Call::Translate)
+    } else if same_bytes(call, b"compare") {
+        answer(Call::Compare)
     } else if same_bytes(call, b"judge") {
         answer(Call::Judge)
     } else if same_bytes(call, b"explain") {

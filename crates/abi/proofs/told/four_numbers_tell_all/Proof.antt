@@ -20,7 +20,7 @@ use Rattle.paper.specs.Rechecking.{Rechecked, reused}
 use Rattle.paper.specs.Promised.{ExplainPromised}
 use Rattle.paper.proofs.ExplainedRight.{explained-is-right, pieces-in-inputs}
 use Rattle.abi.specs.declared.answer.PolluxAnswer.{PolluxAnswer}
-use Rattle.abi.specs.Told.{turnedAway, told, judged, ran, reasoned, summarized, rechecked, verdictAfter, done, heard, heardJudged, ranIn, heardRan, heardReason, heardSummary, heardRecheck, TellsAll}
+use Rattle.abi.specs.Told.{turnedAway, told, judged, ran, compared, reasoned, summarized, rechecked, verdictAfter, agreeing, done, heard, heardJudged, ranIn, heardRan, heardCompared, heardReason, heardSummary, heardRecheck, TellsAll}
 use Rattle.abi.proofs.told.four_numbers_tell_all.Statement.{statement}
 use Rattle.abi.proofs.told.four_numbers_tell_all.Tie as tie
 
@@ -54,6 +54,15 @@ steps-heard steps false = refl
 
 run-heard : (x : Answer Ran) → heardRan (ran x) ≡ x
 run-heard = all-heard ranIn (λ r. verdictAfter (r .steps) (r .accepted)) (λ r. steps-heard (r .steps) (r .accepted))
+
+-- whether blocks agree
+
+agreeing-heard : (b : Bool) → heardCompared (agreeing b) ≡ ok b
+agreeing-heard true = refl
+agreeing-heard false = refl
+
+compared-heard : (x : Answer Bool) → heardCompared (compared x) ≡ x
+compared-heard = all-heard (λ p. eqb (p .says) 4) agreeing agreeing-heard
 
 -- a reason
 
@@ -97,6 +106,7 @@ tells-all =
       passes = all-heard (λ _. tt) (λ _. done 0) (λ _. refl);
       verdicts = judged-heard;
       runs = run-heard;
+      agreements = compared-heard;
       reasons = reason-heard;
       summaries = summary-heard;
       rechecks = recheck-heard;

@@ -8,11 +8,12 @@ use Rattle.paper.specs.Named.{summarizingSays}
 use Rattle.paper.specs.Rechecking.{recheckingSays}
 use Rattle.paper.specs.Fixing.{fixingSays}
 use Rattle.paper.specs.Drafting.{draftingSays}
+use Rattle.paper.specs.Comparing.{agreementSays}
 use Rattle.paper.specs.Promised.{TranslateResult, TranslatePromised, PrintResult, PrintPromised, FixResult, FixPromised, DraftResult, DraftPromised, Sole}
 use Rattle.paper.proofs.Promised.{no-second-result}
 use Rattle.abi.specs.declared.answer.PolluxAnswer.{PolluxAnswer}
 use Rattle.abi.specs.Heard.{heardAs}
-use Rattle.abi.specs.Told.{counted, passed, judged, ran, reasoned, summarized, rechecked, Tells, OneAnswerForC}
+use Rattle.abi.specs.Told.{counted, passed, judged, ran, compared, reasoned, summarized, rechecked, Tells, OneAnswerForC}
 use Rattle.abi.proofs.told.one_answer_for_c.Statement.{statement}
 use Rattle.abi.proofs.told.one_answer_for_c.Tie as tie
 
@@ -58,6 +59,7 @@ one-answer =
       draft = λ contract table list buffer.
           told-with-buffer (λ r s. record { answer = r; buffer = s }) (λ (r : DraftResult). r .answer) (λ (r : DraftResult). r .buffer) (λ r s. refl) (λ r s. refl)
           (DraftPromised contract table list buffer) (λ r. counted (draftingSays r)) (one .draft contract table list buffer);
+      compare = λ text list blocks. told-once _ (λ r. compared (agreementSays r)) (one .compare text list blocks);
       explain = λ text list entry. told-once _ (λ r. reasoned (explanationSays r)) (one .explain text list entry);
       summarize = λ text list. told-once _ (λ r. summarized (summarizingSays r)) (one .summarize text list);
       recheck = λ text list old earlier new. told-once _ (λ r. rechecked (recheckingSays r)) (one .recheck text list old (heardAs earlier) new);

@@ -1,14 +1,14 @@
 //! Requests and answer lines of the program `answers`.
 //!
 //! A request is one byte for the call (1 read, 2 check, 3 judge, 4 translate,
-//! 5 load, 6 run, 7 print, 8 explain, 9 summarize, 10 recheck, 11 fix_octal, 12 pact)
-//! and three inputs, each a 4-byte big-endian length and its bytes. Each request gets
-//! one line. The line of a run ends in the steps that it took. For a call that is lent a
-//! buffer, the third input is what the buffer holds before, and the line ends in the
-//! sum of what it holds after. The line of an explanation ends in the sum of the piece
-//! that it shows. The third input of a recheck is a change, the earlier answer with
-//! both entries, and that of a pact is a table of numbers with a buffer; one that is
-//! too short for that is `malformed`.
+//! 5 load, 6 run, 7 print, 8 explain, 9 summarize, 10 recheck, 11 fix_octal, 12 pact,
+//! 13 compare) and three inputs, each a 4-byte big-endian length and its bytes. Each
+//! request gets one line. The line of a run ends in the steps that it took. For a call
+//! that is lent a buffer, the third input is what the buffer holds before, and the line
+//! ends in the sum of what it holds after. The line of an explanation ends in the sum of
+//! the piece that it shows. The third input of a recheck is a change, the earlier answer
+//! with both entries, and that of a pact is a table of numbers with a buffer; one that
+//! is too short for that is `malformed`.
 
 use std::io::{self, Read, Write};
 
@@ -33,6 +33,7 @@ pub enum Call {
     Recheck,
     FixOctal,
     Pact,
+    Compare,
 }
 
 /// What an input is to a call.
@@ -46,7 +47,7 @@ pub enum Lent {
 }
 
 impl Call {
-    pub const ALL: [Call; 12] = [
+    pub const ALL: [Call; 13] = [
         Call::Read,
         Call::Check,
         Call::Judge,
@@ -59,6 +60,7 @@ impl Call {
         Call::Recheck,
         Call::FixOctal,
         Call::Pact,
+        Call::Compare,
     ];
 
     pub fn from_byte(byte: u8) -> Option<Call> {
@@ -83,6 +85,7 @@ impl Call {
             Call::Recheck => "recheck",
             Call::FixOctal => "fix_octal",
             Call::Pact => "pact",
+            Call::Compare => "compare",
         }
     }
 
@@ -100,6 +103,7 @@ impl Call {
             Call::Print | Call::FixOctal => [one(Text), None, one(Buffer)],
             Call::Recheck => [one(Text), one(List), Some(Lent::Change)],
             Call::Pact => [one(Contract), one(List), Some(Lent::TableAndBuffer)],
+            Call::Compare => [one(Text), one(List), one(Blocks)],
         }
     }
 }
@@ -161,6 +165,7 @@ impl Request {
             Call::Recheck => return recheck_line(first, second, third),
             Call::FixOctal => reference::fix_octal(first, &mut buffer),
             Call::Pact => return pact_line(first, second, third),
+            Call::Compare => reference::compare(first, second, third),
         };
         if self.input(Input::Buffer).is_some() {
             format!("{answer} {}", adler32(&buffer))

@@ -15,13 +15,14 @@ use desk::reference::{check, Answer};
 use desk::requests::Call;
 
 /// The calls that type a text.
-const TYPING: [Call; 6] = [
+const TYPING: [Call; 7] = [
     Call::Check,
     Call::Judge,
     Call::Translate,
     Call::Explain,
     Call::Summarize,
     Call::Recheck,
+    Call::Compare,
 ];
 
 /// A number that a text compares with a key or a field of some width.

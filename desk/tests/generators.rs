@@ -47,7 +47,7 @@ fn one_seed_gives_one_run() {
 #[test]
 fn every_compared_call_occurs_and_no_other() {
     let mut counts = BTreeMap::new();
-    for index in 0..24_000 {
+    for index in 0..26_000 {
         if let Some(call) = Call::from_byte(request(9, index).call) {
             *counts.entry(call.byte()).or_insert(0) += 1;
         }
@@ -60,7 +60,7 @@ fn every_compared_call_occurs_and_no_other() {
 
 #[test]
 fn every_refusal_occurs_often() {
-    let counts = counts((0..40_000).map(|index| request(1, index)));
+    let counts = counts((0..44_000).map(|index| request(1, index)));
     for number in 1..=24 {
         let count = counts[&format!("refused {number}")];
         assert!(count >= 60, "refusal {number} occurs {count} times");
@@ -77,10 +77,11 @@ fn every_refusal_occurs_often() {
         "judged",
         "fixed",
         "drafted",
+        "agrees",
     ] {
         assert!(counts[answer] >= 1_000, "{answer}: {}", counts[answer]);
     }
-    for answer in ["part", "key", "nothing", "reused"] {
+    for answer in ["part", "key", "nothing", "reused", "differs"] {
         assert!(counts[answer] >= 500, "{answer}: {}", counts[answer]);
     }
     for answer in ["unknown", "too", "malformed"] {

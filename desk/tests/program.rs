@@ -68,6 +68,7 @@ fn answer_lines() {
     };
     let pact =
         |contract: &[u8], third| Request::new(Call::Pact, contract.to_vec(), inputs(1), third);
+    let compare = |of: &str, blocks| Request::new(Call::Compare, text(of), list(), blocks);
     let requests = [
         Request::new(Call::Read, text("true && true"), none(), none()),
         Request::new(Call::Check, text("v == 1"), list(), none()),
@@ -110,6 +111,10 @@ fn answer_lines() {
         pact(&[0x00], lent(&[5], 0)[..9].to_vec()),
         pact(&[0x00], vec![0]),
         Request::new(Call::Pact, none(), vec![0; 3], none()),
+        compare("v == 1;", block.clone()),
+        compare("v == 0", block.clone()),
+        compare("", none()),
+        compare("v == 1", none()),
     ];
     let output = desk(&["answer"], &bytes(&requests));
     let sum = adler32(&block);
@@ -129,7 +134,8 @@ fn answer_lines() {
          refused 5 text 6 {ones_sum}\nfixed 4 {fixed_sum}\nrefused 21 buffer 3 589828\n\
          fixed 0 1\nrefused 22 text 1 589828\n\
          drafted 7 {draft_sum}\nrefused 24 contract 1 589828\nrefused 21 buffer 3 589828\n\
-         refused 24 table 16 589828\nrefused 21 buffer 0 1\nmalformed\nmalformed\nmalformed\n"
+         refused 24 table 16 589828\nrefused 21 buffer 0 1\nmalformed\nmalformed\nmalformed\n\
+         agrees\ndiffers\nrefused 8 text 0\nrefused 16 blocks 0\n"
     );
     assert_eq!(text_of(&output.stdout), wanted);
 }
@@ -402,6 +408,25 @@ fn a_wrong_draft_is_made_small() {
         "00".repeat(6)
     );
     assert_eq!(smallest, wanted);
+}
+
+/// Text, key list and blocks become small together, so that they still agree.
+#[test]
+fn a_wrong_agreement_is_made_small() {
+    for (script, byte, check) in [
+        ("s/^agrees/Agrees/", "01", "fdfa0103"),
+        ("s/^differs/Differs/", "00", "fcff0102"),
+    ] {
+        let found = compare_with_sed(script);
+        let (_, smallest) = found.split_once("the smallest found:\n").expect("one");
+        let wanted = format!(
+            "compare\n  text, 4 bytes: \"true\"\n  key list, 0 bytes:\n  \
+             blocks, 512 bytes:\n    number 0, count 1, total 1, keys 0, check {check} (good)\n      \
+             010000{byte} {} PushBool(",
+            "00".repeat(16)
+        );
+        assert!(smallest.starts_with(&wanted), "{smallest}");
+    }
 }
 
 /// Text, buffer and what is passed over: all become small.

@@ -3,7 +3,7 @@
 mod common;
 
 use common::code::*;
-use common::list;
+use common::{list, translated};
 use desk::compare::pieces::{Deed, Division};
 use desk::reference::blocks::{all_parts, blocks_of};
 use desk::reference::code::Parts;
@@ -63,4 +63,49 @@ fn smaller_contracts_keep_whole_assertions() {
     let smaller = Division::Numbers.simpler(&request, Deed::Drop, 0..2);
     assert_eq!(smaller.inputs[2], lent(&[3]));
     assert_eq!(Division::Tokens.count(&request), 0);
+}
+
+/// A part of a text goes with its code, wherever the other translator has put it, or
+/// becomes true with it; all other landings stay.
+#[test]
+fn smaller_texts_keep_blocks_that_agree() {
+    let blocks = translated("(true; false); v == 1; d == 2 && true", &list());
+    let text = b"v == 1; // remark\n d == 2 && true ; (true; false);".to_vec();
+    let request = Request::new(Call::Compare, text, list(), blocks);
+    assert_eq!(request.answer_line(), "agrees");
+    assert_eq!(Division::Parts.count(&request), 3);
+    for (deed, stretch, text, as_made) in [
+        (
+            Deed::Drop,
+            0..1,
+            "d == 2 && true;(true; false)",
+            "(true; false); d == 2 && true",
+        ),
+        (
+            Deed::Drop,
+            2..3,
+            "v == 1;d == 2 && true",
+            "v == 1; d == 2 && true",
+        ),
+        (Deed::Drop, 1..3, "v == 1", "v == 1"),
+        (
+            Deed::True,
+            1..2,
+            "v == 1;true;(true; false)",
+            "(true; false); v == 1; true",
+        ),
+        (Deed::True, 0..3, "true;true;true", "true; true; true"),
+    ] {
+        let smaller = Division::Parts.simpler(&request, deed, stretch);
+        assert_eq!(smaller.inputs[0], text.as_bytes());
+        assert_eq!(smaller.inputs[2], translated(as_made, &list()), "{text}");
+        assert_eq!(smaller.answer_line(), "agrees");
+    }
+    // There is nothing to do where text or blocks are refused.
+    let mut refused = request.clone();
+    refused.inputs[0].push(b'@');
+    assert_eq!(Division::Parts.count(&refused), 0);
+    let mut refused = request;
+    refused.inputs[2].pop();
+    assert_eq!(Division::Parts.count(&refused), 0);
 }

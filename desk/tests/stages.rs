@@ -2,8 +2,11 @@
 
 mod common;
 
+use common::code::{plain, NOT};
 use common::*;
-use desk::reference::{check, explain, fix_octal, judge, load, print, read, run, translate};
+use desk::reference::blocks::blocks_of;
+use desk::reference::{check, compare, explain, fix_octal, judge, load, print};
+use desk::reference::{read, run, translate};
 
 const LONG: [u8; 4097] = [b' '; 4097];
 
@@ -124,4 +127,32 @@ fn refused_translation_leaves_the_buffer() {
         );
         assert!(buffer.iter().all(|&byte| byte == 0x5a), "{text}");
     }
+}
+
+/// Whatever is wrong with text or list hides what is wrong with the blocks.
+#[test]
+fn blocks_to_compare_come_last() {
+    let comparing = |text: &[u8], list: &[u8], blocks: &[u8]| short(compare(text, list, blocks));
+    let bad_code = blocks_of(&[plain(NOT)], 5);
+    let no_code = [0; 512];
+    assert_eq!(comparing(&LONG, &[0; 3], &[]), "1@4096");
+    assert_eq!(comparing(b"\xff", &[0; 3], &[]), "2 list 3");
+    assert_eq!(comparing(b"\xff", &[0; 80], &[]), "3 list 0");
+    for (text, wanted) in [
+        ("", "8@0"),
+        ("true true @", "5@10"),
+        ("v == 0o1", "22@5"),
+        ("zz true", "8@3"),
+        ("zz", "11@0"),
+        ("d > 3", "13@2"),
+        ("v == 2", "23@5"),
+        ("1", "14@0"),
+    ] {
+        for blocks in [&[][..], &[0; 3], &no_code, &bad_code] {
+            assert_eq!(comparing(text.as_bytes(), &list(), blocks), wanted);
+        }
+    }
+    assert_eq!(comparing(b"true", &list(), &[]), "16 blocks 0");
+    assert_eq!(comparing(b"true", &list(), &no_code), "17 blocks 0");
+    assert_eq!(comparing(b"true", &list(), &bad_code), "18 blocks 4");
 }

@@ -3,6 +3,7 @@
 //! The other program takes requests on its standard input and writes a line
 //! for each, as the program `answers` does.
 
+mod both;
 mod peer;
 pub mod pieces;
 mod shrink;

@@ -2,6 +2,7 @@
 
 use std::ops::Range;
 
+use super::both;
 use crate::reference::blocks::{all_parts, blocks_of, checked_layout, BLOCK};
 use crate::reference::code::{landing, Instruction, Parts};
 use crate::reference::entries::Entry;
@@ -16,6 +17,8 @@ use crate::requests::Request;
 pub enum Division {
     /// Key records, each with its entry record and its number in the code.
     Keys,
+    /// Parts of the text, each with its code in blocks that are made of it.
+    Parts,
     /// Tokens of the text, each with the blanks after it.
     Tokens,
     /// Instructions of blocks of good layout; totals and checks are made again,
@@ -47,16 +50,16 @@ pub enum Deed {
 }
 
 impl Deed {
-    /// The shortest stretch that this makes simpler.
-    pub fn shortest(self) -> usize {
-        match self {
-            Deed::Drop | Deed::Zero => 1,
-            Deed::True | Deed::False => 2,
-            Deed::Unwrap => 3,
+    /// The shortest stretch of pieces that this makes simpler.
+    pub fn shortest(self, division: Division) -> usize {
+        match (self, division) {
+            (Deed::Drop | Deed::Zero, _) | (Deed::True, Division::Parts) => 1,
+            (Deed::True | Deed::False, _) => 2,
+            (Deed::Unwrap, _) => 3,
         }
     }
 
-    fn token(self) -> Option<&'static [u8]> {
+    pub fn token(self) -> Option<&'static [u8]> {
         match self {
             Deed::Drop | Deed::Unwrap => None,
             Deed::True => Some(b"true"),
@@ -76,8 +79,10 @@ impl Deed {
 }
 
 /// All steps that are tried, coarse ones first.
-pub const STEPS: [(Division, Deed); 20] = [
+pub const STEPS: [(Division, Deed); 22] = [
     (Division::Keys, Deed::Drop),
+    (Division::Parts, Deed::Drop),
+    (Division::Parts, Deed::True),
     (Division::Tokens, Deed::Drop),
     (Division::Tokens, Deed::Unwrap),
     (Division::Tokens, Deed::True),
@@ -105,6 +110,7 @@ impl Division {
         let length = |input: Option<usize>| input.map_or(0, |i| request.inputs[i].len());
         match self {
             Division::Keys => length(request.input(Input::List)) / Key::SIZE,
+            Division::Parts => both::part_pieces(request).len(),
             Division::Tokens => token_pieces(request).len(),
             Division::Instructions => code(request).map_or(0, |(_, code, _)| code.len()),
             Division::Blocks => length(request.input(Input::Blocks)) / BLOCK,
@@ -122,6 +128,7 @@ impl Division {
         let mut simpler = request.clone();
         match self {
             Division::Keys => drop_keys(&mut simpler, stretch),
+            Division::Parts => both::change(&mut simpler, deed, stretch),
             Division::Tokens => {
                 if let Some(input) = request.input(Input::Text) {
                     let filling = deed.token().map(|token| [token, b" "].concat());
@@ -180,7 +187,7 @@ fn changed<T>(mut pieces: Vec<T>, deed: Deed, stretch: Range<usize>, filling: Op
 
 /// The code after the deed. Each skip that is left lands at the instruction that it
 /// landed at before, or at the next one that is left.
-fn changed_code(code: &[Parts], deed: Deed, stretch: Range<usize>) -> Vec<Parts> {
+pub fn changed_code(code: &[Parts], deed: Deed, stretch: Range<usize>) -> Vec<Parts> {
     // Each instruction with the number that it has before the deed.
     let numbered = (0..).zip(code.iter().copied()).collect();
     let filling = deed
@@ -252,7 +259,7 @@ fn is_conjunction(byte: u8) -> bool {
 }
 
 /// The input that holds blocks of good layout, their code and number of keys.
-fn code(request: &Request) -> Option<(usize, Vec<Parts>, usize)> {
+pub fn code(request: &Request) -> Option<(usize, Vec<Parts>, usize)> {
     let input = request.input(Input::Blocks)?;
     let blocks = &request.inputs[input];
     let keys = request.inputs[request.input(Input::List)?].len() / Key::SIZE;

@@ -40,7 +40,7 @@ fn simplified(
     peer: &Peer,
 ) -> io::Result<Difference> {
     let mut length = division.count(&best.request);
-    while length >= deed.shortest() {
+    while length >= deed.shortest(division) {
         let few = division.count(&best.request) <= FEW;
         if few || deed == Deed::Drop {
             best = at_length(best, division, deed, length, peer)?;

@@ -13,10 +13,12 @@ pub mod explanations;
 pub mod limits;
 pub mod lists;
 pub mod octals;
+pub mod parted;
 pub mod prints;
 pub mod programs;
 pub mod rechecks;
 pub mod required;
+pub mod rivals;
 pub mod rng;
 pub mod scenes;
 pub mod skips;
@@ -43,6 +45,7 @@ pub const SHARES: &[(Call, usize)] = &[
     (Call::Recheck, 4),
     (Call::FixOctal, 3),
     (Call::Pact, 4),
+    (Call::Compare, 4),
 ];
 
 /// Request `index` of the run with this seed.

@@ -6,7 +6,7 @@ use super::rng::Rng;
 use super::skips;
 use crate::lists::NamedKey;
 use crate::reference::blocks::{INSTRUCTIONS_IN_BLOCK, MOST_BLOCKS};
-use crate::reference::code::{Instruction, Parts};
+use crate::reference::code::{in_parts, Instruction, Parts};
 use crate::reference::entries::Entry;
 use crate::reference::fields::Field;
 use crate::reference::keys::Kind;
@@ -25,11 +25,7 @@ pub fn good(rng: &mut Rng, keys: &[NamedKey], entry: &Entry, joins: usize) -> Ve
         code: Vec::new(),
     };
     writer.boolean(joins);
-    parts(&writer.code)
-}
-
-fn parts(code: &[Instruction]) -> Vec<Parts> {
-    code.iter().map(|instruction| instruction.parts()).collect()
+    in_parts(&writer.code)
 }
 
 struct Writer<'a> {
@@ -214,7 +210,7 @@ pub fn many_held(rng: &mut Rng) -> Vec<Parts> {
     for _ in 1..count {
         code.push(Instruction::Join(rng.pick(&JOINS)));
     }
-    parts(&code)
+    in_parts(&code)
 }
 
 /// A sequence that fills about 123 blocks, most often with skips in it.
@@ -243,7 +239,7 @@ pub fn bool_chain(rng: &mut Rng, count: usize) -> Vec<Parts> {
             code.push(Instruction::Not);
         }
     }
-    parts(&code)
+    in_parts(&code)
 }
 
 /// One wrong instruction, or one too many or too few.

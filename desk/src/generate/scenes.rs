@@ -1,9 +1,10 @@
 //! Requests about one key list and one entry.
 
+use super::rivals::Rival;
 use super::rng::Rng;
 use super::{
-    bits, blocks, buffers, contracts, damage, entries, explanations, limits, lists, octals, prints,
-    programs, rechecks, skips, snippets, spelling, texts,
+    bits, blocks, buffers, contracts, damage, entries, explanations, limits, lists, octals, parted,
+    prints, programs, rechecks, rivals, skips, snippets, spelling, texts,
 };
 use crate::lists::{list_bytes, NamedKey};
 use crate::reference;
@@ -11,7 +12,7 @@ use crate::reference::blocks::{all_parts, blocks_of, bytes_needed};
 use crate::reference::code::Parts;
 use crate::reference::entries::Entry;
 use crate::reference::Answer;
-use crate::requests::{Call, Request};
+use crate::requests::{Call, Request, LONGEST_INPUT};
 
 /// A good key list with a conforming entry.
 pub struct Scene {
@@ -68,6 +69,7 @@ impl Scene {
             Call::FixOctal => self.fix_octal(rng),
             // A contract has names and a table of its own.
             Call::Pact => contracts::request(rng),
+            Call::Compare => self.compare(rng),
         }
     }
 
@@ -187,6 +189,27 @@ impl Scene {
         let passed_over = self.list_passed_over(rng);
         let buffer = buffers::for_fixed_text(rng, &text);
         Request::new(Call::FixOctal, text, passed_over, buffer)
+    }
+
+    /// Another translator's blocks for a text, or any others.
+    fn compare(&self, rng: &mut Rng) -> Request {
+        let mut text = if rng.one_in(5) {
+            self.text(rng)
+        } else {
+            parted::text(rng, &self.keys, &self.entry)
+        };
+        let rival = Rival::any(rng);
+        let mut blocks = match rivals::blocks(rng, rival, &text, &self.keys) {
+            Some(blocks) if !rng.one_in(20) => blocks,
+            _ => self.blocks(rng),
+        };
+        // A long part that is used twice may be over the limit of the framing.
+        blocks.truncate(LONGEST_INPUT);
+        if rng.one_in(20) {
+            // The text alone is wrong, or another.
+            damage::any(rng, &mut text);
+        }
+        Request::new(Call::Compare, text, self.list(rng), blocks)
     }
 
     /// Most often a text in which it is the keys it names that count.

@@ -225,3 +225,25 @@ fn failing_instruction(rng: &mut Rng, to_end: usize) -> Parts {
     }
     skip
 }
+
+/// The code with one of its skips landing at another place that holds the same types,
+/// if a skip has such a place.
+pub fn land_elsewhere(rng: &mut Rng, code: &[Parts], keys: &[NamedKey]) -> Vec<Parts> {
+    let held = types_held(code, keys);
+    let mut changed = code.to_vec();
+    let other_ends = |index: usize| -> Vec<usize> {
+        let landed = landing(index, code[index].operand);
+        ends(&held, index)
+            .filter(|&end| end > index + 1 && end != landed)
+            .collect()
+    };
+    let movable: Vec<usize> = (0..code.len())
+        .filter(|&index| is_skip(code[index]) && !other_ends(index).is_empty())
+        .collect();
+    if !movable.is_empty() {
+        let index = rng.pick(&movable);
+        let end = rng.pick(&other_ends(index));
+        changed[index].operand = (end - index - 1) as u16;
+    }
+    changed
+}

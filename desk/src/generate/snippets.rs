@@ -273,6 +273,38 @@ pub const TEXTS: &[&str] = &[
     "v == -340282366920938463463374607431768211455",
 ];
 
+/// Texts whose parts are easily mistaken for one another.
+pub const LOOK_ALIKES: &[&str] = &[
+    // A part that another one begins with, or ends with.
+    "::priority == 1; ::priority == 1 && true",
+    "::priority == 1 && true; ::priority == 1",
+    "true; true && true; true && true && true",
+    "true; true && true; true && (true && true)",
+    "false; true && false; true; false && true",
+    "!true; true; !!true; true",
+    "true && (true; true); true; (true; true)",
+    // Parts that are alike, spelled differently.
+    "1 == 1; 0x1 == ipv4('0.0.0.1'); 0b1 == 0d01",
+    "true && false; (true; false); ((true) && (false))",
+    "1 == 1; 1 == 0x01; 1 == 2",
+    "-1 == 0; -(1) == (0); -0x1 == 0",
+    // Sequences in parentheses are parts of their own.
+    "(true; false); 1 == 1",
+    "true; false; 1 == 1",
+    "true; (false; 1 == 1)",
+    "((true; false); 1 == 1)",
+    "(true; (false; 1 == 1));",
+    "(true; false); (false; true); (true; false)",
+    // As many as there may be of one sort, and other joins.
+    "true; true; true; true; true;",
+    "true; false; true; false",
+    "true || false; true || false; false || true",
+    "true -> false; (true -> false) -> true; true",
+    "true",
+    "(true);",
+    "true && false",
+];
+
 /// Texts of several parts, for any keys.
 pub const PARTS: &[&str] = &[
     // Signs in parentheses divide nothing.

@@ -52,6 +52,10 @@ pub enum Answer {
     Fixed(usize),
     /// The contract was made into a text of this many bytes.
     Drafted(usize),
+    /// The blocks are the translation of the text's parts in some order, or they load
+    /// and do not fit.
+    Agrees,
+    Differs,
     Refused {
         number: u8,
         input: Input,
@@ -119,6 +123,8 @@ impl fmt::Display for Answer {
             Answer::Summary(summary) => write!(out, "summary {summary}"),
             Answer::Fixed(length) => write!(out, "fixed {length}"),
             Answer::Drafted(length) => write!(out, "drafted {length}"),
+            Answer::Agrees => out.write_str("agrees"),
+            Answer::Differs => out.write_str("differs"),
             Answer::Refused {
                 number,
                 input,

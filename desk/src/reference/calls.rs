@@ -5,9 +5,10 @@
 //! in the buffer at its length here and in every later request. Bytes after a
 //! print, or after a text that a later request writes, stay."
 
+use super::agreeing::{is_in_some_order, part_codes};
 use super::answers::{Answer, Input, Refusal};
 use super::blocks::{blocks_of, bytes_needed, checked_layout};
-use super::code::Instruction;
+use super::code::{in_parts, Instruction};
 use super::contracts::clauses;
 use super::drafting::{surely_too_long, tree_of};
 use super::entries::Entry;
@@ -59,7 +60,7 @@ pub fn judge(text: &[u8], list: &[u8], entry: &[u8]) -> Answer {
 pub fn translate(text: &[u8], list: &[u8], buffer: &mut [u8]) -> Answer {
     let mut translating = || {
         let (tree, keys) = checked_text(text, list)?;
-        let code: Vec<_> = instructions(&tree).iter().map(|i| i.parts()).collect();
+        let code = in_parts(&instructions(&tree));
         let needed = bytes_needed(code.len());
         if buffer.len() < needed {
             return Err(Refusal::new(15, Input::Buffer, buffer.len()));
@@ -163,6 +164,23 @@ pub fn pact(contract: &[u8], table: &[u64], names: &[u8], buffer: &mut [u8]) -> 
         Ok(Answer::Drafted(write_text(&text, buffer)?))
     };
     drafting().into()
+}
+
+/// Holds blocks that another translator made of a text against our own translation:
+/// "agrees" exactly when the blocks load and fit, and "Blocks that load and do not fit
+/// give "differs"." Text and list are refused first, then the blocks.
+pub fn compare(text: &[u8], list: &[u8], blocks: &[u8]) -> Answer {
+    let comparing = || {
+        checked_text(text, list)?;
+        let (code, keys) = loaded(list, blocks)?;
+        let fits = is_in_some_order(&in_parts(&code), &part_codes(text, &keys)?);
+        Ok(if fits {
+            Answer::Agrees
+        } else {
+            Answer::Differs
+        })
+    };
+    comparing().into()
 }
 
 /// Stage 1.

@@ -56,7 +56,7 @@ pub fn landing(index: usize, over: u16) -> usize {
 }
 
 /// The four parts of an instruction as they stand in its bytes.
-#[derive(Clone, Copy, PartialEq, Eq, Debug)]
+#[derive(Clone, Copy, PartialEq, Eq, PartialOrd, Ord, Debug)]
 pub struct Parts {
     pub operation: u8,
     pub detail: u8,
@@ -88,6 +88,11 @@ impl Parts {
         bytes[4..].copy_from_slice(&self.constant.to_be_bytes());
         bytes
     }
+}
+
+/// The parts of each instruction, where ";" and "&&" are one.
+pub fn in_parts(code: &[Instruction]) -> Vec<Parts> {
+    code.iter().map(|instruction| instruction.parts()).collect()
 }
 
 impl Instruction {

@@ -5,13 +5,14 @@
 //! judging one entry directly from the text, translating a text into blocks,
 //! loading blocks, running loaded blocks on an entry." And document 02's "Print
 //! a restriction in house style", "Tell me on site what broke", "A summary beside
-//! each rule", "Stop early, and count", "Octal goes", "Numbers that lose bits" and
-//! "Take in Pact contracts".
+//! each rule", "Stop early, and count", "Octal goes", "Numbers that lose bits", "Take
+//! in Pact contracts" and "Check a contractor's translator".
 //!
 //! The files follow the documents' sections. Plainness comes before speed:
 //! what stands here is meant to be held against the paper, line by line.
 
 pub mod addresses;
+pub mod agreeing;
 pub mod answers;
 pub mod bits;
 pub mod blocks;
@@ -43,7 +44,7 @@ pub mod values;
 pub mod words;
 
 pub use answers::{Answer, Input};
-pub use calls::{check, explain, fix_octal, judge, load, pact, print};
+pub use calls::{check, compare, explain, fix_octal, judge, load, pact, print};
 pub use calls::{read, recheck, run, summarize, translate};
 pub use explaining::Explanation;
 pub use rechecking::Rechecked;

@@ -54,7 +54,7 @@ fn append(tree: &Typed, code: &mut Vec<Instruction>) {
 }
 
 /// The skip over a right operand of so many instructions, and over the join.
-fn skip_of(join: Join, of_right: usize) -> Skip {
+pub fn skip_of(join: Join, of_right: usize) -> Skip {
     // A left operand that settles the join, and what the join then gives.
     let (when, becomes) = match join {
         Join::Sequence | Join::And => (false, false),

@@ -10,7 +10,7 @@ use desk::pack::entries::Rules;
 use desk::pack::{entries_from_text, keys_from_text};
 use desk::reference::blocks::{bytes_needed, BLOCK, MOST_BLOCKS};
 use desk::reference::calls::LONGEST_TEXT;
-use desk::reference::{check, explain, fix_octal, judge, load, pact, print};
+use desk::reference::{check, compare, explain, fix_octal, judge, load, pact, print};
 use desk::reference::{read, recheck, run, summarize, translate};
 use desk::reference::{Answer, Explanation, Input, Outcome, Rechecked};
 use desk::requests::{Call, Request};
@@ -108,6 +108,16 @@ pub fn translated(text: &str, list: &[u8]) -> Vec<u8> {
         refused => panic!("{text}: {refused}"),
     }
     buffer
+}
+
+/// Blocks held against a text with document 01's keys.
+pub fn comparing(text: impl AsRef<[u8]>, blocks: &[u8]) -> String {
+    short(compare(text.as_ref(), &list(), blocks))
+}
+
+/// The blocks of one text held against another.
+pub fn comparing_texts(text: &str, made_of: &str) -> String {
+    comparing(text, &translated(made_of, &list()))
 }
 
 /// The print of a text in a buffer that is long enough, or its refusal.

@@ -12,14 +12,15 @@
 #include <time.h>
 
 #include "edits.h"
+#include "orders.h"
 #include "plain.h"
 #include "tables.h"
 
-/* Plain C has no fix_octal and no pact: no time is compared with theirs. */
+/* Plain C has no fix_octal, no pact and no compare: no time is compared with theirs. */
 static const struct calls plain_calls = {
     plain_read, plain_check, plain_judge,   plain_translate, plain_load,
     plain_run,  plain_print, plain_explain, plain_summarize, plain_recheck,   NULL,
-    NULL,
+    NULL,       NULL,
 };
 
 /* ---- The requests that show what every version answers, in one order. */
@@ -384,6 +385,52 @@ static void measure_edits(void)
         measure_edit(&edits[i]);
 }
 
+/* ---- Comparisons of blocks with texts of many parts. */
+
+/* Milliseconds of one call, over one turn. */
+static double milliseconds(const struct order *order, bool compares)
+{
+    uint64_t done = 0;
+    double start = seconds(), took;
+    do {
+        struct pollux_answer answer =
+            compares ? pollux_compare(order->text.at, order->text.length, order->list.at, order->list.length, order->blocks.at,
+                                      order->blocks.length)
+                     : pollux_translate(order->text.at, order->text.length, order->list.at, order->list.length, scratch, sizeof scratch);
+        if (answer.says != (compares ? order->says : POLLUX_DONE)) {
+            fprintf(stderr, "%s: %s says %d\n", order->name, compares ? "compare" : "translate", (int)answer.says);
+            exit(1);
+        }
+        done++;
+        took = seconds() - start;
+    } while (took < TURN * 1e-3);
+    return took * 1e3 / (double)done;
+}
+
+static void measure_order(const struct order *order)
+{
+    double compare = milliseconds(order, true), translate = milliseconds(order, false);
+    for (int round = 1; round < ROUNDS; round++) {
+        double again = milliseconds(order, true), once_more = milliseconds(order, false);
+        compare = again < compare ? again : compare;
+        translate = once_more < translate ? once_more : translate;
+    }
+    printf("%-21s %6zu %9s %10.3f %10.3f\n", order->name, order->parts, order->says == POLLUX_AGREES ? "agrees" : "differs", compare,
+           translate);
+    fflush(stdout);
+}
+
+static void measure_orders(void)
+{
+    static struct order orders[ORDERS];
+    make_orders(orders);
+    printf("\nBlocks are compared with a text of many parts, in the orders that take longest. Milliseconds a call, Polluxvalve alone; beside it\n"
+           "those of a translation of the text.\n\n");
+    printf("%-21s %6s %9s %10s %10s\n", "parts", "number", "it says", "compare", "translate");
+    for (int i = 0; i < ORDERS; i++)
+        measure_order(&orders[i]);
+}
+
 /* ---- One call, again and again. */
 
 static const struct measured *find_measured(const char *call)
@@ -454,6 +501,7 @@ static int hold_and_measure(const struct table tables[TABLES], const char *path)
     for (size_t i = 0; i < sizeof all_beside / sizeof all_beside[0]; i++)
         measure_beside(tables, &all_beside[i]);
     measure_edits();
+    measure_orders();
     return 0;
 }
 

@@ -107,7 +107,7 @@ static bool unused_zero(const uint8_t *code)
 {
     static const struct { bool detail, operand, constant; } used[] = {
         [PUSH_BOOL] = { false, true, false }, [PUSH_INT] = { false, false, true }, [PUSH_KEY] = { false, true, false },
-        [PUSH_FIELD] = { true, true, false }, [CONVERT] = { true, true, false }, [COMPARE] = { true, false, false },
+        [PUSH_FIELD] = { true, true, false }, [CONVERT] = { true, true, false }, [COMPARE_TWO] = { true, false, false },
         [SKIP] = { true, true, true },
     };
     unsigned operation = code[0];
@@ -130,7 +130,7 @@ static bool step(struct held *held, const uint8_t *list, size_t keys, const uint
     case TURN: return bool_on_top(held);
     case NEGATE: return held->count >= 1 && can_negate(held->at[held->count - 1]);
     case CONVERT: return convert_top(held, code[1], short_at(code + 2));
-    case COMPARE: return code[1] <= 5 && join_top(held, true, code[1]);
+    case COMPARE_TWO: return code[1] <= 5 && join_top(held, true, code[1]);
     case SKIP: return good_skip(held, code, left);
     default: return join_top(held, false, 0);
     }

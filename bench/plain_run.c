@@ -14,7 +14,7 @@ static struct value *step(struct value *top, const uint8_t *code, const uint8_t 
     case TURN: top[-1].first ^= 1; return top;
     case NEGATE: top[-1] = minus(top[-1]); return top;
     case CONVERT: top[-1] = convert(top[-1], (struct type){ code[1], code[3] }); return top;
-    case COMPARE: top[-2] = whole_value(compare(code[1], top[-2], top[-1])); return top - 1;
+    case COMPARE_TWO: top[-2] = whole_value(compare(code[1], top[-2], top[-1])); return top - 1;
     case JOIN_AND: top[-2].first &= top[-1].first; return top - 1;
     case JOIN_OR: top[-2].first |= top[-1].first; return top - 1;
     default: top[-2].first = !top[-2].first | top[-1].first; return top - 1;

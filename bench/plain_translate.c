@@ -27,7 +27,7 @@ static void write_node(struct writer *writer, const struct node *node)
     case ATTRIBUTE: write_instruction(writer, PUSH_PRIORITY, 0, 0, 0); break;
     case OPPOSITE: write_instruction(writer, TURN, 0, 0, 0); break;
     case NEGATIVE: write_instruction(writer, NEGATE, 0, 0, 0); break;
-    case COMPARISON: write_instruction(writer, COMPARE, node->comparison, 0, 0); break;
+    case COMPARISON: write_instruction(writer, COMPARE_TWO, node->comparison, 0, 0); break;
     case SEQUENCE: write_instruction(writer, JOIN_AND, 0, 0, 0); break;
     default: write_instruction(writer, JOIN_AND + (node->what - BOTH), 0, 0, 0);
     }

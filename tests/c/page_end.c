@@ -3,8 +3,9 @@
  * they begin at every alignment, a table at those that its numbers have; and at the very start of a page, with the one before out of bounds. A call that touches a byte
  * outside its inputs ends this program with a message that names the case.
  *
- *   page_end vary < REQUESTS > VARIED     the requests of the incident, of an octal numeral and of a contract, and those given,
- *                                         each whole, and with one input a byte shorter or a byte longer, of a table a number
+ *   page_end vary < REQUESTS > VARIED     the requests of the incident, of an octal numeral, of a contract and of another order of
+ *                                         parts, and those given, each whole, and with one input a byte shorter or a byte longer,
+ *                                         of a table a number
  *   page_end VARIED LINES                 makes the calls and holds their answers to the lines
  *
  * LINES is what `desk answer` says of VARIED. The last line is 'N passed, M failed'; the status is 0 if M is 0.
@@ -113,12 +114,32 @@ static void write_contract(void)
     write_all_varied(&request);
 }
 
+/* Blocks of a text's parts in another order; the text ends in a name that fills its record to the last byte of the list. */
+static void write_comparison(void)
+{
+    static uint8_t list[POLLUX_KEY_SIZE] = { POLLUX_MAX_NAME, 0, 1 }, text[] = "true;1==", other[] = ";true";
+    static uint8_t ours[sizeof text - 1 + POLLUX_MAX_NAME], theirs[sizeof ours], blocks[POLLUX_BLOCK_SIZE];
+    memset(list + POLLUX_KEY_SIZE - POLLUX_MAX_NAME, 'k', POLLUX_MAX_NAME);
+    memset(ours, 'k', sizeof ours);
+    memset(theirs, 'k', sizeof theirs);
+    memcpy(ours, text, sizeof text - 1);
+    memcpy(theirs, "1==", 3);
+    memcpy(theirs + sizeof theirs - (sizeof other - 1), other, sizeof other - 1);
+    pollux_translate(theirs, sizeof theirs, list, sizeof list, blocks, sizeof blocks);
+    struct request request = { .call = COMPARE, .inputs = { { ours, sizeof ours }, { list, sizeof list },
+                                                            { blocks, sizeof blocks }, { text, 0 } } };
+    write_all_varied(&request);
+    request.inputs[0] = (struct input){ text, sizeof "true" - 1 };
+    write_all_varied(&request);
+}
+
 static int vary(void)
 {
     struct request request;
     write_incident();
     write_octal();
     write_contract();
+    write_comparison();
     while (read_request(stdin, &request))
         write_all_varied(&request);
     return fflush(stdout) == 0 ? 0 : 3;

@@ -7,7 +7,8 @@
 const char *call_name(unsigned call)
 {
     static const char *const names[] = { "no call", "read",    "check",     "judge",   "translate", "load",
-                                         "run",     "print",   "explain",   "summarize", "recheck", "fix_octal", "pact" };
+                                         "run",     "print",   "explain",   "summarize", "recheck", "fix_octal", "pact",
+                                         "compare" };
     return names[call <= LAST_CALL ? call : 0];
 }
 
@@ -26,6 +27,7 @@ const char *input_name(unsigned call, unsigned input)
         [RECHECK] = { "text", "list", "entry", [OLD_ENTRY] = "old entry" },
         [FIX_OCTAL] = { "text", "", "buffer", "" },
         [PACT] = { "contract", "list", "buffer", [TABLE] = "table" },
+        [COMPARE] = { "text", "list", "blocks", "" },
     };
     return names[call][input];
 }
@@ -209,7 +211,7 @@ void write_request(FILE *file, const struct request *request)
 const struct calls pollux_calls = {
     pollux_read, pollux_check, pollux_judge,   pollux_translate, pollux_load,
     pollux_run,  pollux_print, pollux_explain, pollux_summarize, pollux_recheck, pollux_fix_octal,
-    pollux_pact,
+    pollux_pact, pollux_compare,
 };
 
 static struct pollux_answer make_plain_call(const struct calls *calls, const struct request *request)
@@ -225,6 +227,7 @@ static struct pollux_answer make_plain_call(const struct calls *calls, const str
     case FIX_OCTAL: return calls->fix_octal(a->at, a->length, c->at, c->length);
     case PACT:
         return calls->pact(a->at, a->length, (const uint64_t *)table->at, table->length / NUMBER, b->at, b->length, c->at, c->length);
+    case COMPARE: return calls->compare(a->at, a->length, b->at, b->length, c->at, c->length);
     default: return calls->run(a->at, a->length, b->at, b->length, c->at, c->length);
     }
 }
@@ -298,7 +301,10 @@ static bool fits_call(unsigned call, struct told answer)
     case POLLUX_ACCEPTED:
     case POLLUX_VIOLATED: return judges && answer.number == 0 && answer.input == 0 && (call == RUN || answer.value == 0);
     case POLLUX_DONE:
-        return !judges && answer.number == 0 && answer.input == 0 && ((call != CHECK && call != SUMMARIZE) || answer.value == 0);
+        return !judges && call != COMPARE && answer.number == 0 && answer.input == 0 &&
+               ((call != CHECK && call != SUMMARIZE) || answer.value == 0);
+    case POLLUX_AGREES:
+    case POLLUX_DIFFERS: return call == COMPARE && answer.number == 0 && answer.input == 0 && answer.value == 0;
     default: return false;
     }
 }
@@ -363,6 +369,10 @@ static void add_answer(char line[LINE_SIZE], unsigned call, struct told answer)
         [READ] = "read",   [TRANSLATE] = "translated", [LOAD] = "loaded", [PRINT] = "printed",
         [FIX_OCTAL] = "fixed", [PACT] = "drafted"
     };
+    static const char *const words[] = {
+        [POLLUX_ACCEPTED] = "accepted", [POLLUX_VIOLATED] = "violated", [POLLUX_DONE] = "passed",
+        [POLLUX_AGREES] = "agrees", [POLLUX_DIFFERS] = "differs"
+    };
     if (answer.says == POLLUX_REFUSED)
         ADD(line, "refused %" PRIu64 " %s %" PRIu64, answer.number, inputs[answer.input], answer.value);
     else if (call == SUMMARIZE)
@@ -370,7 +380,7 @@ static void add_answer(char line[LINE_SIZE], unsigned call, struct told answer)
     else if (answer.says == POLLUX_DONE && call != CHECK)
         ADD(line, "%s %" PRIu64, counted[call], answer.value);
     else
-        ADD(line, "%s", answer.says == POLLUX_DONE ? "passed" : answer.says == POLLUX_ACCEPTED ? "accepted" : "violated");
+        ADD(line, "%s", words[answer.says]);
     if (call == RUN && answer.says != POLLUX_REFUSED)
         ADD(line, " %" PRIu64, answer.value);
 }

@@ -16,7 +16,7 @@
 
 #include "pollux.h"
 
-enum { READ = 1, CHECK, JUDGE, TRANSLATE, LOAD, RUN, PRINT, EXPLAIN, SUMMARIZE, RECHECK, FIX_OCTAL, PACT, LAST_CALL = PACT };
+enum { READ = 1, CHECK, JUDGE, TRANSLATE, LOAD, RUN, PRINT, EXPLAIN, SUMMARIZE, RECHECK, FIX_OCTAL, PACT, COMPARE, LAST_CALL = COMPARE };
 enum { INPUTS = 4, OLD_ENTRY = 3, TABLE = 3, LONGEST_INPUT = 65536, LINE_SIZE = 300 };
 
 struct input {
@@ -53,7 +53,7 @@ bool read_request(FILE *file, struct request *request);
 bool can_be_read(const struct request *request);
 void write_request(FILE *file, const struct request *request);
 
-/* Someone's version of the calls; who has no fix_octal or pact is not asked for it. */
+/* Someone's version of the calls; who has no fix_octal, pact or compare is not asked for it. */
 struct calls {
     struct pollux_answer (*read)(const uint8_t *, size_t);
     struct pollux_answer (*check)(const uint8_t *, size_t, const uint8_t *, size_t);
@@ -68,6 +68,7 @@ struct calls {
                                        const uint8_t *, size_t);
     struct pollux_answer (*fix_octal)(const uint8_t *, size_t, uint8_t *, size_t);
     struct pollux_answer (*pact)(const uint8_t *, size_t, const uint64_t *, size_t, const uint8_t *, size_t, uint8_t *, size_t);
+    struct pollux_answer (*compare)(const uint8_t *, size_t, const uint8_t *, size_t, const uint8_t *, size_t);
 };
 
 extern const struct calls pollux_calls;

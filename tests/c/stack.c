@@ -77,14 +77,16 @@ static size_t repeat(uint8_t *text, const char *piece, size_t times)
 
 static uint8_t entry[POLLUX_PRIORITY_SIZE], buffer[POLLUX_MAX_BLOCKS_SIZE];
 
-/* The blocks of a translation, if that passes. */
+/* The blocks of a translation, if that passes: against its text, and by themselves. */
 static void measure_blocks(const struct request *translation)
 {
     struct told written = make_call(&pollux_calls, translation);
     if (written.says != POLLUX_DONE)
         return;
     struct input blocks = { buffer, POLLUX_BLOCKS_SIZE(written.value) };
-    struct request request = { .call = LOAD, .inputs = { { entry, 0 }, blocks, { entry, sizeof entry }, { entry, 0 } } };
+    struct request request = { .call = COMPARE, .inputs = { translation->inputs[0], translation->inputs[1], blocks, { entry, 0 } } };
+    measure(&request);
+    request = (struct request){ .call = LOAD, .inputs = { { entry, 0 }, blocks, { entry, sizeof entry }, { entry, 0 } } };
     measure(&request);
     request.call = RUN;
     measure(&request);

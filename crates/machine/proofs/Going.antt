@@ -17,11 +17,10 @@ use Rattle.paper.proofs.LoadedBlocksRun.{Ends}
 use Rattle.values.specs.declared.cell.Cell.{Cell}
 use Rattle.values.specs.Held.{held}
 use Rattle.machine.specs.Acting.{takesOf}
-use Rattle.machine.specs.Running.{passedBy}
 use Rattle.machine.proofs.Along.{readAt}
 use Rattle.machine.proofs.Stack.{down, given, one-left, Acts, acts}
 use Rattle.machine.proofs.Values.{noCell}
-use Rattle.machine.proofs.Skips.{is-skip, over-within, passed-within}
+use Rattle.machine.proofs.Skips.{is-skip, over-within, passedBy, passed-within}
 
 never-stuck : {i : ℕ} {path : List Step} {end : List Value} → stuck i ≡ done path end → ⊥
 never-stuck z =

@@ -10,7 +10,6 @@ use Rattle.paper.specs.Meaning.{Value, isTrue, both, either, ifThen}
 use Rattle.paper.specs.Code.{Skip, Instruction, pushBool, pushInt, pushKey, pushField, pushPriority, invert, negate, convert, compare, connects, skip, Parts, partsOf, decode, skipOf}
 use Rattle.paper.proofs.InstructionsRoundTrip.{read-test, parts-again}
 use Rattle.machine.specs.Following.{overOf, overIn}
-use Rattle.machine.specs.Running.{passedBy}
 
 pub is-skip : (o : Option Instruction) (s : Skip) → skipOf o ≡ some s → o ≡ some (skip s)
 is-skip none s h = absurd (Option·none-ne-some s h)
@@ -38,7 +37,12 @@ over-within left p = go (skipOf (decode left p)) refl
         let ranged = read-test left p (skip s) (is-skip (decode left p) s e) .0 in
         leb-true (s .over) left (and-eq-true-iff (leb 1 (s .over)) (leb (s .over) left) .0 ranged .1)
 
--- where the run passes over some, they are those
+-- how many instructions the run passes over after one, by whether the uppermost of what is held before it is true
+abbrev pub passedBy : Option Skip → Bool → ℕ
+passedBy none b = 0
+passedBy (some s) b = cond (Bool·beq b (s .on)) (s .over) 0
+
+-- where it passes over some, they are those
 pub passed-within : (o : Option Skip) (top : Bool) → passedBy o top ≤ overOf o
 passed-within none top = omega arith
 passed-within (some s) top = go (Bool·beq top (s .on))

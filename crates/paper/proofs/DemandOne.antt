@@ -24,15 +24,17 @@ use Rattle.paper.specs.RecheckedRight.{Reusable, Rechecks, is-reused, is
 use Rattle.paper.specs.Fixing.{fixAnswer, fixingSays}
 use Rattle.paper.specs.Drafting.{nameRule, draftAnswer, draftingSays}
 use Rattle.paper.specs.Comparing.{compareAnswer, agreementSays}
-use Rattle.paper.specs.Table.{Clear, ByTable, Stage, sizeStages, listStagesBy, listStages, treeStages, entryStages, blockStages, bufferStages, printingStages, fixingStages, draftingStages, checkStages, readStages, judgeStages, translateStages, loadStages, runStages, printStages, fixStages, draftStages, compareStages}
-use Rattle.paper.specs.Promised.{ReadPromised, CheckPromised, JudgePromised, TranslateResult, TranslatePromised, LoadPromised, RunPromised, PrintResult, PrintPromised, FixResult, FixPromised, DraftResult, DraftPromised, ComparePromised, ExplainPromised, SummarizePromised, RecheckPromised}
-use Rattle.paper.specs.Demands.{Lent, lent, Refusal, Answered, ReadAnswered, CheckAnswered, EntryAnswered, JudgeAnswered, TranslateAnswered, LoadAnswered, RunAnswered, PrintAnswered, FixAnswered, DraftAnswered, CompareAnswered, ExplainAnswered, SummarizeAnswered, RecheckAnswered, DemandOneMet}
+use Rattle.paper.specs.Counting.{countAnswer, countingSays}
+use Rattle.paper.specs.Table.{Clear, ByTable, Stage, sizeStages, listStagesBy, listStages, treeStages, entryStages, entriesStages, blockStages, bufferStages, printingStages, fixingStages, draftingStages, checkStages, readStages, judgeStages, translateStages, loadStages, runStages, printStages, fixStages, draftStages, compareStages, countStages}
+use Rattle.paper.specs.Promised.{ReadPromised, CheckPromised, JudgePromised, TranslateResult, TranslatePromised, LoadPromised, RunPromised, PrintResult, PrintPromised, FixResult, FixPromised, DraftResult, DraftPromised, ComparePromised, CountResult, CountPromised, ExplainPromised, SummarizePromised, RecheckPromised}
+use Rattle.paper.specs.Demands.{Lent, lent, Refusal, Answered, ReadAnswered, CheckAnswered, EntryAnswered, JudgeAnswered, TranslateAnswered, LoadAnswered, RunAnswered, PrintAnswered, FixAnswered, DraftAnswered, CompareAnswered, CountAnswered, ExplainAnswered, SummarizeAnswered, RecheckAnswered, DemandOneMet}
 use Rattle.paper.proofs.TranslationCorrect.{refused-unchanged}
-use Rattle.paper.proofs.RefusalsLocated.{AllLocated, LiesIn, located-then, decided-lies, size-located, list-located-by, list-located, tree-located, check-located, buffer-located, block-located, entry-located, printing-located, fixing-located, drafting-located}
+use Rattle.paper.proofs.RefusalsLocated.{AllLocated, LiesIn, located-then, decided-lies, size-located, list-located-by, list-located, tree-located, check-located, buffer-located, block-located, entry-located, entries-located, printing-located, fixing-located, drafting-located}
 use Rattle.paper.proofs.Table.{table-holds}
 use Rattle.paper.proofs.PrintDemands.{print-unchanged}
 use Rattle.paper.proofs.FixDemands.{fix-unchanged}
 use Rattle.paper.proofs.DraftDemands.{draft-unchanged}
+use Rattle.paper.proofs.CountedRight.{count-unchanged}
 use Rattle.paper.proofs.ExplainedRight.{explained-as-judged, judge-passes}
 use Rattle.paper.proofs.RecheckedRight.{reused-exactly}
 use Rattle.paper.proofs.Promised.{judgement-same}
@@ -176,6 +178,21 @@ compare-answered text list blocks r promised =
     (located-then inputs (checkStages text list) (blockStages list blocks) (check-located inputs text list here second)
     (λ _. block-located inputs list blocks third)) promised
 
+pub count-answered : (text list entries numbers : List ℕ) (r : CountResult) → CountPromised text list entries numbers r
+    → CountAnswered text list entries numbers r
+count-answered text list entries numbers r promised =
+    let inputs = lent inText text ∷ lent inList list ∷ lent inEntry entries ∷ [] in
+    record {
+      says =
+          answered-by inputs (countAnswer text list entries) (countingSays (r .answer)) (countStages text list entries)
+          (table-holds .count text list entries)
+          (located-then inputs (checkStages text list) (entriesStages list entries) (check-located inputs text list here second)
+          (λ _. entries-located inputs list entries third)) (promised .says);
+      unchanged = λ n at e.
+          promised .holds
+          ∙ count-unchanged text list entries numbers n (inputOf at) (offsetOf at) (sym (promised .says) ∙ ap countingSays e);
+    }
+
 pub summarize-answered : (text list : List ℕ) (r : Summarizing) → SummarizePromised text list r → SummarizeAnswered text list r
 summarize-answered text list r promised =
     let inputs = lent inText text ∷ lent inList list ∷ [] in
@@ -232,4 +249,6 @@ demand-one-met p kept =
       draft = λ contract table list buffer c t l b.
           draft-answered contract table list buffer (p .draft contract table list buffer) (kept .draft contract table list buffer c t l b);
       compare = λ text list blocks t l s. compare-answered text list blocks (p .compare text list blocks) (kept .compare text list blocks t l s);
+      count = λ text list entries numbers t l e n.
+          count-answered text list entries numbers (p .count text list entries numbers) (kept .count text list entries numbers t l e n);
     }

@@ -9,6 +9,7 @@ use mathlib.Core.List.{List}
 use lib.ListN.{length}
 use lib.Dec.{leb}
 use borrow.Author.Tests.{leb-true, le-leb}
+use Rattle.paper.specs.declared.Place.{Place}
 use Rattle.paper.specs.declared.Reading.{Reading}
 use Rattle.paper.specs.declared.Reading.the-variants as R
 use Rattle.paper.specs.declared.Checking.{Checking}
@@ -18,6 +19,8 @@ use Rattle.paper.specs.declared.Judgement.the-variants as J
 use Rattle.paper.specs.declared.Translation.the-variants as T
 use Rattle.paper.specs.declared.Agreement.{Agreement}
 use Rattle.paper.specs.declared.Agreement.the-variants as A
+use Rattle.paper.specs.declared.Counting.{Counting}
+use Rattle.paper.specs.declared.Counting.the-variants as E
 use Rattle.paper.specs.declared.Explanation.{Explanation}
 use Rattle.paper.specs.declared.Summarizing.{Summarizing}
 use Rattle.paper.specs.declared.Summarizing.the-variants as S
@@ -32,7 +35,7 @@ use Rattle.paper.specs.Types.{typeOf, rootType, typed}
 use Rattle.paper.specs.Meaning.{Value, truth, valueOf, isTrue}
 use Rattle.paper.specs.Blocks.{blockSize, blocksNeeded}
 use Rattle.paper.specs.Translating.{codeOf, conversions, joins}
-use Rattle.paper.specs.Calls.{sized, tree, Restriction, restriction, checkAnswer, judgeAnswer}
+use Rattle.paper.specs.Calls.{sized, tree, Restriction, restriction, checkAnswer, judgeAnswer, over}
 use Rattle.paper.specs.Explained.{explanationSays}
 use Rattle.paper.specs.Named.{names, marked, setOf, Summary, summaryAnswer, summarizingSays}
 use Rattle.paper.specs.Rechecking.{saidBy, recheckingSays}
@@ -41,8 +44,9 @@ use Rattle.paper.specs.Loading.{loaded}
 use Rattle.paper.specs.TranslationCorrect.{verdictOf}
 use Rattle.paper.specs.Comparing.{compareAnswer, agreementSays, agreement}
 use Rattle.paper.specs.ComparedRight as Q
-use Rattle.paper.specs.Promised.{verdict, judgementOfRun, Bytes, Programs, Kept, ComparePromised, ReadPromised, CheckPromised, JudgePromised, TranslateResult, TranslatePromised, ExplainPromised, SummarizePromised, RecheckPromised}
-use Rattle.paper.specs.Demands.{Checkable, Judgeable, Refuses, ReadRight, CheckedRight, JudgedRight, TranslatedRight, Comparable, CompareRight, AgreementMeans, ExplainRight, SummarizeRight, judgementIn, RecheckRight, DemandTwoMet}
+use Rattle.paper.specs.Counting.{wholeIn, mostEntries, counted as countsThere, Totals, totalsOf, countAnswer, noted, countNumbers, countingSays}
+use Rattle.paper.specs.Promised.{verdict, judgementOfRun, Bytes, Programs, Kept, ComparePromised, CountResult, CountPromised, ReadPromised, CheckPromised, JudgePromised, TranslateResult, TranslatePromised, ExplainPromised, SummarizePromised, RecheckPromised}
+use Rattle.paper.specs.Demands.{Checkable, Judgeable, Refuses, ReadRight, CheckedRight, JudgedRight, TranslatedRight, Comparable, CompareRight, AgreementMeans, Countable, countsIn, CountRight, ExplainRight, SummarizeRight, judgementIn, RecheckRight, DemandTwoMet}
 use Rattle.paper.proofs.Stages.{never-ok, ok-same, bind-ok, require-ok}
 use Rattle.paper.proofs.LoadedBlocksRun.{conforming}
 use Rattle.paper.proofs.TypeSoundness.{judged, bool-root}
@@ -57,6 +61,7 @@ use Rattle.paper.proofs.RunsRight.{ran-right}
 use Rattle.paper.proofs.ExplainedRight.{explained-is-right}
 use Rattle.paper.proofs.RecheckedRight.{summary, summary-there, summarizes, reused-exactly, fresh-if-true}
 use Rattle.paper.proofs.Compared.{agrees-exactly, compared, comparable, agreement-means-equal}
+use Rattle.paper.proofs.CountedRight.{counted-from, counted-there}
 use Rattle.paper.proofs.DemandOne.{recheck-judged}
 
 -- with a list, it passes a check: this is its restriction
@@ -318,6 +323,51 @@ agreement-means p kept text list blocks t l s e entry en =
     ∙ agreement-means-equal text list blocks s (sym (kept .compare text list blocks t l s) ∙ ap agreementSays e) entry
     ∙ sym (kept .judge text list entry t l en))
 
+-- a count: of a text that passes, its parts, and entries that are not too many
+
+module _ (text list entries : List ℕ) where
+  counts-there : (c : Countable text list entries) → countsThere text list entries ≡ ok (countsIn text list entries c)
+  counts-there c =
+      counted-there text list entries (restricts text list (c .passes)) (checkable-restriction text list (c .passes)) (c .ps) (c .divided) (c .few)
+
+  pub countable-answer : (c : Countable text list entries) → countAnswer text list entries ≡ ok (totalsOf (countsIn text list entries c))
+  unfolding countAnswer
+  countable-answer c = ap (λ x. x >>= λ d. ok (totalsOf d)) (counts-there c)
+
+  countable-numbers : (numbers : List ℕ) (c : Countable text list entries)
+      → countNumbers text list entries numbers ≡ over (countsIn text list entries c .parts) numbers
+  unfolding countNumbers
+  countable-numbers numbers c = ap (λ x. noted x numbers) (counts-there c)
+
+  pub answer-countable : (t : Totals) → countAnswer text list entries ≡ ok t → Countable text list entries
+  unfolding countAnswer
+  answer-countable t e =
+      let (d, there, _) = bind-ok (countsThere text list entries) (λ d. ok (totalsOf d)) t e in
+      let q = counted-from text list entries d there in
+      let (c, same) = restriction-checkable text list (q .rule) (q .passes) in
+      record {
+        passes = c;
+        ps = q .ps;
+        divided = q .divided;
+        few = subst (λ (x : Restriction). wholeIn (x .keys) entries ≤ mostEntries) (sym same) (q .few);
+      }
+
+  refused-else : (a : Counting) → countingSays a ≡ countAnswer text list entries → ¬ Countable text list entries
+      → (n : ℕ) × (at : Place) × (a ≡ E.Refused n at)
+  refused-else (E.Counted n a v f c) says unfit = absurd (unfit (answer-countable _ (sym says)))
+  refused-else (E.Refused n at) says unfit = (n, at, refl)
+
+  pub count-right : (numbers : List ℕ) (r : CountResult) → CountPromised text list entries numbers r → CountRight text list entries numbers r
+  count-right numbers r promised =
+      record {
+        refuses = (
+          λ (n, at, e) c. never-ok (sym (ap countingSays e) ∙ promised .says ∙ countable-answer c),
+          refused-else (r .answer) (promised .says),
+        );
+        totals = λ c. promised .says ∙ countable-answer c;
+        written = λ c. promised .holds ∙ countable-numbers numbers c;
+      }
+
 -- a recheck: what it says is what the judgement in it says
 
 said-in : (r : Rechecking) → judgementSays (judgementIn r) ≡ saidBy (recheckingSays r)
@@ -356,4 +406,6 @@ demand-two-met p kept =
       drafts-mean = draft-means p kept;
       compares = λ text list blocks t l s. compare-right text list blocks s (p .compare text list blocks) (kept .compare text list blocks t l s);
       agreement-means = agreement-means p kept;
+      counts = λ text list entries numbers t l e n.
+          count-right text list entries numbers (p .count text list entries numbers) (kept .count text list entries numbers t l e n);
     }

@@ -1,4 +1,4 @@
--- Refusals 19 and 20 by the table.
+-- Refusals 19 and 20 by the table, of one entry; and 25, of many.
 use Prim.Native.Nat.{ℕ, zero, suc, _+_, _*_, _^_, _<_, suc-le-suc}
 use native.Mathlib.Omega.{arith}
 use mathlib.Core.Path.{_≡_, refl, sym, ap, subst, _∙_}
@@ -6,13 +6,14 @@ use mathlib.Core.Bool.{Bool, true, false, true≢false}
 use mathlib.Core.Option.{Option, none, some}
 use mathlib.Core.List.{List, [], _∷_}
 use lib.ListN.{length, getElem?}
-use lib.Dec.{eqb, ltb}
-use borrow.Author.Tests.{eqb-true, eqb-false, ltb-false, le-ltb}
+use lib.Dec.{eqb, leb, ltb}
+use borrow.Author.Tests.{eqb-true, eqb-false, leb-true, leb-false, ltb-false, le-ltb}
 use Rattle.paper.specs.Answers.{Answer, ok, _>>=_, require, inTurn, inEntry}
 use Rattle.paper.specs.Keys.{Key, keys}
 use Rattle.paper.specs.Entry.{Entry, headSize, matchSize, matchAt, matchOk, matchesFrom, asked, priorityOf, ruleTest, entryOf}
-use Rattle.paper.specs.Faults.{EntrySize, entry-wrong, EntryRules, priority-broken, match-broken}
-use Rattle.paper.specs.Table.{Free, stage, Given, entryStages}
+use Rattle.paper.specs.Counting.{entrySize, wholeIn, mostEntries, fewEntries}
+use Rattle.paper.specs.Faults.{Faults, EntrySize, entry-wrong, EntryRules, priority-broken, match-broken, EntriesMany, entries-over}
+use Rattle.paper.specs.Table.{Free, stage, Given, entryStages, entriesStages}
 use Rattle.paper.proofs.Basics.{some-below}
 use Rattle.paper.proofs.Stages.{bind-again}
 use Rattle.paper.proofs.StagesInOrder.{Tells, test-tells, given-tells, Follows, follows-one, follows-as, follows-then}
@@ -119,3 +120,27 @@ entry-follows list ks entry listed =
     (λ _ _.
     subst (λ (a : Answer Entry). Follows last a) (bind-again high (λ _. each) (λ _. ok e))
     (follows-as last rules (λ _. e) (follows-one inEntry (Given (keys list) (λ ks. EntryRules ks entry)) rules two)))
+
+-- many: their number
+
+module _ (ks : List Key) (entries : List ℕ) where
+  abbrev few : Bool
+  few = leb (wholeIn ks entries) mostEntries
+
+  many-free : few ≡ true → Free (EntriesMany ks entries)
+  many-free h n at (entries-over l) = let e = leb-true (wholeIn ks entries) mostEntries h in omega (arith, e, l)
+
+  many-only : (m to : ℕ) → EntriesMany ks entries m to → (m ≡ 25) × (to ≡ mostEntries * entrySize ks)
+  many-only m to (entries-over l) = (refl, refl)
+
+  many-tells : Tells inEntry (EntriesMany ks entries) (fewEntries ks entries)
+  many-tells =
+      test-tells (EntriesMany ks entries) few 25 inEntry (mostEntries * entrySize ks) many-free
+      (λ h. entries-over (leb-false (wholeIn ks entries) mostEntries h)) many-only
+
+pub entries-follow : (list : List ℕ) (ks : List Key) (entries : List ℕ) → keys list ≡ ok ks
+    → Follows (entriesStages list entries) (fewEntries ks entries)
+entries-follow list ks entries listed =
+    let many : List Key → Faults = λ ks. EntriesMany ks entries in
+    follows-one inEntry (Given (keys list) many) (fewEntries ks entries)
+    (given-tells (keys list) ks listed many inEntry (fewEntries ks entries) (many-tells ks entries))

@@ -112,7 +112,7 @@ order =
     }
 
 inputs-in-order : InputsInOrder
-inputs-in-order = record { read = refl; check = refl; judge = refl; translate = refl; load = refl; run = refl; print = refl }
+inputs-in-order = record { read = refl; check = refl; judge = refl; translate = refl; load = refl; run = refl; print = refl; count = refl }
 
 pub faultExamples : FaultExamples
 faultExamples = record { rows = rows; order = order; inputs-in-order = inputs-in-order }

@@ -127,6 +127,9 @@ pub mod Records
 pub mod Fitting
 pub mod Compared
 pub mod CompareExamples
+pub mod EntriesLaid
+pub mod CountedRight
+pub mod CountExamples
 pub mod RecordsRefused
 pub mod NamesInList
 pub mod Depends
@@ -162,6 +165,8 @@ pub mod WrongCheckers
 pub mod WrongDrafters
 pub mod WrongComparers
 pub mod WrongComparersExist
+pub mod WrongCounters
+pub mod WrongCountersExist
 pub mod WrongRecheckersExist
 pub mod WrongExplainersExist
 pub mod PiecesRight

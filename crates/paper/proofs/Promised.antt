@@ -26,6 +26,8 @@ use Rattle.paper.specs.declared.Drafting.{Drafting}
 use Rattle.paper.specs.declared.Drafting.the-variants as D
 use Rattle.paper.specs.declared.Agreement.{Agreement}
 use Rattle.paper.specs.declared.Agreement.the-variants as A
+use Rattle.paper.specs.declared.Counting.{Counting}
+use Rattle.paper.specs.declared.Counting.the-variants as E
 use Rattle.paper.specs.declared.Explanation.{Explanation}
 use Rattle.paper.specs.declared.Explanation.the-variants as X
 use Rattle.paper.specs.declared.Summarizing.{Summarizing}
@@ -42,6 +44,7 @@ use Rattle.paper.specs.Rechecking.{Rechecked, reused, judged, recheckAns
 use Rattle.paper.specs.Fixing.{fixAnswer, fixBuffer, fixingSays}
 use Rattle.paper.specs.Drafting.{draftAnswer, draftBuffer, draftingSays}
 use Rattle.paper.specs.Comparing.{compareAnswer, agreementSays, agreement}
+use Rattle.paper.specs.Counting.{Totals, countAnswer, countNumbers, countingSays}
 use Rattle.paper.specs.Promised.{ExplainPromised, RecheckPromised, verdict, verdictIn, judgementOfRun, Sole, NoSecondResult, CanBeKept}
 
 -- places
@@ -209,6 +212,16 @@ agreements = record { good = agreement; refusal = A.Refused; good-says = agreeme
     go A.Differs = is-good false
     go (A.Refused n p) = is-refusal n p
 
+abbrev countedTo : Totals → Counting
+countedTo t = E.Counted (t .parts) (t .accepted) (t .violated) (t .refused) (t .cut)
+
+countings : Enum countingSays
+countings = record { good = countedTo; refusal = E.Refused; good-says = λ t. refl; refusal-says = λ n p. refl; either = go }
+  where
+    go : (r : Counting) → Either countedTo E.Refused r
+    go (E.Counted n a v f c) = is-good (record { parts = n; accepted = a; violated = v; refused = f; cut = c })
+    go (E.Refused n p) = is-refusal n p
+
 summaries : Enum summarizingSays
 summaries =
     record {
@@ -323,6 +336,9 @@ drafting-same = same-says draftingSays draftings
 pub agreement-same : (r s : Agreement) → agreementSays r ≡ agreementSays s → r ≡ s
 agreement-same = same-says agreementSays agreements
 
+pub counting-same : (r s : Counting) → countingSays r ≡ countingSays s → r ≡ s
+counting-same = same-says countingSays countings
+
 pub summarizing-same : (r s : Summarizing) → summarizingSays r ≡ summarizingSays s → r ≡ s
 summarizing-same = same-says summarizingSays summaries
 
@@ -379,6 +395,13 @@ no-second-result =
             no-second = λ r h i. record { answer = answer .no-second (r .answer) (h .says) i; buffer = h .holds i };
           };
       compare = λ text list blocks. one-agreement (compareAnswer text list blocks);
+      count = λ text list entries numbers.
+          let answer = one-says countingSays countings (countAnswer text list entries) in
+          record {
+            result = record { answer = answer .result; numbers = countNumbers text list entries numbers };
+            satisfies = record { says = answer .satisfies; holds = refl };
+            no-second = λ r h i. record { answer = answer .no-second (r .answer) (h .says) i; numbers = h .holds i };
+          };
     }
 
 pub can-be-kept : CanBeKept
@@ -398,6 +421,7 @@ can-be-kept =
         fix = λ text buffer. s .fix text buffer .result;
         draft = λ contract table list buffer. s .draft contract table list buffer .result;
         compare = λ text list blocks. s .compare text list blocks .result;
+        count = λ text list entries numbers. s .count text list entries numbers .result;
       },
       record {
         read = λ text _. s .read text .satisfies;
@@ -413,5 +437,6 @@ can-be-kept =
         fix = λ text buffer _ _. s .fix text buffer .satisfies;
         draft = λ contract table list buffer _ _ _ _. s .draft contract table list buffer .satisfies;
         compare = λ text list blocks _ _ _. s .compare text list blocks .satisfies;
+        count = λ text list entries numbers _ _ _ _. s .count text list entries numbers .satisfies;
       },
     )

@@ -1,5 +1,6 @@
 -- Every refusal has a number of the table, and lies in an input that the call was lent, or at its length.
 use Prim.Native.Nat.{ℕ, suc, _+_, _*_, _≤_, _<_}
+use native.Mathlib.Nat.{le-div-iff-mul-le}
 use native.Mathlib.Decide.{ℕ-discrete}
 use native.Mathlib.Omega.{arith}
 use mathlib.Core.Path.{_≡_, sym, ap, _∙_}
@@ -22,8 +23,9 @@ use Rattle.paper.specs.Calls.{tree, restriction}
 use Rattle.paper.specs.Fixing.{oldScan, fixed}
 use Rattle.paper.specs.Contract.{Front}
 use Rattle.paper.specs.Drafting.{namesOf, drafted}
-use Rattle.paper.specs.Faults.{Faults, TextSize, text-over, ListSize, list-uneven, list-over, ListRecords, record-broken, name-repeated, TokenFaults, no-token, numeral-large, one-more-token, one-more-octal, octal-numeral, TextGrammar, TreeTypes, key-unknown, key-of-field-unknown, field-unknown, attribute-unknown, prefix-wrong, join-wrong, comparison-wrong, left-loses-bits, right-loses-bits, in-operand, join-left, join-right, comparison-left, comparison-right, RootType, not-bool, BufferSize, buffer-short, BlocksSize, no-blocks, blocks-uneven, blocks-over, BlocksLayout, block-broken, BlocksCode, instruction-fails, skip-misfits, end-not-bool, EntrySize, entry-wrong, EntryRules, priority-broken, match-broken, LendingSize, over-limit, over-buffer, TableSize, table-over, frontBytes, ContractFaults, opcode-wrong, nothing-to-join, joined-twice, index-unknown, cut-before-index, cut-before-assertion, TextLimits, tokens-many, levels-many}
-use Rattle.paper.specs.Table.{lastNumber, Free, Stage, Given, Decided, Clear, sizeStages, listStagesBy, listStages, treeStages, typeStages, bufferStages, blockStages, entryStages, printingStages, fixingStages, draftingStages, checkStages}
+use Rattle.paper.specs.Counting.{wholeIn, mostEntries}
+use Rattle.paper.specs.Faults.{Faults, TextSize, text-over, ListSize, list-uneven, list-over, ListRecords, record-broken, name-repeated, TokenFaults, no-token, numeral-large, one-more-token, one-more-octal, octal-numeral, TextGrammar, TreeTypes, key-unknown, key-of-field-unknown, field-unknown, attribute-unknown, prefix-wrong, join-wrong, comparison-wrong, left-loses-bits, right-loses-bits, in-operand, join-left, join-right, comparison-left, comparison-right, RootType, not-bool, BufferSize, buffer-short, BlocksSize, no-blocks, blocks-uneven, blocks-over, BlocksLayout, block-broken, BlocksCode, instruction-fails, skip-misfits, end-not-bool, EntrySize, entry-wrong, EntryRules, priority-broken, match-broken, EntriesMany, entries-over, LendingSize, over-limit, over-buffer, TableSize, table-over, frontBytes, ContractFaults, opcode-wrong, nothing-to-join, joined-twice, index-unknown, cut-before-index, cut-before-assertion, TextLimits, tokens-many, levels-many}
+use Rattle.paper.specs.Table.{lastNumber, Free, Stage, Given, Decided, Clear, sizeStages, listStagesBy, listStages, treeStages, typeStages, bufferStages, blockStages, entryStages, entriesStages, printingStages, fixingStages, draftingStages, checkStages}
 use Rattle.paper.specs.Demands.{Lent, lent}
 use Rattle.paper.proofs.Basics.{some-below}
 use Rattle.paper.proofs.Stages.{bind-ok}
@@ -35,6 +37,7 @@ use Rattle.paper.proofs.InOrder.{root-place}
 use Rattle.paper.proofs.BlockFaults.{blocks-layout-tells}
 use Rattle.paper.proofs.CodeFaults.{inside-blocks}
 use Rattle.paper.proofs.TypeFaults.{placed}
+use Rattle.paper.proofs.EntriesLaid.{some-size}
 
 -- a number and an offset in bytes
 pub record Bounded (bytes : List ℕ) (n at : ℕ) : Type 0 where
@@ -202,6 +205,12 @@ rules-bounded list entry free n at (ks, listed, h) = go n at h
     go n at (priority-broken l) = bound (omega arith) (omega arith) (omega arith)
     go n at (match-broken k x e f) = bound (omega arith) (omega arith) (omega (arith, right, some-below ks k x e))
 
+-- so many whole ones lie in them
+entries-bounded : (entries : List ℕ) (ks : List Key) (n at : ℕ) → EntriesMany ks entries n at → Bounded entries n at
+entries-bounded entries ks n at (entries-over l) =
+    let most : mostEntries ≤ wholeIn ks entries = omega (arith, l) in
+    bound (omega arith) (omega arith) (le-div-iff-mul-le (some-size ks) .0 most)
+
 lending-bounded : (new buffer : List ℕ) (n at : ℕ) → LendingSize new buffer n at → Bounded buffer n at
 lending-bounded new buffer n at (over-limit l) = bound (omega arith) (omega arith) (omega arith)
 lending-bounded new buffer n at (over-buffer l) = bound (omega arith) (omega arith) (omega arith)
@@ -288,6 +297,11 @@ module _ (inputs : List Lent) where
     record { bytes = entry; among = m; bounded = entry-size-bounded list entry },
     λ free. (record { bytes = entry; among = m; bounded = rules-bounded list entry free }, λ _. tt),
   )
+
+  pub entries-located : (list entries : List ℕ) → There inEntry entries → AllLocated inputs (entriesStages list entries)
+  entries-located list entries m =
+      let bounded = given-bounded (keys list) (λ ks. EntriesMany ks entries) entries (entries-bounded entries) in
+      (record { bytes = entries; among = m; bounded = bounded }, λ _. tt)
 
   pub printing-located : (text buffer : List ℕ) → There inBuffer buffer → AllLocated inputs (printingStages text buffer)
   printing-located text buffer m =

@@ -24,15 +24,16 @@ use Rattle.paper.specs.Fixing.{oldScan, oldTokens, fixed, fixable, fixAn
 use Rattle.paper.specs.Drafting.{draftAnswer}
 use Rattle.paper.specs.Parts.{Part, parts}
 use Rattle.paper.specs.Comparing.{recordsIn, fits, partCodes, compareAnswer}
+use Rattle.paper.specs.Counting.{Counts, countsOf, fewEntries, counted, totalsOf, countAnswer}
 use Rattle.paper.specs.Faults.{Faults, TextSize, text-over, TokenFaults, TextTokens, TextGrammar, BufferSize, buffer-short, LendingSize}
-use Rattle.paper.specs.Table.{Free, stage, Given, sizeStages, listStages, treeStages, typeStages, bufferStages, blockStages, entryStages, readStages, checkStages, judgeStages, translateStages, loadStages, runStages, printingStages, printStages, fixingStages, fixStages, draftStages, compareStages, TableHolds}
+use Rattle.paper.specs.Table.{Free, stage, Given, sizeStages, listStages, treeStages, typeStages, bufferStages, blockStages, entryStages, entriesStages, readStages, checkStages, judgeStages, translateStages, loadStages, runStages, printingStages, printStages, fixingStages, fixStages, draftStages, compareStages, countStages, TableHolds}
 use Rattle.paper.proofs.TranslationCorrect.{passing}
 use Rattle.paper.proofs.Refusals.{parsed-is-right}
 use Rattle.paper.proofs.StagesInOrder.{Tells, test-tells, exact-tells, given-tells, Follows, follows-one, follows-as, follows-then, by-table}
 use Rattle.paper.proofs.ListFaults.{list-follows}
 use Rattle.paper.proofs.TokenFaults.{tokens-tell, old-tokens-tell}
 use Rattle.paper.proofs.TypeFaults.{types-follow}
-use Rattle.paper.proofs.EntryFaults.{entry-follows}
+use Rattle.paper.proofs.EntryFaults.{entry-follows, entries-follow}
 use Rattle.paper.proofs.CodeFaults.{blocks-follow, load-follows}
 use Rattle.paper.proofs.LendingFaults.{lending-tells}
 use Rattle.paper.proofs.DraftFaults.{draft-follows}
@@ -191,6 +192,21 @@ compare-follows text list blocks =
     rw divided
     (follows-as (blockStages list blocks) (loaded (r .keys) blocks) (λ _. agrees r ps) (blocks-follow list (r .keys) blocks (known .listed))))
 
+-- nor between the text and the entries
+count-follows : (text list entries : List ℕ) → Follows (countStages text list entries) (countAnswer text list entries)
+unfolding countAnswer counted
+count-follows text list entries =
+    let counts : Restriction → List Part → Counts = λ r ps. countsOf (r .keys) (r .root) ps entries in
+    follows-as (countStages text list entries) (counted text list entries) totalsOf
+    (follows-then (checkStages text list) (entriesStages list entries) (restriction text list)
+    (λ r. parts text >>= λ ps. fewEntries (r .keys) entries >>= λ _. ok (counts r ps)) (restriction-follows text list)
+    (λ r passed.
+    let known = passing text list r passed in
+    let (ps, divided, _) = text-is-its-parts text (r .root) (known .read) in
+    rw divided
+    (follows-as (entriesStages list entries) (fewEntries (r .keys) entries) (λ _. counts r ps)
+    (entries-follow list (r .keys) entries (known .listed)))))
+
 pub table-holds : TableHolds
 table-holds =
     record {
@@ -208,4 +224,6 @@ table-holds =
           by-table (draftStages contract table list buffer) (draftAnswer contract table list buffer) (draft-follows contract table list buffer);
       compare = λ text list blocks.
           by-table (compareStages text list blocks) (compareAnswer text list blocks) (compare-follows text list blocks);
+      count = λ text list entries.
+          by-table (countStages text list entries) (countAnswer text list entries) (count-follows text list entries);
     }

@@ -1,7 +1,7 @@
 -- The wrong programs fail, each at an input: the cases 2 and 7 of the marked judgements, `true` with no keys, `true; v == 0`, for printers
 -- `a;b`, `!(a==b)`, `0x10` and `ipv4('0.0.0.16')`, for explainers the texts of WrongExplainers, for summaries and rechecks those of
 -- WrongRecheckers, for ways with skips the blocks of WrongRunners, for passes and checkers the texts of WrongFixers and WrongCheckers, for
--- translations the contracts of WrongDrafters, and for comparisons the texts and blocks of WrongComparers.
+-- translations the contracts of WrongDrafters, for comparisons the texts and blocks of WrongComparers, and for counts the files of WrongCounters.
 use Prim.Native.Nat.{ℕ, zero, suc, _+_, _*_, _≤_}
 use native.Mathlib.Omega.{arith}
 use mathlib.Core.Path.{_≡_, refl, sym, ap, subst, _∙_}
@@ -18,7 +18,7 @@ use Rattle.paper.specs.declared.Translation.the-variants as T
 use Rattle.paper.specs.Answers.{ok, refused, inBlocks, judgementSays, translationSays, loadingSays, printingSays}
 use Rattle.paper.specs.Named.{Summary, summarizingSays}
 use Rattle.paper.specs.Numbers.{byteAt}
-use Rattle.paper.specs.Tokens.{bytes, is, mostText}
+use Rattle.paper.specs.Tokens.{bytes, mostText}
 use Rattle.paper.specs.Keys.{keys}
 use Rattle.paper.specs.Meaning.{truth, isTrue}
 use Rattle.paper.specs.Code.{invert}
@@ -37,7 +37,7 @@ use Rattle.paper.specs.RecheckedRight.{Summarizes}
 use Rattle.paper.specs.WrongExplainers.{Right}
 use Rattle.paper.specs.WrongRecheckers.{RechecksRight, SummarizesRight}
 use Rattle.paper.specs.WrongRunners.{RunsRight}
-use Rattle.paper.specs.WrongPrograms.{RefusesAll, AcceptsAll, WritesNothing, FirstPartOnly, PassesNothing, PassesAll, WantsAllBlocks, CountsRight, Lends, CopiesText, LeavesParentheses, EnclosesAll, WritesAndForSequel, ForgetsBases, WritesAddressesInHex, explainer, NamesLastPart, FollowsLeftSpine, ShowsKeyForPriority, RechecksNever, RechecksAlways, RechecksEqual, RechecksUnranked, RechecksReadings, NamesPriority, NamesBareOnly, StepsByCode, SkipsKeepBool, LandsByHeight, FixesStrings, FixesComments, FixesWithZeros, FixesToDecimal, ChecksReduced, ChecksRightOperands, ChecksAtOperator, ChecksAboveZero, DraftsLastInverted, DraftsFromRight, DraftsInclusive, DraftsByAnd, AgreesAlways, DiffersAlways, ComparesFromFront, ComparesTwice, ComparesAnyShape, WrongProgramsFail, NoWrongProgram, paddedText, paddedBlocks, PaddingSeen}
+use Rattle.paper.specs.WrongPrograms.{RefusesAll, AcceptsAll, WritesNothing, FirstPartOnly, PassesNothing, PassesAll, WantsAllBlocks, CountsRight, Lends, CopiesText, LeavesParentheses, EnclosesAll, WritesAndForSequel, ForgetsBases, WritesAddressesInHex, explainer, NamesLastPart, FollowsLeftSpine, ShowsKeyForPriority, RechecksNever, RechecksAlways, RechecksEqual, RechecksUnranked, RechecksReadings, NamesPriority, NamesBareOnly, StepsByCode, SkipsKeepBool, LandsByHeight, FixesStrings, FixesComments, FixesWithZeros, FixesToDecimal, ChecksReduced, ChecksRightOperands, ChecksAtOperator, ChecksAboveZero, DraftsLastInverted, DraftsFromRight, DraftsInclusive, DraftsByAnd, AgreesAlways, DiffersAlways, ComparesFromFront, ComparesTwice, ComparesAnyShape, CountsFirstOnly, CountsWithRefused, CountsAlongSpine, CountsWithCut, WrongProgramsFail, NoWrongProgram, paddedText, paddedBlocks, PaddingSeen}
 use Rattle.paper.proofs.Stages.{never-ok, ok-same}
 use Rattle.paper.proofs.LayoutPassed.{first-counted}
 use Rattle.paper.proofs.Table.{table-holds}
@@ -56,6 +56,7 @@ use Rattle.paper.proofs.WrongFixers.{wrong-fixers-fail}
 use Rattle.paper.proofs.WrongCheckers.{keys-bytes, wrong-checkers-fail}
 use Rattle.paper.proofs.WrongDrafters.{wrong-drafters-fail}
 use Rattle.paper.proofs.WrongComparers.{wrong-comparers-fail}
+use Rattle.paper.proofs.WrongCounters.{wrong-counters-fail}
 
 -- what demand 2 says of an entry that is judged
 by-demand-two : (p : Programs) → DemandTwo p → (text list entry : List ℕ) → Bytes text → Bytes list → Bytes entry → (b : Bool) → judgeAnswer text list entry ≡ ok b
@@ -443,6 +444,20 @@ using-twice-fails p two uses = wrong-comparers-fail .twice (p .compare) uses (tw
 ignoring-shape-fails : (p : Programs) → DemandTwo p → ¬ ComparesAnyShape p
 ignoring-shape-fails p two ignores = wrong-comparers-fail .shape (p .compare) ignores (two .compares)
 
+-- and of counts
+
+counting-first-fails : (p : Programs) → DemandTwo p → ¬ CountsFirstOnly p
+counting-first-fails p two counts = wrong-counters-fail .first (p .count) counts (two .counts)
+
+counting-refused-fails : (p : Programs) → DemandTwo p → ¬ CountsWithRefused p
+counting-refused-fails p two counts = wrong-counters-fail .refused (p .count) counts (two .counts)
+
+counting-by-spine-fails : (p : Programs) → DemandTwo p → ¬ CountsAlongSpine p
+counting-by-spine-fails p two counts = wrong-counters-fail .spine (p .count) counts (two .counts)
+
+counting-cut-fails : (p : Programs) → DemandTwo p → ¬ CountsWithCut p
+counting-cut-fails p two counts = wrong-counters-fail .cut (p .count) counts (two .counts)
+
 pub wrong-programs-fail : WrongProgramsFail
 wrong-programs-fail p =
     record {
@@ -490,6 +505,10 @@ wrong-programs-fail p =
       matching-from-front = matching-from-front-fails p;
       using-twice = using-twice-fails p;
       ignoring-shape = ignoring-shape-fails p;
+      counting-first = counting-first-fails p;
+      counting-refused = counting-refused-fails p;
+      counting-by-spine = counting-by-spine-fails p;
+      counting-cut = counting-cut-fails p;
     }
 
 pub no-wrong-program : NoWrongProgram
@@ -541,6 +560,10 @@ no-wrong-program p kept =
       matching-from-front = matching-from-front-fails p two;
       using-twice = using-twice-fails p two;
       ignoring-shape = ignoring-shape-fails p two;
+      counting-first = counting-first-fails p two;
+      counting-refused = counting-refused-fails p two;
+      counting-by-spine = counting-by-spine-fails p two;
+      counting-cut = counting-cut-fails p two;
     }
 
 padded-loads : loadAnswer theKeys paddedBlocks ≡ ok 3

@@ -40,11 +40,14 @@ use Rattle.paper.specs.BitsKept.{ComparisonRule, ruleBefore}
 use Rattle.paper.specs.WrongCheckers.{Checker, TypesBy, rightAlone, atOperator, aboveZero}
 use Rattle.paper.specs.WrongDrafters.{Drafter, Maker, Makes, lastMade, rightMade, inclusiveMade, andMade}
 use Rattle.paper.specs.WrongComparers.{Comparer, Rule, SaysBy, agreed, differing, fromFront}
-use Rattle.paper.specs.WrongPrograms.{FirstPartOnly, WantsAllBlocks, StepsByCode, CountsRight, Lends, partOf, checking, judging, translating, loading, running, printing, explaining, summarizing, rechecking, fixing, drafting, comparing, OthersKept, ThereIs, WrongProgramsExist}
+use Rattle.paper.specs.WrongCounters as E
+use Rattle.paper.specs.WrongCounters.{Counter, NumbersBy, firstOnly, withRefused, alongSpine}
+use Rattle.paper.specs.WrongPrograms.{FirstPartOnly, WantsAllBlocks, StepsByCode, CountsRight, Lends, partOf, checking, judging, translating, loading, running, printing, explaining, summarizing, rechecking, fixing, drafting, comparing, totalling, OthersKept, ThereIs, WrongProgramsExist}
 use Rattle.paper.proofs.Promised.{placeAt, explanationFor, translation-same, can-be-kept}
 use Rattle.paper.proofs.ByteLists.{zero-bytes, all-bytes}
 use Rattle.paper.proofs.LoadedBlocksRun.{load-counts}
 use Rattle.paper.proofs.RunsRight.{ran-right}
+use Rattle.paper.proofs.DemandTwo.{demand-two-met}
 use Rattle.paper.proofs.DemandThree.{demand-three-met}
 use Rattle.paper.proofs.WrongExplainersExist.{wrong-explainers-exist}
 use Rattle.paper.proofs.WrongRecheckersExist.{never-real, always-real, equal-real, unranked-real, readings-real, priority-counted-real, fields-missed-real}
@@ -52,6 +55,7 @@ use Rattle.paper.proofs.WrongFixersExist.{strings-real, comments-real, 
 use Rattle.paper.proofs.WrongCheckers.{checker-real}
 use Rattle.paper.proofs.WrongDrafters.{drafter-real}
 use Rattle.paper.proofs.WrongComparersExist.{comparer-real, twice-real, shape-real}
+use Rattle.paper.proofs.WrongCountersExist.{counter-real, cut-real}
 use Rattle.paper.proofs.WrongPrograms.{little, plain-written}
 
 -- a program that cuts: it translates what stands before the first ";"
@@ -83,9 +87,9 @@ plain-counts = refl
 -- each wrong program is one that keeps all promises but that of one call
 
 module _ (q : Programs) (kept : Kept q) where
-  -- with another check
-  checkers : Checker → Programs
-  checkers check =
+  -- with another check, or other calls of 02 l and m
+  abbrev with-checks : Checker → Comparer → Counter → Programs
+  with-checks check compare count =
       record {
         read = q .read;
         check = check;
@@ -99,14 +103,19 @@ module _ (q : Programs) (kept : Kept q) where
         recheck = q .recheck;
         fix = q .fix;
         draft = q .draft;
-        compare = q .compare;
+        compare = compare;
+        count = count;
       }
+
+  -- with another check
+  checkers : Checker → Programs
+  checkers check = with-checks check (q .compare) (q .count)
 
   others-than-check : (check : Checker) → OthersKept checking (checkers check)
   unfolding checkers
   others-than-check check = (
     (kept .read, kept .judge, kept .translate, kept .load, kept .run),
-    (kept .print, kept .explain, kept .summarize, kept .recheck, kept .fix, kept .draft, kept .compare),
+    (kept .print, kept .explain, kept .summarize, kept .recheck, kept .fix, kept .draft, kept .compare, kept .count),
   )
 
   -- one that types by a rule of its own
@@ -134,11 +143,12 @@ module _ (q : Programs) (kept : Kept q) where
         fix = q .fix;
         draft = q .draft;
         compare = q .compare;
+        count = q .count;
       }
 
-  -- with other calls of 02 c, f, h, k and l
-  abbrev with-answers : (List ℕ → List ℕ → List ℕ → Explanation) → Summarizer → Rechecker → Fixer → Drafter → Comparer → Programs
-  with-answers explain summarize recheck fix draft compare =
+  -- with other calls of 02 c, f, h and k
+  abbrev with-answers : (List ℕ → List ℕ → List ℕ → Explanation) → Summarizer → Rechecker → Fixer → Drafter → Programs
+  with-answers explain summarize recheck fix draft =
       record {
         read = q .read;
         check = q .check;
@@ -152,7 +162,8 @@ module _ (q : Programs) (kept : Kept q) where
         recheck = recheck;
         fix = fix;
         draft = draft;
-        compare = compare;
+        compare = q .compare;
+        count = q .count;
       }
 
   -- with another judge
@@ -163,7 +174,7 @@ module _ (q : Programs) (kept : Kept q) where
   unfolding judges
   others-than-judge judge = (
     (kept .read, kept .check, kept .translate, kept .load, kept .run),
-    (kept .print, kept .explain, kept .summarize, kept .recheck, kept .fix, kept .draft, kept .compare),
+    (kept .print, kept .explain, kept .summarize, kept .recheck, kept .fix, kept .draft, kept .compare, kept .count),
   )
 
   -- with another translator
@@ -174,7 +185,7 @@ module _ (q : Programs) (kept : Kept q) where
   unfolding translators
   others-than-translate translate = (
     (kept .read, kept .check, kept .judge, kept .load, kept .run),
-    (kept .print, kept .explain, kept .summarize, kept .recheck, kept .fix, kept .draft, kept .compare),
+    (kept .print, kept .explain, kept .summarize, kept .recheck, kept .fix, kept .draft, kept .compare, kept .count),
   )
 
   -- with another loader
@@ -185,7 +196,7 @@ module _ (q : Programs) (kept : Kept q) where
   unfolding loaders
   others-than-load load = (
     (kept .read, kept .check, kept .judge, kept .translate, kept .run),
-    (kept .print, kept .explain, kept .summarize, kept .recheck, kept .fix, kept .draft, kept .compare),
+    (kept .print, kept .explain, kept .summarize, kept .recheck, kept .fix, kept .draft, kept .compare, kept .count),
   )
 
   -- with another run
@@ -196,7 +207,7 @@ module _ (q : Programs) (kept : Kept q) where
   unfolding runners
   others-than-run run = (
     (kept .read, kept .check, kept .judge, kept .translate, kept .load),
-    (kept .print, kept .explain, kept .summarize, kept .recheck, kept .fix, kept .draft, kept .compare),
+    (kept .print, kept .explain, kept .summarize, kept .recheck, kept .fix, kept .draft, kept .compare, kept .count),
   )
 
   -- with another printer
@@ -207,73 +218,73 @@ module _ (q : Programs) (kept : Kept q) where
   unfolding printers
   others-than-print print = (
     (kept .read, kept .check, kept .judge, kept .translate, kept .load, kept .run),
-    (kept .explain, kept .summarize, kept .recheck, kept .fix, kept .draft, kept .compare),
+    (kept .explain, kept .summarize, kept .recheck, kept .fix, kept .draft, kept .compare, kept .count),
   )
 
   -- with another explainer
   explainers : (List ℕ → List ℕ → List ℕ → Explanation) → Programs
-  explainers explain = with-answers explain (q .summarize) (q .recheck) (q .fix) (q .draft) (q .compare)
+  explainers explain = with-answers explain (q .summarize) (q .recheck) (q .fix) (q .draft)
 
   others-than-explain : (explain : List ℕ → List ℕ → List ℕ → Explanation) → OthersKept explaining (explainers explain)
   unfolding explainers
   others-than-explain explain = (
     (kept .read, kept .check, kept .judge, kept .translate, kept .load, kept .run),
-    (kept .print, kept .summarize, kept .recheck, kept .fix, kept .draft, kept .compare),
+    (kept .print, kept .summarize, kept .recheck, kept .fix, kept .draft, kept .compare, kept .count),
   )
 
   -- with another summary
   summarizers : Summarizer → Programs
-  summarizers summarize = with-answers (q .explain) summarize (q .recheck) (q .fix) (q .draft) (q .compare)
+  summarizers summarize = with-answers (q .explain) summarize (q .recheck) (q .fix) (q .draft)
 
   others-than-summarize : (summarize : Summarizer) → OthersKept summarizing (summarizers summarize)
   unfolding summarizers
   others-than-summarize summarize = (
     (kept .read, kept .check, kept .judge, kept .translate, kept .load, kept .run),
-    (kept .print, kept .explain, kept .recheck, kept .fix, kept .draft, kept .compare),
+    (kept .print, kept .explain, kept .recheck, kept .fix, kept .draft, kept .compare, kept .count),
   )
 
   -- with another recheck
   recheckers : Rechecker → Programs
-  recheckers recheck = with-answers (q .explain) (q .summarize) recheck (q .fix) (q .draft) (q .compare)
+  recheckers recheck = with-answers (q .explain) (q .summarize) recheck (q .fix) (q .draft)
 
   others-than-recheck : (recheck : Rechecker) → OthersKept rechecking (recheckers recheck)
   unfolding recheckers
   others-than-recheck recheck = (
     (kept .read, kept .check, kept .judge, kept .translate, kept .load, kept .run),
-    (kept .print, kept .explain, kept .summarize, kept .fix, kept .draft, kept .compare),
+    (kept .print, kept .explain, kept .summarize, kept .fix, kept .draft, kept .compare, kept .count),
   )
 
   -- with another pass
   fixers : Fixer → Programs
-  fixers fix = with-answers (q .explain) (q .summarize) (q .recheck) fix (q .draft) (q .compare)
+  fixers fix = with-answers (q .explain) (q .summarize) (q .recheck) fix (q .draft)
 
   others-than-fix : (fix : Fixer) → OthersKept fixing (fixers fix)
   unfolding fixers
   others-than-fix fix = (
     (kept .read, kept .check, kept .judge, kept .translate, kept .load, kept .run),
-    (kept .print, kept .explain, kept .summarize, kept .recheck, kept .draft, kept .compare),
+    (kept .print, kept .explain, kept .summarize, kept .recheck, kept .draft, kept .compare, kept .count),
   )
 
   -- with another translation of contracts
   drafters : Drafter → Programs
-  drafters draft = with-answers (q .explain) (q .summarize) (q .recheck) (q .fix) draft (q .compare)
+  drafters draft = with-answers (q .explain) (q .summarize) (q .recheck) (q .fix) draft
 
   others-than-draft : (draft : Drafter) → OthersKept drafting (drafters draft)
   unfolding drafters
   others-than-draft draft = (
     (kept .read, kept .check, kept .judge, kept .translate, kept .load, kept .run),
-    (kept .print, kept .explain, kept .summarize, kept .recheck, kept .fix, kept .compare),
+    (kept .print, kept .explain, kept .summarize, kept .recheck, kept .fix, kept .compare, kept .count),
   )
 
   -- with another comparison
   comparers : Comparer → Programs
-  comparers compare = with-answers (q .explain) (q .summarize) (q .recheck) (q .fix) (q .draft) compare
+  comparers compare = with-checks (q .check) compare (q .count)
 
   others-than-compare : (compare : Comparer) → OthersKept comparing (comparers compare)
   unfolding comparers
   others-than-compare compare = (
     (kept .read, kept .check, kept .judge, kept .translate, kept .load, kept .run),
-    (kept .print, kept .explain, kept .summarize, kept .recheck, kept .fix, kept .draft),
+    (kept .print, kept .explain, kept .summarize, kept .recheck, kept .fix, kept .draft, kept .count),
   )
 
   -- one that goes by a rule of its own
@@ -282,6 +293,24 @@ module _ (q : Programs) (kept : Kept q) where
   there-compares rule =
       let (x, says) = comparer-real rule in
       (comparers x, says, others-than-compare x)
+
+  -- with another count
+  counters : Counter → Programs
+  counters count = with-checks (q .check) (q .compare) count
+
+  others-than-count : (count : Counter) → OthersKept totalling (counters count)
+  unfolding counters
+  others-than-count count = (
+    (kept .read, kept .check, kept .judge, kept .translate, kept .load, kept .run),
+    (kept .print, kept .explain, kept .summarize, kept .recheck, kept .fix, kept .draft, kept .compare),
+  )
+
+  -- one that numbers the parts by a rule of its own
+  there-counts : (rule : E.Rule) → ThereIs (λ p. NumbersBy rule (p .count)) totalling
+  unfolding counters
+  there-counts rule =
+      let (x, says) = counter-real rule (q .count) in
+      (counters x, says, others-than-count x)
 
   -- one that makes a tree of its own
   there-drafts : (made : Maker) → ThereIs (λ p. Makes made (p .draft)) drafting
@@ -419,7 +448,7 @@ names-worded : (n : ℕ) (r : Reason) → Names n r → Names n (explanationSays
 names-worded n r (place, s, e) = (place, s, ap (λ (x : Reason). explanationSays (explanationFor x)) e)
 
 pub wrong-programs-exist : WrongProgramsExist
-unfolding judges translators loaders runners explainers summarizers recheckers fixers comparers
+unfolding judges translators loaders runners explainers summarizers recheckers fixers comparers counters
 wrong-programs-exist =
     let (q, kept) = can-be-kept in
     let refuses : List ℕ → List ℕ → List ℕ → Judgement = λ text list entry. J.Refused 20 (P.Entry 0) in
@@ -497,4 +526,9 @@ wrong-programs-exist =
       matching-from-front = there-compares q kept fromFront;
       using-twice = let (x, uses) = twice-real in (comparers q kept x, uses, others-than-compare q kept x);
       ignoring-shape = let (x, ignores) = shape-real in (comparers q kept x, ignores, others-than-compare q kept x);
+      counting-first = there-counts q kept firstOnly;
+      counting-refused = there-counts q kept withRefused;
+      counting-by-spine = there-counts q kept alongSpine;
+      counting-cut =
+          let (x, counts) = cut-real (q .count) (demand-two-met q kept .counts) in (counters q kept x, counts, others-than-count q kept x);
     }

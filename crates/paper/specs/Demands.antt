@@ -32,6 +32,7 @@ use Rattle.paper.specs.declared.Fixing.the-variants as F
 use Rattle.paper.specs.declared.Drafting.the-variants as D
 use Rattle.paper.specs.declared.Agreement.{Agreement}
 use Rattle.paper.specs.declared.Agreement.the-variants as A
+use Rattle.paper.specs.declared.Counting.the-variants as E
 use Rattle.paper.specs.declared.Explanation.{Explanation}
 use Rattle.paper.specs.declared.Summarizing.{Summarizing}
 use Rattle.paper.specs.declared.Summarizing.the-variants as S
@@ -61,13 +62,14 @@ use Rattle.paper.specs.Drafting.{contractTree, namesOf, draftingSays}
 use Rattle.paper.specs.Parts.{Part, parts}
 use Rattle.paper.specs.PartsDecide.{roots}
 use Rattle.paper.specs.Comparing.{Ours, agreementSays}
+use Rattle.paper.specs.Counting.{wholeIn, Counts, countsOf, mostEntries, totalsOf, countingSays}
 use Rattle.paper.specs.BlocksRoundTrip.{All}
 use Rattle.paper.specs.RecheckedRight.{Summarizes, Rechecks}
 use Rattle.paper.specs.LoadedBlocksRun.{Runs}
 use Rattle.paper.specs.CodeCorrect.{mostTranslated}
 use Rattle.paper.specs.Faults.{CutsBy, Cuts}
-use Rattle.paper.specs.Table.{lastNumber, Stage, Clear, ByTable, readStages, checkStages, judgeStages, translateStages, loadStages, runStages, printStages, fixStages, draftStages, compareStages}
-use Rattle.paper.specs.Promised.{JudgePromised, verdict, verdictIn, judgementOfRun, TranslateResult, PrintResult, FixResult, DraftResult, Bytes, UserNumbers, Programs, Kept}
+use Rattle.paper.specs.Table.{lastNumber, Stage, Clear, ByTable, readStages, checkStages, judgeStages, translateStages, loadStages, runStages, printStages, fixStages, draftStages, compareStages, countStages}
+use Rattle.paper.specs.Promised.{JudgePromised, verdict, verdictIn, judgementOfRun, TranslateResult, PrintResult, FixResult, DraftResult, CountResult, Bytes, UserNumbers, PartNumbers, Programs, Kept}
 
 -- Demand 1. An answer is one of the enum's cases. It is a refusal exactly as the table of 01 says, with that number at that place, and
 -- passes exactly when no stage of the call has a fault. The number is one of the table's, and the place lies in an input that was lent, or
@@ -143,6 +145,11 @@ abbrev pub CompareAnswered : List ℕ → List ℕ → List ℕ → Agreement �
 CompareAnswered text list blocks r =
     Answered (lent inText text ∷ lent inList list ∷ lent inBlocks blocks ∷ []) (compareStages text list blocks) (agreementSays r)
 
+pub record CountAnswered (text list entries numbers : List ℕ) (r : CountResult) : Type 0 where
+  pub says : Answered (lent inText text ∷ lent inList list ∷ lent inEntry entries ∷ []) (countStages text list entries)
+      (countingSays (r .answer))
+  pub unchanged : (n : ℕ) (at : Place) → r .answer ≡ E.Refused n at → r .numbers ≡ numbers
+
 abbrev pub SummarizeAnswered : List ℕ → List ℕ → Summarizing → Type 0
 SummarizeAnswered text list r = Answered (lent inText text ∷ lent inList list ∷ []) (checkStages text list) (summarizingSays r)
 
@@ -168,6 +175,8 @@ pub record DemandOne (p : Programs) : Type 0 where
   pub draft : (contract table list buffer : List ℕ) → Bytes contract → UserNumbers table → Bytes list → Bytes buffer
       → DraftAnswered contract table list buffer (p .draft contract table list buffer)
   pub compare : (text list blocks : List ℕ) → Bytes text → Bytes list → Bytes blocks → CompareAnswered text list blocks (p .compare text list blocks)
+  pub count : (text list entries numbers : List ℕ) → Bytes text → Bytes list → Bytes entries → PartNumbers numbers
+      → CountAnswered text list entries numbers (p .count text list entries numbers)
 
 -- Demand 2, for every call that takes a text or an entry. A text is refused exactly when it is over a limit or ill-formed, the list does
 -- not pass, or the text is ill-typed against it; an entry exactly when it does not conform to the list. Else it is accepted exactly when
@@ -309,6 +318,23 @@ AgreementMeans p text list blocks =
     p .compare text list blocks ≡ A.Agrees
     → (entry : List ℕ) → Bytes entry → judgementOfRun (p .run list blocks entry) ≡ p .judge text list entry
 
+-- a text that passes with a list, its parts, and no more entries than are counted
+pub record Countable (text list entries : List ℕ) : Type 0 where
+  pub passes : Checkable text list
+  pub ps : List Part
+  pub divided : parts text ≡ ok ps
+  pub few : wholeIn (passes .ks) entries ≤ mostEntries
+
+abbrev pub countsIn : (text list entries : List ℕ) → Countable text list entries → Counts
+countsIn text list entries c = countsOf (c .passes .ks) (c .passes .root) (c .ps) entries
+
+-- "Each number equals a definition over the list of entries.": every other text, list or file is refused
+pub record CountRight (text list entries numbers : List ℕ) (r : CountResult) : Type 0 where
+  pub refuses : ((n : ℕ) × (at : Place) × (r .answer ≡ E.Refused n at)) ↔ ¬ Countable text list entries
+  pub totals : (c : Countable text list entries)
+      → countingSays (r .answer) ≡ ok (totalsOf (countsIn text list entries c))
+  pub written : (c : Countable text list entries) → r .numbers ≡ over (countsIn text list entries c .parts) numbers
+
 -- a run of blocks leaves one bool, in so many steps
 abbrev pub LeavesIn : (list blocks entry : List ℕ) → Runnable list blocks entry → Bool → ℕ → Type 0
 LeavesIn list blocks entry j b n =
@@ -362,6 +388,8 @@ pub record DemandTwo (p : Programs) : Type 0 where
       → DraftMeans p contract table list buffer
   pub compares : (text list blocks : List ℕ) → Bytes text → Bytes list → Bytes blocks → CompareRight text list blocks (p .compare text list blocks)
   pub agreement-means : (text list blocks : List ℕ) → Bytes text → Bytes list → Bytes blocks → AgreementMeans p text list blocks
+  pub counts : (text list entries numbers : List ℕ) → Bytes text → Bytes list → Bytes entries → PartNumbers numbers
+      → CountRight text list entries numbers (p .count text list entries numbers)
 
 -- Demand 3. A text and a list that pass have a number of instructions, and are translated with it into every buffer that has room for
 -- its blocks; every other buffer is refused, 15 at its length. The blocks written load with that list, with the number returned, and

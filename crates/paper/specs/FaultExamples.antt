@@ -13,7 +13,7 @@ use Rattle.paper.specs.Keys.{keyRecord, exact, Key, layoutRule}
 use Rattle.paper.specs.Grammar.{Tree, truth, number, key, field, attribute, prefixed, joined, compared}
 use Rattle.paper.specs.Calls.{Restriction}
 use Rattle.paper.specs.Faults.{Faults, TextSize, ListSize, ListRecords, TextTokens, TreeTypes, RootType, BufferSize, BlocksSize, BlocksLayout, BlocksCode, EntrySize, EntryRules, LendingSize}
-use Rattle.paper.specs.Table.{Sooner, Wins, Stage, stage, Decided, Clear, readStages, checkStages, judgeStages, translateStages, loadStages, runStages, printStages}
+use Rattle.paper.specs.Table.{Sooner, Wins, Stage, stage, Decided, Clear, readStages, checkStages, judgeStages, translateStages, loadStages, runStages, printStages, countStages}
 use Rattle.paper.specs.KeyExamples.{aKey}
 use Rattle.paper.specs.BlockExamples.{row, block, alone, pushTrue, conjoin, firstBlock, lastBlock}
 use Rattle.paper.specs.AnswerExamples.{longText, shortList, repeatingList}
@@ -113,6 +113,8 @@ pub record InputsInOrder : Type 0 where
   pub run : inputs (runStages [] [] []) ≡ inputs (loadStages [] []) ++ (inEntry ∷ inEntry ∷ [])
   -- those of read, and 21
   pub print : inputs (printStages [] []) ≡ inputs (readStages []) ++ (inBuffer ∷ [])
+  -- those of check, and 25
+  pub count : inputs (countStages [] [] []) ≡ inputs (checkStages [] []) ++ (inEntry ∷ [])
 
 pub record FaultExamples : Type 0 where
   pub rows : Rows

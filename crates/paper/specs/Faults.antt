@@ -24,6 +24,7 @@ use Rattle.paper.specs.Sized.{levels, count}
 use Rattle.paper.specs.Pact.{mostIndices, Comparator, Conjunction, Clause, conjoins, wrong, opcodeOf, comparatorByte, conjunctionByte, contractBytes, AllIndexed}
 use Rattle.paper.specs.Contract.{Front, closedAll, indexFits}
 use Rattle.paper.specs.LoadedBlocksRun.{typesThrough}
+use Rattle.paper.specs.Counting.{entrySize, wholeIn, mostEntries}
 
 -- a number, and an offset in the input of its stage
 abbrev pub Faults : Type 1
@@ -165,6 +166,10 @@ pub data EntryRules (ks : List Key) (entry : List ℕ) : ℕ → ℕ → Type 0 
   priority-broken : 2 ^ 31 ≤ priorityOf entry → EntryRules ks entry 20 0
   match-broken : (k : ℕ) (x : Key) → getElem? ks k ≡ some x → matchOk x (matchAt entry k) ≡ false
       → EntryRules ks entry 20 (headSize + k * matchSize)
+
+-- 25: "Beyond 1,000,000 whole entries"; the first byte of the next one
+pub data EntriesMany (ks : List Key) (entries : List ℕ) : ℕ → ℕ → Type 0 where
+  entries-over : mostEntries < wholeIn ks entries → EntriesMany ks entries 25 (mostEntries * entrySize ks)
 
 -- 24: "a table over 16 numbers"; "at table 16"
 pub data TableSize (table : List ℕ) : ℕ → ℕ → Type 0 where

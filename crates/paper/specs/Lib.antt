@@ -63,6 +63,7 @@ pub mod FixExamples
 pub mod DraftExamples
 pub mod AnswerExamples
 pub mod FaultExamples
+pub mod Counting
 pub mod Promised
 pub mod Pieces
 pub mod Faults
@@ -72,9 +73,11 @@ pub mod Table
 pub mod Demands
 pub mod Comparing
 pub mod ComparedRight
+pub mod CountedRight
 pub mod Dependence
 pub mod DependenceExamples
 pub mod CompareExamples
+pub mod CountExamples
 pub mod WrongPrints
 pub mod WrongExplainers
 pub mod WrongRecheckers
@@ -84,5 +87,6 @@ pub mod WrongCheckers
 pub mod DraftedRight
 pub mod WrongDrafters
 pub mod WrongComparers
+pub mod WrongCounters
 pub mod PiecesRight
 pub mod WrongPrograms

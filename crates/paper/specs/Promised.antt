@@ -4,6 +4,7 @@ use Prim.Native.Nat.{ℕ, _^_, _<_}
 use mathlib.Core.Path.{_≡_}
 use mathlib.Core.Bool.{Bool, true, false}
 use mathlib.Core.List.{List}
+use lib.ListN.{length}
 use Rattle.paper.specs.declared.Reading.{Reading}
 use Rattle.paper.specs.declared.Checking.{Checking}
 use Rattle.paper.specs.declared.Judgement.{Judgement}
@@ -16,17 +17,20 @@ use Rattle.paper.specs.declared.Printing.{Printing}
 use Rattle.paper.specs.declared.Fixing.{Fixing}
 use Rattle.paper.specs.declared.Drafting.{Drafting}
 use Rattle.paper.specs.declared.Agreement.{Agreement}
+use Rattle.paper.specs.declared.Counting.{Counting}
 use Rattle.paper.specs.declared.Explanation.{Explanation}
 use Rattle.paper.specs.declared.Summarizing.{Summarizing}
 use Rattle.paper.specs.declared.Rechecking.{Rechecking}
 use Rattle.paper.specs.Answers.{readingSays, checkingSays, judgementSays, translationSays, loadingSays, runningSays, printingSays}
 use Rattle.paper.specs.BlocksRoundTrip.{All}
+use Rattle.paper.specs.Parts.{mostParts}
 use Rattle.paper.specs.Explained.{explainAnswer, explanationSays}
 use Rattle.paper.specs.Named.{summaryAnswer, summarizingSays}
 use Rattle.paper.specs.Rechecking.{recheckAnswer, recheckingSays}
 use Rattle.paper.specs.Fixing.{fixAnswer, fixBuffer, fixingSays}
 use Rattle.paper.specs.Drafting.{draftAnswer, draftBuffer, draftingSays}
 use Rattle.paper.specs.Comparing.{compareAnswer, agreementSays}
+use Rattle.paper.specs.Counting.{countAnswer, countNumbers, countingSays}
 use Rattle.paper.specs.Calls.{readAnswer, checkAnswer, judgeAnswer, translateAnswer, translateBuffer, loadAnswer, runAnswer, printAnswer, printBuffer}
 
 -- what is promised of the result of each call, for the bytes that are lent to it
@@ -85,6 +89,15 @@ pub record DraftPromised (contract table list buffer : List ℕ) (r : DraftResul
 abbrev pub ComparePromised : List ℕ → List ℕ → List ℕ → Agreement → Type 0
 ComparePromised text list blocks r = agreementSays r ≡ compareAnswer text list blocks
 
+-- what `count` returns, and what the numbers that are lent to it are at its exit
+pub record CountResult : Type 0 where
+  pub answer : Counting
+  pub numbers : List ℕ
+
+pub record CountPromised (text list entries numbers : List ℕ) (r : CountResult) : Type 0 where
+  pub says : countingSays (r .answer) ≡ countAnswer text list entries
+  pub holds : r .numbers ≡ countNumbers text list entries numbers
+
 -- the numbers of an explanation; its pieces, which are references, stand in Pieces
 abbrev pub ExplainPromised : List ℕ → List ℕ → List ℕ → Explanation → Type 0
 ExplainPromised text list entry r = explanationSays r ≡ explainAnswer text list entry
@@ -131,6 +144,7 @@ pub record NoSecondResult : Type 0 where
   pub fix : (text buffer : List ℕ) → Sole (FixPromised text buffer)
   pub draft : (contract table list buffer : List ℕ) → Sole (DraftPromised contract table list buffer)
   pub compare : (text list blocks : List ℕ) → Sole (ComparePromised text list blocks)
+  pub count : (text list entries numbers : List ℕ) → Sole (CountPromised text list entries numbers)
 
 -- what can be lent: numbers below 256
 abbrev pub Bytes : List ℕ → Type 0
@@ -139,6 +153,11 @@ Bytes s = All (λ b. b < 256) s
 -- "user numbers below 2^64"
 abbrev pub UserNumbers : List ℕ → Type 0
 UserNumbers table = All (λ v. v < 2 ^ 64) table
+
+-- numbers for the parts, which are as many as a text can have
+pub record PartNumbers (numbers : List ℕ) : Type 0 where
+  pub many : length numbers ≡ mostParts
+  pub each : All (λ n. n < 2 ^ 64) numbers
 
 -- the calls as programs: any that return such results, and those that keep their promises on all bytes
 
@@ -156,6 +175,7 @@ pub record Programs : Type 0 where
   pub fix : List ℕ → List ℕ → FixResult
   pub draft : List ℕ → List ℕ → List ℕ → List ℕ → DraftResult
   pub compare : List ℕ → List ℕ → List ℕ → Agreement
+  pub count : List ℕ → List ℕ → List ℕ → List ℕ → CountResult
 
 abbrev pub KeepsRead : Programs → Type 0
 KeepsRead p = (text : List ℕ) → Bytes text → ReadPromised text (p .read text)
@@ -206,6 +226,11 @@ abbrev pub KeepsCompare : Programs → Type 0
 KeepsCompare p =
     (text list blocks : List ℕ) → Bytes text → Bytes list → Bytes blocks → ComparePromised text list blocks (p .compare text list blocks)
 
+abbrev pub KeepsCount : Programs → Type 0
+KeepsCount p =
+    (text list entries numbers : List ℕ) → Bytes text → Bytes list → Bytes entries → PartNumbers numbers
+    → CountPromised text list entries numbers (p .count text list entries numbers)
+
 pub record Kept (p : Programs) : Type 0 where
   pub read : KeepsRead p
   pub check : KeepsCheck p
@@ -220,6 +245,7 @@ pub record Kept (p : Programs) : Type 0 where
   pub fix : KeepsFix p
   pub draft : KeepsDraft p
   pub compare : KeepsCompare p
+  pub count : KeepsCount p
 
 -- there are such programs
 abbrev pub CanBeKept : Type 0

@@ -7,18 +7,19 @@ use mathlib.Core.List.{List, [], _∷_, _++_}
 use lib.ListN.{length}
 use Rattle.paper.specs.Answers.{Input, inText, inList, inEntry, inBlocks, inBuffer, inContract, inTable, Answer, ok, refused}
 use Rattle.paper.specs.Tokens.{Token, tokens}
-use Rattle.paper.specs.Keys.{Key, RecordRule, layoutRule, keys}
+use Rattle.paper.specs.Keys.{RecordRule, layoutRule, keys}
 use Rattle.paper.specs.Print.{print}
 use Rattle.paper.specs.Calls.{tree, restriction, readAnswer, checkAnswer, judgeAnswer, translateAnswer, loadAnswer, runAnswer, printAnswer}
 use Rattle.paper.specs.Named.{summaryAnswer}
 use Rattle.paper.specs.Fixing.{oldScan, fixed, fixAnswer}
 use Rattle.paper.specs.Drafting.{nameRule, namesOf, drafted, draftAnswer}
 use Rattle.paper.specs.Comparing.{compareAnswer}
-use Rattle.paper.specs.Faults.{Faults, TextSize, ListSize, ListRecords, Cuts, TokenFaults, TextTokens, TextGrammar, TreeTypes, RootType, BufferSize, BlocksSize, BlocksLayout, BlocksCode, EntrySize, EntryRules, LendingSize, TableSize, ContractFaults, TextLimits}
+use Rattle.paper.specs.Counting.{countAnswer}
+use Rattle.paper.specs.Faults.{Faults, TextSize, ListSize, ListRecords, Cuts, TokenFaults, TextTokens, TextGrammar, TreeTypes, RootType, BufferSize, BlocksSize, BlocksLayout, BlocksCode, EntrySize, EntryRules, EntriesMany, LendingSize, TableSize, ContractFaults, TextLimits}
 
 -- the table's numbers run from 1 to this one
 abbrev pub lastNumber : ℕ
-lastNumber = 24
+lastNumber = 25
 
 -- "In a stage the earliest place wins; at one place the lower number wins."
 
@@ -100,6 +101,10 @@ entryStages list entry =
     ∷ stage inEntry (Given (keys list) (λ ks. EntryRules ks entry))
     ∷ []
 
+-- 25; no entry of many has a wrong length, and one that breaks its rule is counted
+abbrev pub entriesStages : List ℕ → List ℕ → List Stage
+entriesStages list entries = stage inEntry (Given (keys list) (λ ks. EntriesMany ks entries)) ∷ []
+
 -- 21
 abbrev pub printingStages : List ℕ → List ℕ → List Stage
 printingStages text buffer = stage inBuffer (Given (tree text) (λ t. LendingSize (print t) buffer)) ∷ []
@@ -150,6 +155,9 @@ draftStages contract table list buffer = listStagesBy nameRule list ++ draftingS
 abbrev pub compareStages : List ℕ → List ℕ → List ℕ → List Stage
 compareStages text list blocks = checkStages text list ++ blockStages list blocks
 
+abbrev pub countStages : List ℕ → List ℕ → List ℕ → List Stage
+countStages text list entries = checkStages text list ++ entriesStages list entries
+
 pub record TableHolds : Type 0 where
   pub read : (text : List ℕ) → ByTable (readAnswer text) (readStages text)
   pub check : (text list : List ℕ) → ByTable (checkAnswer text list) (checkStages text list)
@@ -163,6 +171,7 @@ pub record TableHolds : Type 0 where
   pub draft : (contract table list buffer : List ℕ)
       → ByTable (draftAnswer contract table list buffer) (draftStages contract table list buffer)
   pub compare : (text list blocks : List ℕ) → ByTable (compareAnswer text list blocks) (compareStages text list blocks)
+  pub count : (text list entries : List ℕ) → ByTable (countAnswer text list entries) (countStages text list entries)
 
 -- and a text that passes 5 to 7 and 22 is cut into its tokens
 abbrev pub TokensAreCut : Type 0

@@ -1,6 +1,6 @@
 -- 01, "Try these against it": programs that the promises must leave no room for; and wrong printers (02 a and e), explainers (02 c),
 -- summaries and rechecks (02 f), ways with skips (02 g), passes over octal numerals (02 h), checkers of numbers that lose bits (02 j),
--- translations of contracts (02 k), and comparisons (02 l). Each is refuted at an input, named in the proof.
+-- translations of contracts (02 k), comparisons (02 l), and counts (02 m). Each is refuted at an input, named in the proof.
 use Prim.Native.Nat.{ℕ, _+_, _*_, _≤_, _<_}
 use mathlib.Core.Path.{_≡_}
 use mathlib.Core.Bool.{true, false, cond}
@@ -24,7 +24,7 @@ use Rattle.paper.specs.Calls.{tree, Restriction, restriction, over, judg
 use Rattle.paper.specs.TranslationCorrect.{Carries}
 use Rattle.paper.specs.MarkedJudgements.{theKeys, theEntry}
 use Rattle.paper.specs.Explained.{explanationSays}
-use Rattle.paper.specs.Promised.{judgementOfRun, Bytes, Programs, KeepsRead, KeepsCheck, KeepsJudge, KeepsTranslate, KeepsLoad, KeepsRun, KeepsPrint, KeepsExplain, KeepsSummarize, KeepsRecheck, KeepsFix, KeepsDraft, KeepsCompare, Kept}
+use Rattle.paper.specs.Promised.{judgementOfRun, Bytes, Programs, KeepsRead, KeepsCheck, KeepsJudge, KeepsTranslate, KeepsLoad, KeepsRun, KeepsPrint, KeepsExplain, KeepsSummarize, KeepsRecheck, KeepsFix, KeepsDraft, KeepsCompare, KeepsCount, Kept}
 use Rattle.paper.specs.WrongPrints.{withoutParentheses, withAllParentheses, withAndForSequel, inDecimal, addressesInHex}
 use Rattle.paper.specs.WrongExplainers.{Explainer, NamesLast, FollowsSpine, KeyForPriority}
 use Rattle.paper.specs.WrongRecheckers.{NeverReuses, AlwaysReuses, WantsEqualEntries, ForgetsPriority, ComparesReadings, CountsPriority, MissesFields}
@@ -33,6 +33,7 @@ use Rattle.paper.specs.WrongFixers.{ChangesStrings, ChangesComments, Kee
 use Rattle.paper.specs.WrongCheckers.{ReducesStill, LooksRight, PlacesAtOperator, TakesNoneBelowZero}
 use Rattle.paper.specs.WrongDrafters.{InvertsLast, JoinsRight, TakesInclusive, JoinsByAnd}
 use Rattle.paper.specs.WrongComparers.{AlwaysAgrees, AlwaysDiffers, MatchesFromFront, UsesTwice, IgnoresShape}
+use Rattle.paper.specs.WrongCounters.{CountsFirst, CountsRefused, CountsBySpine, CountsCut}
 use Rattle.paper.specs.Demands.{Refuses, blocksWritten, DemandOne, DemandTwo, DemandThree}
 
 -- the bytes before the first ";"
@@ -223,10 +224,24 @@ ComparesTwice p = UsesTwice (p .compare)
 abbrev pub ComparesAnyShape : Programs → Type 0
 ComparesAnyShape p = IgnoresShape (p .compare)
 
+-- those of WrongCounters
+
+abbrev pub CountsFirstOnly : Programs → Type 0
+CountsFirstOnly p = CountsFirst (p .count)
+
+abbrev pub CountsWithRefused : Programs → Type 0
+CountsWithRefused p = CountsRefused (p .count)
+
+abbrev pub CountsAlongSpine : Programs → Type 0
+CountsAlongSpine p = CountsBySpine (p .count)
+
+abbrev pub CountsWithCut : Programs → Type 0
+CountsWithCut p = CountsCut (p .count)
+
 -- each is real: there is such a program in which every other call keeps its promise
 
 pub data Call : Type 0 where
-  checking judging translating loading running printing explaining summarizing rechecking fixing drafting comparing : Call
+  checking judging translating loading running printing explaining summarizing rechecking fixing drafting comparing totalling : Call
 
 -- the calls of document 01, and those of 02
 
@@ -234,7 +249,7 @@ abbrev pub FirstKept : Programs → Type 0
 FirstKept p = KeepsRead p × KeepsCheck p × KeepsJudge p × KeepsTranslate p × KeepsLoad p × KeepsRun p
 
 abbrev pub LaterKept : Programs → Type 0
-LaterKept p = KeepsPrint p × KeepsExplain p × KeepsSummarize p × KeepsRecheck p × KeepsFix p × KeepsDraft p × KeepsCompare p
+LaterKept p = KeepsPrint p × KeepsExplain p × KeepsSummarize p × KeepsRecheck p × KeepsFix p × KeepsDraft p × KeepsCompare p × KeepsCount p
 
 abbrev pub OthersKept : Call → Programs → Type 0
 OthersKept checking p = (KeepsRead p × KeepsJudge p × KeepsTranslate p × KeepsLoad p × KeepsRun p) × LaterKept p
@@ -242,13 +257,14 @@ OthersKept judging p = (KeepsRead p × KeepsCheck p × KeepsTranslate p × Keeps
 OthersKept translating p = (KeepsRead p × KeepsCheck p × KeepsJudge p × KeepsLoad p × KeepsRun p) × LaterKept p
 OthersKept loading p = (KeepsRead p × KeepsCheck p × KeepsJudge p × KeepsTranslate p × KeepsRun p) × LaterKept p
 OthersKept running p = (KeepsRead p × KeepsCheck p × KeepsJudge p × KeepsTranslate p × KeepsLoad p) × LaterKept p
-OthersKept printing p = FirstKept p × (KeepsExplain p × KeepsSummarize p × KeepsRecheck p × KeepsFix p × KeepsDraft p × KeepsCompare p)
-OthersKept explaining p = FirstKept p × (KeepsPrint p × KeepsSummarize p × KeepsRecheck p × KeepsFix p × KeepsDraft p × KeepsCompare p)
-OthersKept summarizing p = FirstKept p × (KeepsPrint p × KeepsExplain p × KeepsRecheck p × KeepsFix p × KeepsDraft p × KeepsCompare p)
-OthersKept rechecking p = FirstKept p × (KeepsPrint p × KeepsExplain p × KeepsSummarize p × KeepsFix p × KeepsDraft p × KeepsCompare p)
-OthersKept fixing p = FirstKept p × (KeepsPrint p × KeepsExplain p × KeepsSummarize p × KeepsRecheck p × KeepsDraft p × KeepsCompare p)
-OthersKept drafting p = FirstKept p × (KeepsPrint p × KeepsExplain p × KeepsSummarize p × KeepsRecheck p × KeepsFix p × KeepsCompare p)
-OthersKept comparing p = FirstKept p × (KeepsPrint p × KeepsExplain p × KeepsSummarize p × KeepsRecheck p × KeepsFix p × KeepsDraft p)
+OthersKept printing p = FirstKept p × (KeepsExplain p × KeepsSummarize p × KeepsRecheck p × KeepsFix p × KeepsDraft p × KeepsCompare p × KeepsCount p)
+OthersKept explaining p = FirstKept p × (KeepsPrint p × KeepsSummarize p × KeepsRecheck p × KeepsFix p × KeepsDraft p × KeepsCompare p × KeepsCount p)
+OthersKept summarizing p = FirstKept p × (KeepsPrint p × KeepsExplain p × KeepsRecheck p × KeepsFix p × KeepsDraft p × KeepsCompare p × KeepsCount p)
+OthersKept rechecking p = FirstKept p × (KeepsPrint p × KeepsExplain p × KeepsSummarize p × KeepsFix p × KeepsDraft p × KeepsCompare p × KeepsCount p)
+OthersKept fixing p = FirstKept p × (KeepsPrint p × KeepsExplain p × KeepsSummarize p × KeepsRecheck p × KeepsDraft p × KeepsCompare p × KeepsCount p)
+OthersKept drafting p = FirstKept p × (KeepsPrint p × KeepsExplain p × KeepsSummarize p × KeepsRecheck p × KeepsFix p × KeepsCompare p × KeepsCount p)
+OthersKept comparing p = FirstKept p × (KeepsPrint p × KeepsExplain p × KeepsSummarize p × KeepsRecheck p × KeepsFix p × KeepsDraft p × KeepsCount p)
+OthersKept totalling p = FirstKept p × (KeepsPrint p × KeepsExplain p × KeepsSummarize p × KeepsRecheck p × KeepsFix p × KeepsDraft p × KeepsCompare p)
 
 abbrev pub ThereIs : (Programs → Type 0) → Call → Type 0
 ThereIs Wrong c = (p : Programs) × Wrong p × OthersKept c p
@@ -298,6 +314,10 @@ pub record WrongProgramsExist : Type 0 where
   pub matching-from-front : ThereIs ComparesFromFront comparing
   pub using-twice : ThereIs ComparesTwice comparing
   pub ignoring-shape : ThereIs ComparesAnyShape comparing
+  pub counting-first : ThereIs CountsFirstOnly totalling
+  pub counting-refused : ThereIs CountsWithRefused totalling
+  pub counting-by-spine : ThereIs CountsAlongSpine totalling
+  pub counting-cut : ThereIs CountsWithCut totalling
 
 -- what excludes each: a demand, beside the calls that it is tried with; or a promise, that of `load` by 18, or that of `check` by a place
 pub record DemandsExclude (p : Programs) : Type 0 where
@@ -345,6 +365,10 @@ pub record DemandsExclude (p : Programs) : Type 0 where
   pub matching-from-front : DemandTwo p → ¬ ComparesFromFront p
   pub using-twice : DemandTwo p → ¬ ComparesTwice p
   pub ignoring-shape : DemandTwo p → ¬ ComparesAnyShape p
+  pub counting-first : DemandTwo p → ¬ CountsFirstOnly p
+  pub counting-refused : DemandTwo p → ¬ CountsWithRefused p
+  pub counting-by-spine : DemandTwo p → ¬ CountsAlongSpine p
+  pub counting-cut : DemandTwo p → ¬ CountsWithCut p
 
 abbrev pub WrongProgramsFail : Type 0
 WrongProgramsFail = (p : Programs) → DemandsExclude p
@@ -395,6 +419,10 @@ pub record Excluded (p : Programs) : Type 0 where
   pub matching-from-front : ¬ ComparesFromFront p
   pub using-twice : ¬ ComparesTwice p
   pub ignoring-shape : ¬ ComparesAnyShape p
+  pub counting-first : ¬ CountsFirstOnly p
+  pub counting-refused : ¬ CountsWithRefused p
+  pub counting-by-spine : ¬ CountsAlongSpine p
+  pub counting-cut : ¬ CountsWithCut p
 
 abbrev pub NoWrongProgram : Type 0
 NoWrongProgram = (p : Programs) → Kept p → Excluded p

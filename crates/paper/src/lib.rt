@@ -81,6 +81,13 @@ pub enum Agreement {
     Refused(u8, Place),
 }
 
+// Entries end to end against a restriction: how many parts the text has; how many entries are accepted, violated and refused; and how many bytes
+// of a last one that is cut.
+pub enum Counting {
+    Counted(usize, u64, u64, u64, usize),
+    Refused(u8, Place),
+}
+
 // What broke for an entry: a part of the text, by its number from 1, its root's place, and its stretch from one byte up to another; the key of
 // a refused record, by the record's place in the entry, and the stretch of its name in the list; or nothing, with the entry's own judgement.
 pub enum Explanation {

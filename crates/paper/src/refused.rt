@@ -48,3 +48,5 @@ pub const OCTAL: u8 = 22;
 pub const BITS_LOST: u8 = 23;
 
 pub const CONTRACT: u8 = 24;
+
+pub const ENTRIES_MANY: u8 = 25;

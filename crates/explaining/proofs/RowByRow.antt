@@ -14,7 +14,8 @@ use Rattle.keys.specs.declared.find.Found.the-variants.{At, Nothing}
 use Rattle.keys.specs.Says.{keysIn}
 use Rattle.operands.specs.Conforming.{entryIn}
 use Rattle.parts.specs.Rows.{rootAt, partAt, each}
-use Rattle.explaining.specs.FirstFalse.{treeHolds, firstIn, Is, Finds}
+use Rattle.judging.specs.Holding.{treeHolds}
+use Rattle.explaining.specs.FirstFalse.{firstIn, Is, Finds}
 
 module _ (text list entry nodes rows : List ℕ) (n : ℕ) where
   -- the first from row k on

@@ -1,22 +1,15 @@
 -- The first of the parts in some rows that is false on an entry.
 use Prim.Native.Nat.{ℕ, _<_}
 use mathlib.Core.Path.{_≡_}
-use mathlib.Core.Bool.{Bool}
 use mathlib.Core.Option.{Option, none, some}
 use mathlib.Core.List.{List}
-use Rattle.paper.specs.Meaning.{valueOf, isTrue}
 use Rattle.paper.specs.Parts.{Part}
 use Rattle.paper.specs.Explained.{holdsOn, firstFalse}
 use Rattle.keys.specs.declared.find.Found.{Found}
 use Rattle.keys.specs.declared.find.Found.the-variants.{At, Nothing}
 use Rattle.keys.specs.Says.{keysIn}
 use Rattle.operands.specs.Conforming.{entryIn}
-use Rattle.trees.specs.Standing.{treeAt}
 use Rattle.parts.specs.Rows.{partAt, partsOn}
-
--- the tree at a node, over a text, is true on an entry
-abbrev pub treeHolds : List ℕ → List ℕ → List ℕ → List ℕ → ℕ → Bool
-treeHolds text list entry nodes i = isTrue (valueOf (keysIn list) (entryIn list entry) (treeAt text nodes i))
 
 -- of the first n rows
 abbrev pub firstIn : List ℕ → List ℕ → List ℕ → List ℕ → List ℕ → ℕ → Option Part

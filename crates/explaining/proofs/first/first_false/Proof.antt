@@ -9,7 +9,8 @@ use borrow.Author.Needs.{needs}
 use borrow.Author.Tests.{not-true, not-false}
 use Rattle.parts.specs.Rows.{rootAt}
 use Rattle.reading.specs.Parted.{Judgeable, Parted}
-use Rattle.explaining.specs.FirstFalse.{treeHolds, firstIn}
+use Rattle.judging.specs.Holding.{treeHolds}
+use Rattle.explaining.specs.FirstFalse.{firstIn}
 use Rattle.explaining.proofs.RowByRow.{firstFrom, from-start, false-here, true-here, no-more}
 use Rattle.explaining.proofs.first.first_false.Statement.{statement}
 use Rattle.explaining.proofs.first.first_false.Tie as tie
@@ -75,7 +76,7 @@ answer : (c : Asked) (text : List ℕ) → Parted text (list c) (nodes c) (rows 
 answer c text parted =
     let root = c .before .root-at .ensures in
     let ready = subst (Judgeable text (list c) (nodes c)) (sym root) (parted .each (k c) (more c)) in
-    subst (λ (i : ℕ). c .holds .result ≡ treeHolds text (list c) (entry c) (nodes c) i) root (c .holds .ensures text ready)
+    subst (λ (i : ℕ). c .holds .result ≡ treeHolds text (list c) (entry c) (nodes c) i) root (c .holds .ensures text (ready .checked) (ready .marked))
 
 is-false : tie.Need-returns Inv-loop μ-loop
 is-false c text parted =

@@ -12,7 +12,6 @@ ghost use Rattle.comparing.specs.Scratch.{Stand};
 use crate::picking::first_free;
 use crate::picking::is_all;
 use crate::picking::pick;
-use crate::scratch::MOST_PARTS;
 use crate::scratch::start_at;
 
 // Of the first `total` instructions of blocks, and n parts, whose codes stand in a scratch. All parts but one are taken off the end, each when it
@@ -23,7 +22,7 @@ pub fn agrees(blocks: &[u8], total: usize, code: &[u8], starts: &[u32], n: usize
     ensures { λ r. ⌜ ((cs : (ℕ → List Instruction)) → Stand (now (code .entry)) (now (starts .entry)) n cs
         → r ≡ fits (n - 1) (each cs 0 n) (recordsFrom (now (blocks .entry)) 0 total)) ⌝ }
 {
-    let mut used = [0u8; MOST_PARTS];
+    let mut used = [0u8; parts::MOST_PARTS];
     let mut left = total;
     let mut more = n - 1;
     while 0 < more {

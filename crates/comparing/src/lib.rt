@@ -12,5 +12,4 @@ mod records;
 mod scratch;
 
 pub use agreeing::agrees;
-pub use scratch::MOST_PARTS;
 pub use scratch::write_parts;

@@ -7,9 +7,6 @@ ghost use Rattle.reading.specs.Parted.{Parted};
 ghost use Rattle.comparing.specs.Scratch.{startAt, Stand, codeAt, Roomy};
 use parts::rows as part_rows;
 
-// The most parts that a text has.
-pub const MOST_PARTS: usize = 512;
-
 fn wide(x: u32) -> usize
     ensures { λ r. ⌜ r ≡ x ⌝ }
 {

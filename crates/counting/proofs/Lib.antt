@@ -1,0 +1,6 @@
+pub mod Growing
+mod EntryByEntry
+mod Missed
+mod Decided
+mod OneEntry
+pub mod Stretches

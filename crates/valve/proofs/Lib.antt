@@ -8,6 +8,7 @@ mod Prints
 mod Runs
 mod Shown
 mod Summaries
+mod Tallies
 mod Texts
 mod Translates
 mod Verdicts

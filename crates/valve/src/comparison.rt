@@ -24,7 +24,7 @@ const FIRST_JOINED: usize = 2 * Block::INSTRUCTION;
 const CODE: usize = NODE_CODE * reading::MOST_NODES + FIRST_JOINED;
 
 // Where each part begins, and the end.
-const STARTS: usize = comparing::MOST_PARTS + 1;
+const STARTS: usize = parts::MOST_PARTS + 1;
 
 fn agreement(agrees: bool) -> Agreement
     ensures { λ r. ⌜ agreementSays r ≡ ok agrees ⌝ }

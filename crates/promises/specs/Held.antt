@@ -11,9 +11,10 @@ use Rattle.paper.specs.declared.Running.{Running}
 use Rattle.paper.specs.declared.Printing.{Printing}
 use Rattle.paper.specs.declared.Fixing.{Fixing}
 use Rattle.paper.specs.declared.Drafting.{Drafting}
+use Rattle.paper.specs.declared.Counting.{Counting}
 use Rattle.paper.specs.Answers.{runningSays}
 use Rattle.paper.specs.TranslationCorrect.{judgedInSteps}
-use Rattle.paper.specs.Promised.{judgementOfRun, JudgePromised, TranslateResult, TranslatePromised, LoadPromised, RunPromised, PrintResult, FixResult, DraftResult}
+use Rattle.paper.specs.Promised.{judgementOfRun, JudgePromised, TranslateResult, TranslatePromised, LoadPromised, RunPromised, PrintResult, FixResult, DraftResult, CountResult}
 use Rattle.paper.specs.Demands.{TranslateAnswered, blocksWritten, Carried}
 use Rattle.promises.specs.declared.calls.Carrying.{Carrying}
 use Rattle.promises.specs.declared.calls.Carrying.the-variants as W
@@ -33,6 +34,10 @@ fixedTo r exit = record { answer = r; buffer = exit }
 -- and of `pact`
 abbrev pub draftedTo : Drafting → List ℕ → DraftResult
 draftedTo r exit = record { answer = r; buffer = exit }
+
+-- an answer of `count`, and what the numbers of the parts are at its exit
+abbrev pub countedTo : Counting → List ℕ → CountResult
+countedTo r exit = record { answer = r; numbers = exit }
 
 -- each answer keeps its call's promise; the blocks load with the number returned, and say of the entry what the text says, in the steps that
 -- are counted over its tree

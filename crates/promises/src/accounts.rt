@@ -6,10 +6,11 @@ ghost use Rattle.paper.specs.WrongRunners.{WrongRunnersFail};
 ghost use Rattle.paper.specs.WrongCheckers.{WrongCheckersFail};
 ghost use Rattle.paper.specs.WrongDrafters.{WrongDraftersFail};
 ghost use Rattle.paper.specs.WrongComparers.{WrongComparersFail};
+ghost use Rattle.paper.specs.WrongCounters.{WrongCountersFail};
 ghost use Rattle.paper.specs.WrongPrograms.{WrongProgramsExist, WrongProgramsFail, NoWrongProgram, PaddingSeen};
 
 // For all inputs one result keeps the promise of a call, and no second; of `translate`, `print`, `fix_octal` and `pact`, one answer with one
-// buffer at exit.
+// buffer at exit, and of `count` with the numbers of the parts at exit.
 pub fn no_second_result()
     ensures { λ _. ⌜ NoSecondResult ⌝ }
 {}
@@ -33,7 +34,8 @@ pub fn wrong_programs_exist()
 // the letters of the prefix, a type check that reduces numbers still, looks at right operands alone, gives 23 at the operator or takes no number
 // below zero, a translation of contracts with NOT over the last assertion only, with joins from the right, with exclusive or as "||" or with clauses
 // joined by "&&", a comparison that always agrees, always differs, matches the parts from the front of the code, lets a part be used twice or takes
-// any shape of the joins: each fails a demand, refusal 18, or the place of refusal 23.
+// any shape of the joins, a count of the first false part alone, of refused entries in the parts, of the cut entry, or by the tree's left spine: each
+// fails a demand, refusal 18, or the place of refusal 23.
 pub fn wrong_programs_fail()
     ensures { λ _. ⌜ WrongProgramsFail ⌝ }
 {}
@@ -82,4 +84,11 @@ pub fn wrong_drafters_fail()
 // twice, one to which it is the same how the parts are joined: each fails what is asked of it.
 pub fn wrong_comparers_fail()
     ensures { λ _. ⌜ WrongComparersFail ⌝ }
+{}
+
+// A count of only the first false part of an entry, one that has refused entries in its parts, one that counts the cut entry, one that takes its parts
+// from the tree's left spine: each fails what is asked of it. A program that writes lines of parts before it knows whether there are too many entries
+// fails what is asked of its output, and there is one that is right of every file that is not too long.
+pub fn wrong_counters_fail()
+    ensures { λ _. ⌜ WrongCountersFail ⌝ }
 {}

@@ -1,10 +1,11 @@
 // The real calls, held to the demands. Each function calls `valve`, and its contract states for its own inputs what is demanded of what was
 // answered, in the words of `paper` (specs/Demands). It holds by the contracts of `valve` alone, so one that is weakened fails here.
-ghost use Rattle.paper.specs.Demands.{ReadAnswered, ReadRight, CheckAnswered, CheckedRight, JudgeAnswered, JudgedRight, TranslateAnswered, TranslatedRight, LoadAnswered, RunAnswered, RanRight, PrintAnswered, PrintedRight, FixAnswered, FixesRight, DraftAnswered, DraftsRight, CompareAnswered, CompareRight, ExplainAnswered, ExplainRight, SummarizeAnswered, SummarizeRight, RecheckAnswered, RecheckRight};
-ghost use Rattle.promises.specs.Held.{gave, lent, fixedTo, draftedTo, Carries};
+ghost use Rattle.paper.specs.Demands.{ReadAnswered, ReadRight, CheckAnswered, CheckedRight, JudgeAnswered, JudgedRight, TranslateAnswered, TranslatedRight, LoadAnswered, RunAnswered, RanRight, PrintAnswered, PrintedRight, FixAnswered, FixesRight, DraftAnswered, DraftsRight, CompareAnswered, CompareRight, CountAnswered, CountRight, ExplainAnswered, ExplainRight, SummarizeAnswered, SummarizeRight, RecheckAnswered, RecheckRight};
+ghost use Rattle.promises.specs.Held.{gave, lent, fixedTo, draftedTo, countedTo, Carries};
 use blocks::Block;
 use paper::Agreement;
 use paper::Checking;
+use paper::Counting;
 use paper::Drafting;
 use paper::Explanation;
 use paper::Fixing;
@@ -17,6 +18,9 @@ use paper::Rechecking;
 use paper::Running;
 use paper::Summarizing;
 use paper::Translation;
+
+// The most parts that a text has: as many numbers are lent to `count`.
+const MOST_PARTS: usize = 512;
 
 // Demands 1 and 2 of `read`.
 pub fn read(text: &[u8]) -> Reading
@@ -95,6 +99,14 @@ pub fn compare(text: &[u8], list: &[u8], blocks: &[u8]) -> Agreement
     ensures { λ r. ⌜ CompareRight (now (text .entry)) (now (list .entry)) (now (blocks .entry)) r ⌝ }
 {
     valve::compare(text, list, blocks)
+}
+
+// Demands 1 and 2 of `count`.
+pub fn count(text: &[u8], list: &[u8], entries: &[u8], parts: &mut [u64; MOST_PARTS]) -> Counting
+    ensures { λ r. ⌜ CountAnswered (now (text .entry)) (now (list .entry)) (now (entries .entry)) (now (parts .entry)) (countedTo r (now (parts .exit))) ⌝ }
+    ensures { λ r. ⌜ CountRight (now (text .entry)) (now (list .entry)) (now (entries .entry)) (now (parts .entry)) (countedTo r (now (parts .exit))) ⌝ }
+{
+    valve::count(text, list, entries, parts)
 }
 
 // Demands 1 and 2 of the numbers of an explanation. What is demanded of its pieces stands in `pieces`.

@@ -1,8 +1,8 @@
 // The demands, each as one statement: programs that keep the promises of the public calls meet it.
 ghost use Rattle.paper.specs.Demands.{DemandOneMet, DemandTwoMet, DemandThreeMet};
 
-// Every input gets an answer. A refusal has a number from 1 to 24 and a place in an input that was lent, or at its length; and it changes
-// no byte of the buffer.
+// Every input gets an answer. A refusal has a number from 1 to 25 and a place in an input that was lent, or at its length; and it changes
+// no byte of the buffer and no number that was lent.
 pub fn every_input_is_answered()
     ensures { λ _. ⌜ DemandOneMet ⌝ }
 {}
@@ -14,7 +14,9 @@ pub fn every_input_is_answered()
 // conform and are the same in all that the text names. A contract becomes a text exactly when it has a meaning with its names and user numbers and the
 // text may be lent, and the text passes and says of every entry what the contract says of its numbers. Blocks of another translator are compared
 // exactly when the text passes with the list and they load with it; they agree exactly when they are our translation of the text's parts, each used
-// once, in some order, joined from the left; and then they say of every entry what the text says.
+// once, in some order, joined from the left; and then they say of every entry what the text says. Entries laid end to end are counted exactly when the text passes with the
+// list and no more than 1,000,000 are whole; the three totals, the bytes of a cut entry and the number of each part are then those of the definition
+// over the list of entries.
 pub fn judged_as_the_text_means()
     ensures { λ _. ⌜ DemandTwoMet ⌝ }
 {}

@@ -6,6 +6,7 @@ mod bits;
 mod calls;
 mod comparing;
 mod contracts;
+mod counting;
 mod damage;
 mod demands;
 mod dependence;

@@ -23,6 +23,7 @@ ghost use Rattle.paper.specs.PrintExamples.{PrintExamples};
 ghost use Rattle.paper.specs.FixExamples.{FixExamples};
 ghost use Rattle.paper.specs.DraftExamples.{DraftExamples};
 ghost use Rattle.paper.specs.CompareExamples.{CompareExamples};
+ghost use Rattle.paper.specs.CountExamples.{CountExamples};
 ghost use Rattle.paper.specs.PartExamples.{PartExamples};
 ghost use Rattle.paper.specs.SummaryExamples.{SummaryExamples};
 ghost use Rattle.paper.specs.AnswerExamples.{AnswerExamples};
@@ -164,6 +165,12 @@ pub fn examples_of_contracts()
 // skips or none, and what is refused before blocks are compared.
 pub fn examples_of_comparing()
     ensures { λ _. ⌜ CompareExamples ⌝ }
+{}
+
+// Files of entries with their counts and the lines written: whole, cut, empty or without keys, parts that are false together, entries that are
+// refused, both sides of 1,000,000 entries, and what is refused before anything is counted.
+pub fn examples_of_counting()
+    ensures { λ _. ⌜ CountExamples ⌝ }
 {}
 
 // Texts with their parts, both sides of each limit, and what is shown of an entry: a part, a key, or nothing.

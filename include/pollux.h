@@ -9,20 +9,21 @@
  *   For texts on file        pollux_fix_octal: the same text with its octal numerals in hex, which the other calls refuse
  *   For a partner's terms    pollux_pact: a Pact contract as a text, with a name for each of its inputs
  *   For a contractor's work  pollux_compare: are their blocks our translation of a text, its parts in some order?
+ *   Before driving home      pollux_count: how many entries of a table each part of a text turns away
  *
  * Inputs
  *   Each input is a pointer and a length in bytes, in that order. It may have any length and any content: whatever does not
  *   conform is refused with a number and a place. No alignment is asked for. Only the table of pollux_pact is a pointer to
- *   uint64_t, aligned as these are, and a count of them.
+ *   uint64_t, aligned as these are, and a count of them, and the parts of pollux_count are POLLUX_MAX_PARTS of them and no count.
  *   A pointer is never NULL. For an input of length 0 pass any other pointer; no byte there is touched.
- *   The buffer of pollux_translate, pollux_print, pollux_fix_octal or pollux_pact must not overlap another input. Inputs that are
- *   only read may overlap.
+ *   The buffer of pollux_translate, pollux_print, pollux_fix_octal or pollux_pact, and the parts of pollux_count, must not overlap another
+ *   input. Inputs that are only read may overlap.
  *
  * What a call touches
  *   A call reads no byte outside the inputs that it is given and writes none but those of the buffer that pollux_translate,
- *   pollux_print, pollux_fix_octal or pollux_pact is given. It keeps nothing: there are no globals, no heap and no system calls, and the same
- *   inputs always have the same answer. Threads may call at the same time, as long as nobody writes what another one's call has
- *   been given.
+ *   pollux_print, pollux_fix_octal or pollux_pact is given, or of the parts of pollux_count. It keeps nothing: there are no globals, no heap
+ *   and no system calls, and the same inputs always have the same answer. Threads may call at the same time, as long as nobody writes
+ *   what another one's call has been given.
  *
  * What a call needs
  *   Stack: POLLUX_MAX_STACK bytes. This is measured and not proved: tests/c/run makes each call with the deepest texts that the
@@ -69,6 +70,7 @@ extern "C" {
 #define POLLUX_PRIORITY_SIZE 4 /* an entry is a priority and a record for each key */
 #define POLLUX_RECORD_SIZE 36
 #define POLLUX_ENTRY_SIZE(keys) (POLLUX_PRIORITY_SIZE + POLLUX_RECORD_SIZE * (size_t)(keys))
+#define POLLUX_MAX_ENTRIES 1000000 /* that are counted at one time */
 
 #define POLLUX_MAX_INPUTS 16       /* names of a contract's inputs */
 #define POLLUX_MAX_USER_NUMBERS 16 /* numbers of its table */
@@ -90,7 +92,7 @@ enum pollux_says {
     POLLUX_REFUSED = 0,
     POLLUX_ACCEPTED = 1, /* the restriction is true of the entry */
     POLLUX_VIOLATED = 2, /* it is false of the entry */
-    POLLUX_DONE = 3,     /* read, passed, translated, loaded, printed, fixed or drafted */
+    POLLUX_DONE = 3,     /* read, passed, translated, loaded, printed, fixed, drafted or counted */
     POLLUX_AGREES = 4,   /* the blocks are the text's translation, its parts in some order */
     POLLUX_DIFFERS = 5   /* they load, and are not */
 };
@@ -136,13 +138,14 @@ enum pollux_refusal {
     POLLUX_OCTAL = 22,          /* a well-formed octal numeral; at its first byte */
     POLLUX_BITS_LOST = 23,      /* a number of the text that does not fit the W bits of the operand it is compared with, so none from -2^(W-1) to
                                    2^W - 1; at its numeral or address, or at the outermost of its minus signs */
-    POLLUX_CONTRACT = 24        /* over 16 user numbers; at 16 in the table. IN, a reserved bit, an unused operation number, a conjunction
+    POLLUX_CONTRACT = 24,       /* over 16 user numbers; at 16 in the table. IN, a reserved bit, an unused operation number, a conjunction
                                    with no assertion directly before it; at the opcode. An index without a name or a user number; at the
                                    index byte. A contract that ends after an opcode; at its length */
+    POLLUX_ENTRIES_MANY = 25    /* over 1,000,000 whole entries to count; at the 1,000,001st */
 };
 
 /*
- * An answer of any call but pollux_explain, pollux_summarize and pollux_recheck, which have more to tell.
+ * An answer of any call but pollux_explain, pollux_summarize, pollux_recheck and pollux_count, which have more to tell.
  *
  *   refused               says POLLUX_REFUSED, number and input as above, value the byte offset in that input, in a table the index
  *                         of a number
@@ -314,6 +317,38 @@ struct pollux_rechecked pollux_recheck(const uint8_t *text, size_t text_length,
                                        const uint8_t *old_entry, size_t old_length,
                                        struct pollux_answer earlier,
                                        const uint8_t *new_entry, size_t new_length);
+
+/*
+ * What a count answers. The last four are 0 on a refusal.
+ *
+ * accepted, violated and refused add up to the number of whole entries; an entry is refused where pollux_judge refuses it with 20.
+ */
+struct pollux_counts {
+    uint64_t says;     /* enum pollux_says: refused or done */
+    uint64_t number;   /* enum pollux_refusal, or 0 */
+    uint64_t input;    /* enum pollux_input */
+    uint64_t value;    /* the offset of a refusal, or how many parts the text has */
+    uint64_t accepted; /* entries */
+    uint64_t violated;
+    uint64_t refused;
+    uint64_t cut; /* bytes of a last entry that is not whole */
+};
+
+/*
+ * Judges entries that lie end to end, each POLLUX_ENTRY_SIZE(keys) bytes for a list of so many keys: 184 for five, and 4, the priority
+ * alone, for none. There may be none, and the last may be cut: then it is not judged, and its bytes are counted by themselves.
+ *
+ * Done: value is how many parts the text has (what stands between two ";" signs outside parentheses), at least 1, and parts[k - 1] is the
+ * number of entries for which part k is false, of those that are accepted or violated; whatever other parts are false for them too. Later
+ * numbers of parts stay as they were; on a refusal every number does. What stands in parts before the call does not matter.
+ *
+ * It refuses the text and the list as pollux_check does, and then more than POLLUX_MAX_ENTRIES whole entries with 25. A longer table is
+ * counted in stretches of whole entries, and the numbers are added.
+ */
+struct pollux_counts pollux_count(const uint8_t *text, size_t text_length,
+                                  const uint8_t *list, size_t list_length,
+                                  const uint8_t *entries, size_t entries_length,
+                                  uint64_t parts[POLLUX_MAX_PARTS]);
 
 #ifdef __cplusplus
 }

@@ -19,6 +19,7 @@ void raw_pollux_print(answer *, bytes, size_t, uint8_t *, size_t);
 void raw_pollux_fix_octal(answer *, bytes, size_t, uint8_t *, size_t);
 void raw_pollux_pact(answer *, bytes, size_t, const uint64_t *, size_t, bytes, size_t, uint8_t *, size_t);
 void raw_pollux_compare(answer *, bytes, size_t, bytes, size_t, bytes, size_t);
+void raw_pollux_count(struct pollux_counts *, bytes, size_t, bytes, size_t, bytes, size_t, uint64_t *);
 void raw_pollux_explain(struct pollux_reason *, bytes, size_t, bytes, size_t, bytes, size_t);
 void raw_pollux_summarize(struct pollux_summary *, bytes, size_t, bytes, size_t);
 void raw_pollux_recheck(struct pollux_rechecked *, bytes, size_t, bytes, size_t, bytes, size_t, bytes, uint64_t, uint64_t, uint64_t,
@@ -92,6 +93,14 @@ answer pollux_compare(bytes text, size_t text_length, bytes list, size_t list_le
 {
     answer given;
     raw_pollux_compare(&given, text, text_length, list, list_length, blocks, blocks_length);
+    return given;
+}
+
+struct pollux_counts pollux_count(bytes text, size_t text_length, bytes list, size_t list_length, bytes entries, size_t entries_length,
+                                  uint64_t *parts)
+{
+    struct pollux_counts given;
+    raw_pollux_count(&given, text, text_length, list, list_length, entries, entries_length, parts);
     return given;
 }
 

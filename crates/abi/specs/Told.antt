@@ -1,5 +1,5 @@
--- An answer of the paper as four numbers: what it says (0 refused, 1 accepted, 2 violated, 3 passed, read, written, loaded, printed, fixed or
--- drafted, 4 agrees, 5 differs), the refusal's number or 0, its input (0 none, 1 text, 2 list, 3 entry, 4 blocks, 5 buffer, 6 contract,
+-- An answer of the paper as four numbers: what it says (0 refused, 1 accepted, 2 violated, 3 passed, read, written, loaded, printed, fixed,
+-- drafted or counted, 4 agrees, 5 differs), the refusal's number or 0, its input (0 none, 1 text, 2 list, 3 entry, 4 blocks, 5 buffer, 6 contract,
 -- 7 table), and the offset, or the count, or the steps, or 0.
 --
 -- A reason as eight: the four of the judgement, and the number of the part that is shown, or 0; the place of its root in the text, or of the
@@ -7,6 +7,9 @@
 --
 -- A summary as seven: four as of a check, and the set of the keys, 1 if it has the mark or 0, and the count of the keys; a refused one has none.
 -- A recheck as five: the four of the judgement, and 1 if that was reused or 0.
+--
+-- A count as eight: four of which the count is that of the parts, and how many entries are accepted, violated and refused, and the bytes of a cut
+-- one; a refused one has none. The number of each part stands in the numbers that are lent.
 use Prim.Native.Nat.{ℕ, _+_, _-_, _≤_}
 use mathlib.Core.Path.{_≡_}
 use mathlib.Core.Logic.{_≢_}
@@ -24,7 +27,8 @@ use Rattle.paper.specs.Rechecking as Rechecking
 use Rattle.paper.specs.Fixing.{fixingSays}
 use Rattle.paper.specs.Drafting.{draftingSays}
 use Rattle.paper.specs.Comparing.{agreementSays}
-use Rattle.paper.specs.Promised.{ReadPromised, CheckPromised, JudgePromised, TranslateResult, TranslatePromised, LoadPromised, RunPromised, PrintPromised, FixPromised, DraftPromised, ComparePromised, ExplainPromised, SummarizePromised, RecheckPromised, Sole}
+use Rattle.paper.specs.Counting.{Totals, countingSays}
+use Rattle.paper.specs.Promised.{ReadPromised, CheckPromised, JudgePromised, TranslateResult, TranslatePromised, LoadPromised, RunPromised, PrintPromised, FixPromised, DraftPromised, ComparePromised, CountPromised, ExplainPromised, SummarizePromised, RecheckPromised, Sole}
 use Rattle.paper.specs.declared.Judgement.{Judgement}
 use Rattle.paper.specs.declared.Judgement.the-variants as J
 use Rattle.paper.specs.declared.Explanation.{Explanation}
@@ -32,6 +36,7 @@ use Rattle.abi.specs.declared.answer.PolluxAnswer.{PolluxAnswer}
 use Rattle.abi.specs.declared.reason.PolluxReason.{PolluxReason}
 use Rattle.abi.specs.declared.summary.PolluxSummary.{PolluxSummary}
 use Rattle.abi.specs.declared.recheck.PolluxRechecked.{PolluxRechecked}
+use Rattle.abi.specs.declared.counts.PolluxCounts.{PolluxCounts}
 use Rattle.abi.specs.Heard.{noAnswer, heardAs}
 
 abbrev pub inputNo : Input → ℕ
@@ -126,6 +131,25 @@ abbrev pub rechecked : Rechecked → PolluxRechecked
 rechecked (reused a) = saying (judged a) 1
 rechecked (Rechecking.judged a) = saying (judged a) 0
 
+-- how many entries, beside the answer with the count of the parts
+
+abbrev pub totals : PolluxAnswer → ℕ → ℕ → ℕ → ℕ → PolluxCounts
+totals a accepted violated refusals cut =
+    record {
+      says = a .says;
+      number = a .number;
+      input = a .input;
+      value = a .value;
+      accepted = accepted;
+      violated = violated;
+      refused = refusals;
+      cut = cut;
+    }
+
+abbrev pub tallied : Answer Totals → PolluxCounts
+tallied (ok t) = totals (done (t .parts)) (t .accepted) (t .violated) (t .refused) (t .cut)
+tallied (refused n i at) = totals (turnedAway n i at) 0 0 0 0
+
 -- What C is told by a call: numbers that stand for a result that keeps the call's promise.
 pub record Tells {R N : Type 0} (Promised : R → Type 0) (numbers : R → N) (a : N) : Type 0 where
   pub result : R
@@ -168,6 +192,11 @@ DraftTold contract table list buffer exit =
 abbrev pub CompareTold : List ℕ → List ℕ → List ℕ → PolluxAnswer → Type 0
 CompareTold text list blocks = Tells (ComparePromised text list blocks) (λ r. compared (agreementSays r))
 
+-- with what the numbers for the parts are at exit
+abbrev pub CountTold : List ℕ → List ℕ → List ℕ → List ℕ → List ℕ → PolluxCounts → Type 0
+CountTold text list entries numbers exit =
+    Tells (λ r. CountPromised text list entries numbers (record { answer = r; numbers = exit })) (λ r. tallied (countingSays r))
+
 abbrev pub ExplainTold : List ℕ → List ℕ → List ℕ → PolluxReason → Type 0
 ExplainTold text list entry = Tells (ExplainPromised text list entry) (λ r. reasoned (explanationSays r))
 
@@ -178,7 +207,8 @@ SummarizeTold text list = Tells (SummarizePromised text list) (λ r. summarized 
 abbrev pub RecheckTold : List ℕ → List ℕ → List ℕ → PolluxAnswer → List ℕ → PolluxRechecked → Type 0
 RecheckTold text list old earlier new = Tells (RecheckPromised text list old (heardAs earlier) new) (λ r. rechecked (recheckingSays r))
 
--- so for all inputs C is told one thing, and no second; of `translate`, `print`, `fix_octal` and `pact`, one answer with one buffer at exit
+-- so for all inputs C is told one thing, and no second; of `translate`, `print`, `fix_octal` and `pact`, one answer with one buffer at exit, and of
+-- `count` one with one list of numbers
 pub record OneAnswerForC : Type 0 where
   pub read : (text : List ℕ) → Sole (ReadTold text)
   pub check : (text list : List ℕ) → Sole (CheckTold text list)
@@ -194,6 +224,8 @@ pub record OneAnswerForC : Type 0 where
   pub draft : (contract table list buffer exit other : List ℕ) (a b : PolluxAnswer) → DraftTold contract table list buffer exit a
       → DraftTold contract table list buffer other b → (a ≡ b) × (exit ≡ other)
   pub compare : (text list blocks : List ℕ) → Sole (CompareTold text list blocks)
+  pub count : (text list entries numbers exit other : List ℕ) (a b : PolluxCounts) → CountTold text list entries numbers exit a
+      → CountTold text list entries numbers other b → (a ≡ b) × (exit ≡ other)
   pub explain : (text list entry : List ℕ) → Sole (ExplainTold text list entry)
   pub summarize : (text list : List ℕ) → Sole (SummarizeTold text list)
   pub recheck : (text list old : List ℕ) (earlier : PolluxAnswer) (new : List ℕ) → Sole (RecheckTold text list old earlier new)
@@ -241,6 +273,11 @@ heardRecheck p =
     let judgement = heardJudged (record { says = p .says; number = p .number; input = p .input; value = p .value }) in
     cond (eqb (p .reused) 1) (reused judgement) (Rechecking.judged judgement)
 
+abbrev pub heardCounts : PolluxCounts → Answer Totals
+heardCounts p =
+    heard (λ a. record { parts = a .value; accepted = p .accepted; violated = p .violated; refused = p .refused; cut = p .cut })
+    (record { says = p .says; number = p .number; input = p .input; value = p .value })
+
 -- a refusal's number is a byte, in the code and so in what it tells
 abbrev pub Numbered : Judgement → Type 0
 Numbered J.Accepted = Unit {0}
@@ -257,6 +294,7 @@ pub record TellsAll : Type 0 where
       → heardReason (reasoned (explanationSays r)) ≡ explanationSays r
   pub summaries : (x : Answer Summary) → heardSummary (summarized x) ≡ x
   pub rechecks : (x : Rechecked) → heardRecheck (rechecked x) ≡ x
+  pub tallies : (x : Answer Totals) → heardCounts (tallied x) ≡ x
 
 -- an earlier judgement, handed in by its four numbers, is heard as it was told; and any other numbers as refused with 20 at entry 0
 pub record EarlierHeard : Type 0 where

@@ -1,17 +1,20 @@
 // The calls for C: include/pollux.h says the same in its words.
 //
-// Each takes every input as a pointer and a length, the length of a table counting its numbers, and answers four numbers by value, `explain` eight, `summarize` seven and `recheck` five,
-// which stand for a result that keeps the promise of the call of `valve` below it (specs/Told); `translate`, `print`, `fix_octal` and
-// `pact` also promise what each byte of the buffer holds afterwards.
+// Each takes every input as a pointer and a length, the length of a table counting its numbers, and answers four numbers by value, `explain` and
+// `count` eight, `summarize` seven and `recheck` five, which stand for a result that keeps the promise of the call of `valve` below it (specs/Told);
+// `translate`, `print`, `fix_octal` and `pact` also promise what each byte of the buffer holds afterwards, and `count`, whose numbers for the parts
+// are a pointer alone, what each of these is.
 mod answer;
+mod counts;
 mod heard;
 mod reason;
 mod recheck;
 mod summary;
 mod told;
 
-ghost use Rattle.abi.specs.Told.{ReadTold, CheckTold, JudgeTold, TranslateTold, LoadTold, RunTold, PrintTold, FixTold, DraftTold, CompareTold, ExplainTold, SummarizeTold, RecheckTold};
+ghost use Rattle.abi.specs.Told.{ReadTold, CheckTold, JudgeTold, TranslateTold, LoadTold, RunTold, PrintTold, FixTold, DraftTold, CompareTold, CountTold, ExplainTold, SummarizeTold, RecheckTold};
 use crate::answer::PolluxAnswer;
+use crate::counts::PolluxCounts;
 use crate::reason::PolluxReason;
 use crate::recheck::PolluxRechecked;
 use crate::summary::PolluxSummary;
@@ -99,6 +102,20 @@ pub extern "C" fn pollux_compare(text: &[u8], list: &[u8], blocks: &[u8]) -> Pol
     ensures { λ r. ⌜ CompareTold (now (text .entry)) (now (list .entry)) (now (blocks .entry)) r ⌝ }
 {
     answer::of_agreement(valve::compare(text, list, blocks))
+}
+
+// How many of the entries, which are laid end to end, are accepted, violated and refused, and the bytes of a last one that is cut. For each part of the
+// text the number of conforming entries on which it is false stands in `parts`.
+#[no_mangle]
+pub extern "C" fn pollux_count(
+    text: &[u8],
+    list: &[u8],
+    entries: &[u8],
+    parts: &mut [u64; parts::MOST_PARTS],
+) -> PolluxCounts
+    ensures { λ r. ⌜ CountTold (now (text .entry)) (now (list .entry)) (now (entries .entry)) (now (parts .entry)) (now (parts .exit)) r ⌝ }
+{
+    counts::of_counting(valve::count(text, list, entries, parts))
 }
 
 // What broke: the part that is false or the key whose record is bad, where it stands in the text or the list, and the judgement. A caller makes

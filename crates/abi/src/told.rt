@@ -6,7 +6,8 @@ pub fn one_answer_for_c()
     ensures { λ _. ⌜ OneAnswerForC ⌝ }
 {}
 
-// From the four numbers of a call its answer can be read back, from the eight of a reason the explanation, from the seven of a summary and the five of a recheck theirs; so no two are told by the same.
+// From the four numbers of a call its answer can be read back, from the eight of a reason the explanation, from the seven of a summary, the five
+// of a recheck and the eight of a count theirs; so no two are told by the same.
 pub fn four_numbers_tell_all()
     ensures { λ _. ⌜ TellsAll ⌝ }
 {}

@@ -37,6 +37,8 @@ const PACT: u8 = 12;
 
 const COMPARE: u8 = 13;
 
+const COUNT: u8 = 14;
+
 // The sum of some bytes, after what a call answered.
 pub(crate) fn say_sum(bytes: &[u8]) {
     lines::say(b" ");
@@ -64,6 +66,13 @@ fn summarize(text: &[u8], list: &[u8]) {
     }
 }
 
+// The entries by what the text says of each, and a number for each of its parts.
+fn count(text: &[u8], list: &[u8], entries: &[u8]) {
+    let mut numbers = [0u64; parts::MOST_PARTS];
+    let counting = valve::count(text, list, entries, &mut numbers);
+    lines::say_counting(counting, &numbers)
+}
+
 // A call that only reads.
 fn reading_call(call: u8, first: &[u8], second: &[u8], third: &[u8]) {
     match call {
@@ -76,6 +85,7 @@ fn reading_call(call: u8, first: &[u8], second: &[u8], third: &[u8]) {
         SUMMARIZE => summarize(first, second),
         RECHECK => changes::recheck(first, second, third),
         COMPARE => lines::say_agreement(valve::compare(first, second, third)),
+        COUNT => count(first, second, third),
         _ => lines::say(b"unknown"),
     }
 }

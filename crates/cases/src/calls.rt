@@ -3,6 +3,7 @@ use crate::inputs::put_input;
 use crate::names::CHECK;
 use crate::names::CODE;
 use crate::names::COMPARE;
+use crate::names::COUNT;
 use crate::names::EARLIER;
 use crate::names::ENTRY;
 use crate::names::EXPLAIN;
@@ -133,6 +134,13 @@ fn recheck(file: &[u8], at: usize, text: &[u8], list: &[u8], new: &[u8]) {
     lines::say_rechecking(valve::recheck(text, list, part(&all, 0, o), earlier, new))
 }
 
+// The entries that are given end to end, by what the text says of each.
+fn count(text: &[u8], list: &[u8], entries: &[u8]) {
+    let mut numbers = [0u64; parts::MOST_PARTS];
+    let counting = valve::count(text, list, entries, &mut numbers);
+    lines::say_counting(counting, &numbers)
+}
+
 // The calls that write into the room.
 fn write(call: usize, text: &[u8], list: &[u8], room: &mut [u8]) {
     match call {
@@ -152,6 +160,7 @@ fn answer(call: usize, text: &[u8], list: &[u8], entry: &[u8], room: &[u8]) {
         EXPLAIN => explain(text, list, entry),
         SUMMARIZE => summarize(text, list),
         COMPARE => lines::say_agreement(valve::compare(text, list, room)),
+        COUNT => count(text, list, entry),
         LOAD => lines::say_loading(valve::load(list, room)),
         _ => lines::say_running(valve::run(list, room, entry)),
     }

@@ -1,4 +1,4 @@
-// The commands, by the places of their names in a list: the first seven give what calls are lent, and the last thirteen print an answer.
+// The commands, by the places of their names in a list: the first seven give what calls are lent, and the last fourteen print an answer.
 ghost use Prim.Native.Nat.{_≤_};
 ghost use mathlib.Core.Path.{_≡_};
 ghost use lib.ListN.{length};
@@ -55,9 +55,11 @@ pub const RECHECK: usize = 22;
 
 pub const COMPARE: usize = 23;
 
-pub const LOAD: usize = 24;
+pub const COUNT: usize = 24;
 
-pub const RUN: usize = 25;
+pub const LOAD: usize = 25;
+
+pub const RUN: usize = 26;
 
 // Which of some words a word is, counted from 0; their count for none of them.
 fn place_in(words: &[u8], word: &[u8]) -> usize
@@ -82,7 +84,7 @@ pub(crate) fn command_at(file: &[u8], at: usize) -> usize
     ensures { λ r. ⌜ r ≡ commandAt (now (file .entry)) at ⌝ }
 {
     place_in(
-        b"text list entry old earlier table room title change show every code blocks translate print fix_octal pact read check judge explain summarize recheck compare load run",
+        b"text list entry old earlier table room title change show every code blocks translate print fix_octal pact read check judge explain summarize recheck compare count load run",
         part(file, at, scan(file, at, b':')),
     )
 }

@@ -2,7 +2,7 @@
 // `loaded N`, `printed N`, `fixed N`, `drafted N`, `agrees`, `differs`, or `refused NUMBER INPUT OFFSET` with INPUT one of text, list,
 // entry, blocks, buffer, contract, table. A run tells its steps too, `accepted STEPS` or `violated STEPS`. What broke for an entry is `part NUMBER at OFFSET START LENGTH`,
 // `key at OFFSET START LENGTH`, or `nothing ` and what was judged. What a text names is `summary BITS MARK`, and a recheck `reused ` or
-// `judged ` and what was judged. The programs share these words.
+// `judged ` and what was judged. A count is `counted ACCEPTED VIOLATED REFUSED CUT` and a number for each part. The programs share these words.
 //
 // These only write, and a line's end is written by the caller. `start` is for programs that fill a room and use as much of it as they
 // filled, and `numbers` for those that are given a table in bytes.
@@ -14,6 +14,7 @@ ghost use lib.ListN.{take};
 use libc::STDOUT_FILENO;
 use paper::Agreement;
 use paper::Checking;
+use paper::Counting;
 use paper::Drafting;
 use paper::Explanation;
 use paper::Fixing;
@@ -215,6 +216,29 @@ pub fn say_rechecking(rechecking: Rechecking) {
             say(b"judged ");
             say_judgement(judgement)
         }
+    }
+}
+
+// Writes numbers, each after a blank.
+fn say_each(numbers: &[u64]) {
+    let mut i = 0;
+    while i < numbers.len() {
+        say(b" ");
+        say_number(numbers[i]);
+        i += 1;
+    }
+}
+
+// Writes what `count` answered, with the numbers of the parts, which are the first of those that were lent.
+pub fn say_counting(counting: Counting, numbers: &[u64; parts::MOST_PARTS]) {
+    match counting {
+        Counting::Counted(n, accepted, violated, refused, cut) => {
+            let totals = [accepted, violated, refused, cut as u64];
+            say(b"counted");
+            say_each(&totals);
+            say_each(first(numbers, n))
+        }
+        Counting::Refused(number, place) => say_refused(number, place),
     }
 }
 

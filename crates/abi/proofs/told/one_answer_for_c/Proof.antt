@@ -9,11 +9,11 @@ use Rattle.paper.specs.Rechecking.{recheckingSays}
 use Rattle.paper.specs.Fixing.{fixingSays}
 use Rattle.paper.specs.Drafting.{draftingSays}
 use Rattle.paper.specs.Comparing.{agreementSays}
-use Rattle.paper.specs.Promised.{TranslateResult, TranslatePromised, PrintResult, PrintPromised, FixResult, FixPromised, DraftResult, DraftPromised, Sole}
+use Rattle.paper.specs.Counting.{countingSays}
+use Rattle.paper.specs.Promised.{TranslateResult, TranslatePromised, PrintResult, PrintPromised, FixResult, FixPromised, DraftResult, DraftPromised, CountResult, CountPromised, Sole}
 use Rattle.paper.proofs.Promised.{no-second-result}
-use Rattle.abi.specs.declared.answer.PolluxAnswer.{PolluxAnswer}
 use Rattle.abi.specs.Heard.{heardAs}
-use Rattle.abi.specs.Told.{counted, passed, judged, ran, compared, reasoned, summarized, rechecked, Tells, OneAnswerForC}
+use Rattle.abi.specs.Told.{counted, passed, judged, ran, compared, reasoned, summarized, rechecked, tallied, Tells, OneAnswerForC}
 use Rattle.abi.proofs.told.one_answer_for_c.Statement.{statement}
 use Rattle.abi.proofs.told.one_answer_for_c.Tie as tie
 
@@ -25,10 +25,10 @@ told-once Promised numbers one =
       no-second = λ a t. t .same ∙ ap numbers (one .no-second (t .result) (t .promised));
     }
 
--- of an answer and a buffer at exit that make up a result
-module _ {A R : Type 0} (whole : A → List ℕ → R) (answer : R → A) (buffer : R → List ℕ)
+-- of an answer, and a buffer or numbers at exit, that make up a result
+module _ {A R N : Type 0} (whole : A → List ℕ → R) (answer : R → A) (buffer : R → List ℕ)
     (answered : (r : A) (s : List ℕ) → answer (whole r s) ≡ r) (holds : (r : A) (s : List ℕ) → buffer (whole r s) ≡ s) where
-  told-with-buffer : (Promised : R → Type 0) (numbers : A → PolluxAnswer) → Sole Promised → (exit other : List ℕ) (a b : PolluxAnswer)
+  told-with-buffer : (Promised : R → Type 0) (numbers : A → N) → Sole Promised → (exit other : List ℕ) (a b : N)
       → Tells (λ r. Promised (whole r exit)) numbers a → Tells (λ r. Promised (whole r other)) numbers b → (a ≡ b) × (exit ≡ other)
   told-with-buffer Promised numbers one exit other a b t u =
       let same : whole (t .result) exit ≡ whole (u .result) other =
@@ -60,6 +60,9 @@ one-answer =
           told-with-buffer (λ r s. record { answer = r; buffer = s }) (λ (r : DraftResult). r .answer) (λ (r : DraftResult). r .buffer) (λ r s. refl) (λ r s. refl)
           (DraftPromised contract table list buffer) (λ r. counted (draftingSays r)) (one .draft contract table list buffer);
       compare = λ text list blocks. told-once _ (λ r. compared (agreementSays r)) (one .compare text list blocks);
+      count = λ text list entries numbers.
+          told-with-buffer (λ r s. record { answer = r; numbers = s }) (λ (r : CountResult). r .answer) (λ (r : CountResult). r .numbers) (λ r s. refl) (λ r s. refl)
+          (CountPromised text list entries numbers) (λ r. tallied (countingSays r)) (one .count text list entries numbers);
       explain = λ text list entry. told-once _ (λ r. reasoned (explanationSays r)) (one .explain text list entry);
       summarize = λ text list. told-once _ (λ r. summarized (summarizingSays r)) (one .summarize text list);
       recheck = λ text list old earlier new. told-once _ (λ r. rechecked (recheckingSays r)) (one .recheck text list old (heardAs earlier) new);

@@ -1,10 +1,10 @@
 -- Sizes and lengths, as the program tells them.
-use Prim.Native.Nat.{ℕ, _+_, _*_, _-_, _/_, _%_, _≤_, _<_, min}
+use Prim.Native.Nat.{ℕ, _+_, _*_, _/_, _≤_, _<_, min}
 use mathlib.Core.Path.{_≡_}
 use mathlib.Core.Bool.{cond}
 use mathlib.Core.List.{List}
 use lib.ListN.{take}
-use lib.Dec.{eqb, leb}
+use lib.Dec.{leb}
 use Rattle.paper.specs.Keys.{recordSize}
 use Rattle.paper.specs.Entry.{headSize, matchSize}
 use Rattle.paper.specs.Blocks.{blockSize, mostBlocks}
@@ -12,14 +12,6 @@ use Rattle.paper.specs.Blocks.{blockSize, mostBlocks}
 -- 01: "An entry for n keys has exactly 4 + 36n bytes", of a key list's length
 abbrev pub entrySize : ℕ → ℕ
 entrySize list = headSize + matchSize * (list / recordSize)
-
--- the largest multiple of a size up to 65,536
-abbrev pub wholeEntries : ℕ → ℕ
-wholeEntries size = 65536 - 65536 % size
-
--- a place that is the end of the bytes that are held of a file is the file's end
-abbrev pub trueOffset : ℕ → ℕ → ℕ → ℕ
-trueOffset held size at = cond (eqb at held) size at
 
 -- an entry at an offset ends after its size, or with the bytes that there are; it is never empty
 pub record EndsIn (at size end r : ℕ) : Type 0 where

@@ -1,7 +1,6 @@
 // The calls, on the files that arguments 2 to 5 name.
 use crate::entries::Way;
 use crate::entries::judge_file;
-use crate::files::read_argument;
 use crate::named::say_summary;
 use crate::octal;
 use crate::rechecks::recheck_files;
@@ -11,6 +10,7 @@ use crate::say::say_count;
 use crate::sizes;
 use crate::writing::write_argument;
 use blocks::Block;
+use files::read_argument;
 use lines::say;
 use lines::start;
 use paper::Agreement;

@@ -1,9 +1,10 @@
 // Polluxvalve for people: checks, prints, rids of octal, takes in contracts, sums up, translates, compares, loads, judges, explains,
-// rechecks and runs what stands in files, and tells the answer in words.
+// rechecks, runs and counts what stands in files, and tells the answer in words.
 //
 // Each answer is a line on standard output whose first word is passed, translated, loaded, printed, fixed, drafted, named, agrees, differs,
 // accepted, violated, refused, cannot or usage; the script `pollux` at the root makes an exit status of it. A refusal of a text is followed by the line and a caret under
 // the place, what broke for an entry by the line and carets under the part, or by the key's name. A run tells how many steps each entry took.
+// A count has the lines of the crate `report`, and a refusal there begins with refusal.
 // Files may have any length: a place that is a length is the file's true length, and entries stream through one buffer. No output file is
 // touched unless the whole call passes, and it is written whole or not at all.
 mod bits;
@@ -12,7 +13,6 @@ mod calls;
 mod caret;
 mod contracts;
 mod entries;
-mod files;
 mod named;
 mod octal;
 mod pacts;
@@ -33,6 +33,13 @@ use calls::print;
 use pacts::pact;
 use spelling::bytes::same_bytes;
 
+// Where a count finds its files among the arguments.
+const FIRST: usize = 2;
+
+const SECOND: usize = 3;
+
+const THIRD: usize = 4;
+
 fn usage() {
     lines::say(
         b"usage: pollux check TEXT KEYS
@@ -47,6 +54,7 @@ fn usage() {
        pollux summary TEXT KEYS
        pollux recheck TEXT KEYS OLD NEW
        pollux run KEYS BLOCKS ENTRIES
+       pollux count TEXT KEYS ENTRIES
 ",
     )
 }
@@ -87,6 +95,8 @@ fn with_three(call: &[u8]) {
         answer(Call::Explain)
     } else if same_bytes(call, b"run") {
         answer(Call::Run)
+    } else if same_bytes(call, b"count") {
+        report::count_files(FIRST, SECOND, THIRD)
     } else {
         usage()
     }

@@ -1,15 +1,15 @@
 // A Pact contract into a text: CONTRACT is bytes, TABLE decimal numbers, a line each, KEYS names the contract's inputs, and OUT is the text.
 use crate::caret;
 use crate::contracts::say_why;
-use crate::files::read_argument;
 use crate::reasons::say_reason;
 use crate::say::say_argument;
 use crate::say::say_count;
 use crate::say::say_two;
-use crate::sizes::true_offset;
 use crate::tables::Found;
 use crate::tables::read_table;
 use crate::writing::write_argument;
+use files::read_argument;
+use files::true_offset;
 use keys::KeyRecord;
 use lines::say;
 use lines::start;

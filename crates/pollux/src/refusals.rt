@@ -4,7 +4,7 @@ use crate::caret;
 use crate::reasons::say_reason;
 use crate::say::say_number;
 use crate::say::say_two;
-use crate::sizes::true_offset;
+use files::true_offset;
 use keys::Entry;
 use keys::Matched;
 use lines::say;

@@ -1,6 +1,7 @@
-// Lines on standard output with numbers in them, and what is said of a file that cannot be read or written.
+// Lines on standard output with numbers in them, and what is said of a file that cannot be written.
 ghost use Prim.Native.Nat.{_≤_};
 ghost use lib.ListN.{length};
+use files::cannot;
 use lines::say;
 use lines::start;
 
@@ -59,19 +60,6 @@ pub(crate) fn say_argument(i: usize) {
     let mut argument = io::buffer();
     let n = os::arg(i, &mut argument);
     say(&argument[..n])
-}
-
-// The system's reason, with what it is about, goes to standard error, before anything else can change it.
-fn cannot(what: &[u8], path: &[u8], about: &[u8]) {
-    os::fail(about);
-    say(what);
-    say(path);
-    say(b"\n");
-}
-
-// Says that a file cannot be read.
-pub(crate) fn cannot_read(path: &[u8]) {
-    cannot(b"cannot read ", path, path)
 }
 
 // Says that a file cannot be written.

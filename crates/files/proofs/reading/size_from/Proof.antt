@@ -3,8 +3,8 @@ use Prim.Native.Nat.{_+_, _*_, _≤_}
 use mathlib.Core.Path.{_≡_}
 use lib.ListN.{length}
 use borrow.Author.Needs.{needs}
-use Rattle.pollux.proofs.files.size_from.Statement.{statement}
-use Rattle.pollux.proofs.files.size_from.Tie as tie
+use Rattle.files.proofs.reading.size_from.Statement.{statement}
+use Rattle.files.proofs.reading.size_from.Tie as tie
 
 abbrev Inv-loop : tie.InvT-loop
 Inv-loop fd held buffer₀ size₀ turns₀ buffer size turns = (length buffer ≡ 65536) × (size + 65536 * turns ≤ 9223372036854841344)

@@ -1,7 +1,7 @@
 use native.Mathlib.Nat.{mod-le}
 use borrow.Author.Needs.{needs}
-use Rattle.pollux.proofs.sizes.whole_entries.Statement.{statement}
-use Rattle.pollux.proofs.sizes.whole_entries.Tie as tie
+use Rattle.files.proofs.sizes.whole_entries.Statement.{statement}
+use Rattle.files.proofs.sizes.whole_entries.Tie as tie
 
 sub-result : tie.Need-sub-result
 sub-result c = mod-le 65536 (c .args .size)

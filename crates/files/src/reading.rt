@@ -30,7 +30,7 @@ fn size_from(fd: i32, held: usize) -> usize
 }
 
 // A read that failed and the file's end both end the reading. Only the end is told by one more read that gives nothing.
-pub(crate) fn at_end(fd: i32) -> bool {
+pub fn at_end(fd: i32) -> bool {
     let mut byte = [0u8; 1];
     libc::read(fd, &mut byte) == 0
 }
@@ -66,7 +66,7 @@ fn read_file(path: &[u8], room: &mut [u8]) -> File
 }
 
 // Reads the start of the file that an argument names, as far as the room goes, and tells its size; or says why it cannot.
-pub(crate) fn read_argument(i: usize, room: &mut [u8]) -> File
+pub fn read_argument(i: usize, room: &mut [u8]) -> File
     requires { ⌜ length (now room) ≤ 65536 ⌝ }
 {
     let mut path = io::buffer();

@@ -1,6 +1,6 @@
 use borrow.Author.Tests.{eq-eqb, ne-eqb}
-use Rattle.pollux.proofs.sizes.true_offset.Statement.{statement}
-use Rattle.pollux.proofs.sizes.true_offset.Tie as tie
+use Rattle.files.proofs.sizes.true_offset.Statement.{statement}
+use Rattle.files.proofs.sizes.true_offset.Tie as tie
 
 returns : tie.Need-returns
 returns c = rw (eq-eqb _ _ (c .if1 .taken))

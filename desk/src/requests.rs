@@ -2,18 +2,21 @@
 //!
 //! A request is one byte for the call (1 read, 2 check, 3 judge, 4 translate,
 //! 5 load, 6 run, 7 print, 8 explain, 9 summarize, 10 recheck, 11 fix_octal, 12 pact,
-//! 13 compare) and three inputs, each a 4-byte big-endian length and its bytes. Each
-//! request gets one line. The line of a run ends in the steps that it took. For a call
+//! 13 compare, 14 count) and three inputs, each a 4-byte big-endian length and its bytes.
+//! Each request gets one line. The line of a run ends in the steps that it took. For a call
 //! that is lent a buffer, the third input is what the buffer holds before, and the line
 //! ends in the sum of what it holds after. The line of an explanation ends in the sum of
 //! the piece that it shows. The third input of a recheck is a change, the earlier answer
 //! with both entries, and that of a pact is a table of numbers with a buffer; one that
-//! is too short for that is `malformed`.
+//! is too short for that is `malformed`. The third input of a count is entries laid end
+//! to end.
 
 use std::io::{self, Read, Write};
 
 use crate::changes::Change;
-use crate::reference::{self, Explanation, Input};
+use crate::reference::entries::Entry;
+use crate::reference::keys::Key;
+use crate::reference::{self, Answer, Explanation, Input};
 use crate::tables::TableAndBuffer;
 
 pub const LONGEST_INPUT: usize = 65_536;
@@ -34,6 +37,7 @@ pub enum Call {
     FixOctal,
     Pact,
     Compare,
+    Count,
 }
 
 /// What an input is to a call.
@@ -44,10 +48,12 @@ pub enum Lent {
     Change,
     /// The number table and the buffer in one.
     TableAndBuffer,
+    /// Entries laid end to end.
+    Entries,
 }
 
 impl Call {
-    pub const ALL: [Call; 13] = [
+    pub const ALL: [Call; 14] = [
         Call::Read,
         Call::Check,
         Call::Judge,
@@ -61,6 +67,7 @@ impl Call {
         Call::FixOctal,
         Call::Pact,
         Call::Compare,
+        Call::Count,
     ];
 
     pub fn from_byte(byte: u8) -> Option<Call> {
@@ -86,6 +93,7 @@ impl Call {
             Call::FixOctal => "fix_octal",
             Call::Pact => "pact",
             Call::Compare => "compare",
+            Call::Count => "count",
         }
     }
 
@@ -104,6 +112,7 @@ impl Call {
             Call::Recheck => [one(Text), one(List), Some(Lent::Change)],
             Call::Pact => [one(Contract), one(List), Some(Lent::TableAndBuffer)],
             Call::Compare => [one(Text), one(List), one(Blocks)],
+            Call::Count => [one(Text), one(List), Some(Lent::Entries)],
         }
     }
 }
@@ -112,6 +121,13 @@ impl Call {
 pub struct Request {
     pub call: u8,
     pub inputs: [Vec<u8>; 3],
+}
+
+/// Where a request has entries laid end to end: the index of the input, and the size of
+/// each by the length of the key list.
+pub struct Entries {
+    pub input: usize,
+    pub size: usize,
 }
 
 /// What stands next on an input of requests.
@@ -166,6 +182,7 @@ impl Request {
             Call::FixOctal => reference::fix_octal(first, &mut buffer),
             Call::Pact => return pact_line(first, second, third),
             Call::Compare => reference::compare(first, second, third),
+            Call::Count => return count_line(first, second, third),
         };
         if self.input(Input::Buffer).is_some() {
             format!("{answer} {}", adler32(&buffer))
@@ -195,6 +212,14 @@ impl Request {
         let index = self.lent(Lent::TableAndBuffer)?;
         Some((index, TableAndBuffer::from_bytes(&self.inputs[index])?))
     }
+
+    /// Where the request has entries laid end to end, whether the list is good or not.
+    pub fn entries(&self) -> Option<Entries> {
+        let input = self.lent(Lent::Entries)?;
+        let keys = self.inputs[self.input(Input::List)?].len() / Key::SIZE;
+        let size = Entry::size(keys);
+        Some(Entries { input, size })
+    }
 }
 
 fn explanation_line(explanation: Explanation) -> String {
@@ -218,6 +243,13 @@ fn pact_line(contract: &[u8], names: &[u8], third: &[u8]) -> String {
     };
     let answer = reference::pact(contract, &table, names, &mut buffer);
     format!("{answer} {}", adler32(&buffer))
+}
+
+fn count_line(text: &[u8], list: &[u8], entries: &[u8]) -> String {
+    match reference::count(text, list, entries) {
+        Ok(counts) => counts.to_string(),
+        Err(refusal) => Answer::from(refusal).to_string(),
+    }
 }
 
 /// Reads the next request.

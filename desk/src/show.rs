@@ -22,6 +22,7 @@ pub fn request(request: &Request) -> String {
             Some(Lent::One(input)) => one(input, bytes, list_of(request)),
             Some(Lent::Change) => change(bytes, list_of(request)),
             Some(Lent::TableAndBuffer) => table_and_buffer(bytes),
+            Some(Lent::Entries) => entries(bytes, list_of(request)),
             None => passed_over(bytes),
         });
     }
@@ -141,6 +142,20 @@ fn entry(name: &str, entry: &[u8], list: &[u8]) -> String {
         Ok(line) => format!("{head}{line}\n"),
         Err(_) => format!("{head}\n{}", entry_in_hex(entry)),
     }
+}
+
+/// Entries laid end to end, the last of which may be cut.
+fn entries(bytes: &[u8], list: &[u8]) -> String {
+    let whole = bytes.chunks_exact(Entry::size(list.len() / Key::SIZE));
+    let cut = whole.remainder();
+    let mut lines = format!("  entries laid end to end, {} bytes:\n", bytes.len());
+    for bytes in whole {
+        lines.push_str(&entry("entry", bytes, list));
+    }
+    if !cut.is_empty() {
+        lines.push_str(&entry("cut entry", cut, list));
+    }
+    lines
 }
 
 fn entry_in_hex(entry: &[u8]) -> String {

@@ -15,7 +15,7 @@ use desk::reference::{check, Answer};
 use desk::requests::Call;
 
 /// The calls that type a text.
-const TYPING: [Call; 7] = [
+const TYPING: [Call; 8] = [
     Call::Check,
     Call::Judge,
     Call::Translate,
@@ -23,6 +23,7 @@ const TYPING: [Call; 7] = [
     Call::Summarize,
     Call::Recheck,
     Call::Compare,
+    Call::Count,
 ];
 
 /// A number that a text compares with a key or a field of some width.

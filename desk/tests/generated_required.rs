@@ -9,21 +9,35 @@ use common::generated;
 use desk::reference::entries::{Entry, Record};
 use desk::reference::keys::{key_list, Key, Kind, Presence};
 use desk::reference::{judge, run, Answer, Input};
-use desk::requests::{Call, Request};
+use desk::requests::{Call, Entries, Request};
 
 /// The calls that take a key list and no entry.
 const WITHOUT_ENTRY: [Call; 4] = [Call::Check, Call::Translate, Call::Load, Call::Summarize];
-/// The calls that take a key list and one entry, or two.
-const WITH_ENTRY: [Call; 4] = [Call::Judge, Call::Run, Call::Explain, Call::Recheck];
+/// The calls that take a key list and one entry, or several.
+const WITH_ENTRY: [Call; 5] = [
+    Call::Judge,
+    Call::Run,
+    Call::Explain,
+    Call::Recheck,
+    Call::Count,
+];
+
+/// More entries of a file are not looked at.
+const FEW: usize = 10;
 
 fn list_of(request: &Request) -> &[u8] {
     &request.inputs[request.input(Input::List).expect("a list")]
 }
 
-/// The entry of a request; of a change, the old one and the new one.
+/// The entry of a request; of a change, the old one and the new one; of a file, its whole
+/// ones, as far as there are a few.
 fn entries_of(request: &Request) -> Vec<Vec<u8>> {
     if let Some((_, change)) = request.change() {
         return vec![change.old, change.new];
+    }
+    if let Some(Entries { input, size }) = request.entries() {
+        let whole = request.inputs[input].chunks_exact(size);
+        return whole.take(FEW).map(<[u8]>::to_vec).collect();
     }
     let index = request.input(Input::Entry);
     index.map_or(Vec::new(), |index| vec![request.inputs[index].clone()])

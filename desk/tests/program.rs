@@ -69,6 +69,7 @@ fn answer_lines() {
     let pact =
         |contract: &[u8], third| Request::new(Call::Pact, contract.to_vec(), inputs(1), third);
     let compare = |of: &str, blocks| Request::new(Call::Compare, text(of), list(), blocks);
+    let count = |of: &str, entries| Request::new(Call::Count, text(of), list(), entries);
     let requests = [
         Request::new(Call::Read, text("true && true"), none(), none()),
         Request::new(Call::Check, text("v == 1"), list(), none()),
@@ -115,6 +116,13 @@ fn answer_lines() {
         compare("v == 0", block.clone()),
         compare("", none()),
         compare("v == 1", none()),
+        count(
+            "v == 1; ::priority < 10",
+            [entry(), entry(), vec![0; 3]].concat(),
+        ),
+        count("(false; true);", none()),
+        count("true; @", vec![0; 3]),
+        Request::new(Call::Count, text("true"), vec![0; 3], entry()),
     ];
     let output = desk(&["answer"], &bytes(&requests));
     let sum = adler32(&block);
@@ -135,7 +143,8 @@ fn answer_lines() {
          fixed 0 1\nrefused 22 text 1 589828\n\
          drafted 7 {draft_sum}\nrefused 24 contract 1 589828\nrefused 21 buffer 3 589828\n\
          refused 24 table 16 589828\nrefused 21 buffer 0 1\nmalformed\nmalformed\nmalformed\n\
-         agrees\ndiffers\nrefused 8 text 0\nrefused 16 blocks 0\n"
+         agrees\ndiffers\nrefused 8 text 0\nrefused 16 blocks 0\n\
+         counted 0 2 0 3 0 2\ncounted 0 0 0 0 0\nrefused 5 text 6\nrefused 2 list 3\n"
     );
     assert_eq!(text_of(&output.stdout), wanted);
 }
@@ -286,6 +295,23 @@ fn show_an_explanation() {
 }
 
 #[test]
+fn show_a_file_of_entries() {
+    let keys = "v exact 1";
+    let whole = ["v 1; priority 3", "priority 4"].map(|entry| entry_of(keys, entry));
+    let entries = [whole.concat(), vec![0, 0, 0, 5, 1]].concat();
+    let request = Request::new(Call::Count, b"v == 1".to_vec(), list_of(keys), entries);
+    let shown = text_of(&desk(&["show"], &bytes(&[request])).stdout);
+    let wanted = format!(
+        "count\n  text, 6 bytes: \"v == 1\"\n  key list, 80 bytes:\n    v exact 1\n  \
+         entries laid end to end, 85 bytes:\n  entry, 40 bytes: priority 3; v 1\n  \
+         entry, 40 bytes: \n    00000004\n    {}\n  cut entry, 5 bytes: \n    00000005\n    01\n  \
+         answer: counted 1 0 1 5 0\n\n",
+        "00".repeat(36)
+    );
+    assert_eq!(shown, wanted);
+}
+
+#[test]
 fn show_a_recheck() {
     let keys = "v exact 1";
     let change = Change {
@@ -429,6 +455,46 @@ fn a_wrong_agreement_is_made_small() {
     }
 }
 
+/// Text, key list and entries become small together, and so does the cut entry.
+#[test]
+fn a_wrong_count_is_made_small() {
+    let totals = "^counted [0-9]* [0-9]*";
+    for (pattern, text, file, line) in [
+        ("^counted".to_string(), "true", "", "0 0 0 0 0"),
+        // Cut bytes, a part that is false behind one that is not, and refused entries.
+        (
+            format!("{totals} [0-9]* [1-9]"),
+            "true",
+            "  cut entry, 1 bytes: \n    00\n",
+            "0 0 0 1 0",
+        ),
+        (
+            format!("{totals} [0-9]* 0 0 1"),
+            "true;false",
+            "  entry, 4 bytes: priority 0\n",
+            "0 1 0 0 0 1",
+        ),
+        (
+            format!("{totals} [1-9]"),
+            "true",
+            "  entry, 4 bytes: \n",
+            "0 0 1 0 0",
+        ),
+    ] {
+        let found = compare_with_sed(&format!("s/{pattern}/&9/"));
+        let (_, smallest) = found.split_once("the smallest found:\n").expect("one");
+        let length = text.len();
+        let head =
+            format!("count\n  text, {length} bytes: \"{text}\"\n  key list, 0 bytes:\n  entries");
+        assert!(smallest.starts_with(&head), "{smallest}");
+        let (_, shown) = smallest.split_once("end to end, ").expect("a file");
+        let (_, shown) = shown.split_once(" bytes:\n").expect("a length");
+        assert!(shown.starts_with(file), "{smallest}");
+        let line = format!("  reference: counted {line}\n");
+        assert!(shown.contains(&line), "{smallest}");
+    }
+}
+
 /// Text, buffer and what is passed over: all become small.
 #[test]
 fn a_wrong_print_is_made_small() {
@@ -480,6 +546,42 @@ fn a_program_that_stops_is_found() {
 #[test]
 fn a_wrong_line_for_a_cut_request_is_found() {
     assert!(compare_with_sed("s/^cut/kut/").contains("not [\"cut\"]"));
+}
+
+/// What the program `count` writes, for files.
+#[test]
+fn count_files() {
+    let text = file("count.text", b"v == 1; ::priority < 10");
+    let keys = file("count.keys", &list());
+    let entries = file("count.entries", &[entry(), entry(), vec![0; 3]].concat());
+    let output = desk(&["count", &text, &keys, &entries], &[]);
+    let wanted = "part 1 0\npart 2 2\naccepted 0\nviolated 2\nrefused 0\ncut 3\n";
+    assert_eq!(text_of(&output.stdout), wanted);
+    assert_eq!(output.status.code(), Some(0));
+    // No key list, and so entries of 4 bytes.
+    let none = file("count.none", &[]);
+    let million = file("count.million", &[0; 4_000_004]);
+    let always = file("count.always", b"true");
+    for (arguments, wanted) in [
+        ([&always, &none, &million], "refusal 25\n"),
+        ([&always, &entries, &million], "refusal 2 371\n"),
+        ([&none, &keys, &million], "refusal 8 0\n"),
+        ([&text, &none, &million], "refusal 11 0\n"),
+        (
+            [&always, &none, &none],
+            "part 1 0\naccepted 0\nviolated 0\nrefused 0\n",
+        ),
+    ] {
+        let [text, keys, entries] = arguments;
+        let output = desk(&["count", text, keys, entries], &[]);
+        assert_eq!(text_of(&output.stdout), wanted);
+        assert_eq!(output.status.code(), Some(0));
+    }
+    // A file that is not there: nothing is written, even if the text is refused.
+    let output = desk(&["count", &none, &keys, "/no/such/file"], &[]);
+    assert_eq!(output.status.code(), Some(2));
+    assert_eq!(text_of(&output.stdout), "");
+    assert!(text_of(&output.stderr).starts_with("desk: /no/such/file: "));
 }
 
 #[test]
@@ -627,6 +729,8 @@ fn wrong_command_lines() {
         &["pack"],
         &["pack", "keys", "/dev/null", "/dev/null", "x"],
         &["unpack", "entries", "x"],
+        &["count", "x", "y"],
+        &["count", "/dev/null", "/dev/null", "/dev/null", "x"],
     ] {
         let output = desk(arguments, &[]);
         assert_eq!(output.status.code(), Some(2), "{arguments:?}");

@@ -3,7 +3,7 @@
 mod common;
 
 use common::code::*;
-use common::{list, translated};
+use common::{entry_of, list, list_of, translated};
 use desk::compare::pieces::{Deed, Division};
 use desk::reference::blocks::{all_parts, blocks_of};
 use desk::reference::code::Parts;
@@ -63,6 +63,71 @@ fn smaller_contracts_keep_whole_assertions() {
     let smaller = Division::Numbers.simpler(&request, Deed::Drop, 0..2);
     assert_eq!(smaller.inputs[2], lent(&[3]));
     assert_eq!(Division::Tokens.count(&request), 0);
+}
+
+/// Parentheses go in pairs, several at once.
+#[test]
+fn smaller_texts_keep_pairs_of_parentheses() {
+    let text = b"((true)) && !(v == (1)".to_vec();
+    let request = Request::new(Call::Read, text, Vec::new(), Vec::new());
+    // One opening parenthesis has no other.
+    assert_eq!(Division::Parentheses.count(&request), 3);
+    for (stretch, wanted) in [
+        (0..1, "(true)&& !(v == (1)"),
+        (1..3, "(true) && !(v == 1"),
+        (0..3, "true&& !(v == 1"),
+    ] {
+        let smaller = Division::Parentheses.simpler(&request, Deed::Drop, stretch);
+        assert_eq!(smaller.inputs[0].escape_ascii().to_string(), wanted);
+    }
+}
+
+/// Entries laid end to end lose whole ones, the records of keys, or what is cut.
+#[test]
+fn smaller_files_keep_whole_entries() {
+    let keys = "v exact 1\nd ternary 8\nr range 16";
+    let whole = ["v 1; priority 1", "v 0; priority 2", "d 1; priority 3"];
+    let [one, two, three] = whole.map(|entry| entry_of(keys, entry));
+    let cut = two[..50].to_vec();
+    let entries = [one.clone(), two.clone(), three.clone(), cut.clone()].concat();
+    let text = b"v == 1; (true; false);".to_vec();
+    let request = Request::new(Call::Count, text, list_of(keys), entries);
+    assert_eq!(request.answer_line(), "counted 0 2 1 50 1 2");
+    assert_eq!(Division::Entries.count(&request), 3);
+    assert_eq!(Division::Cut.count(&request), 50);
+    let simpler = |division: Division, deed, stretch| division.simpler(&request, deed, stretch);
+    let smaller = simpler(Division::Entries, Deed::Drop, 1..2);
+    assert_eq!(smaller.inputs[2], [one, three.clone(), cut].concat());
+    let smaller = simpler(Division::Entries, Deed::Drop, 0..2);
+    assert_eq!(smaller.inputs[2], [&three[..], &two[..50]].concat());
+    let smaller = simpler(Division::Cut, Deed::Drop, 0..49);
+    assert_eq!(
+        smaller.inputs[2][..],
+        [&request.inputs[2][..336], &two[49..50]].concat()
+    );
+    assert_eq!(smaller.answer_line(), "counted 0 2 1 1 1 2");
+    // The cut entry has ten bytes of the record of d, and loses them with it.
+    let smaller = simpler(Division::Keys, Deed::Drop, 1..2);
+    let fewer = "v exact 1\nr range 16";
+    let left =
+        ["v 1; priority 1", "v 0; priority 2", "priority 3"].map(|entry| entry_of(fewer, entry));
+    assert_eq!(smaller.inputs[1], list_of(fewer));
+    assert_eq!(
+        smaller.inputs[2],
+        [left.concat(), two[..40].to_vec()].concat()
+    );
+    assert_eq!(smaller.answer_line(), "counted 0 2 1 40 1 2");
+    // Parts go without code.
+    assert_eq!(Division::Parts.count(&request), 2);
+    let smaller = simpler(Division::Parts, Deed::Drop, 0..1);
+    assert_eq!(smaller.inputs[0], b"(true; false)");
+    assert_eq!(smaller.inputs[2], request.inputs[2]);
+    let smaller = simpler(Division::Parts, Deed::True, 1..2);
+    assert_eq!(smaller.inputs[0], b"v == 1;true");
+    let judgement = Request::new(Call::Judge, b"true; true".to_vec(), Vec::new(), vec![0; 9]);
+    for division in [Division::Entries, Division::Cut, Division::Parts] {
+        assert_eq!(division.count(&judgement), 0);
+    }
 }
 
 /// A part of a text goes with its code, wherever the other translator has put it, or

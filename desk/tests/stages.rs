@@ -5,8 +5,9 @@ mod common;
 use common::code::{plain, NOT};
 use common::*;
 use desk::reference::blocks::blocks_of;
-use desk::reference::{check, compare, explain, fix_octal, judge, load, print};
-use desk::reference::{read, run, translate};
+use desk::reference::counting::MOST_ENTRIES;
+use desk::reference::{check, compare, count, explain, fix_octal, judge, load};
+use desk::reference::{print, read, run, translate};
 
 const LONG: [u8; 4097] = [b' '; 4097];
 
@@ -127,6 +128,34 @@ fn refused_translation_leaves_the_buffer() {
         );
         assert!(buffer.iter().all(|&byte| byte == 0x5a), "{text}");
     }
+}
+
+/// Whatever is wrong with text or list hides that there are too many entries, and what
+/// is wrong with an entry hides nothing.
+#[test]
+fn entries_to_count_come_last() {
+    let too_many = vec![0xff; 4 * (MOST_ENTRIES + 1)];
+    let counting = |text: &[u8], list: &[u8], entries: &[u8]| match count(text, list, entries) {
+        Ok(counts) => counts.to_string(),
+        Err(refusal) => short(refusal.into()),
+    };
+    assert_eq!(counting(&LONG, &[0; 3], &too_many), "1@4096");
+    assert_eq!(counting(b"\xff", &[0; 3], &too_many), "2 list 3");
+    assert_eq!(counting(b"\xff", &[0; 80], &too_many), "3 list 0");
+    for (text, wanted) in [
+        ("", "8@0"),
+        ("true true @", "5@10"),
+        ("1 == 0o1", "22@5"),
+        ("zz true", "8@3"),
+        ("zz", "11@0"),
+        ("::priority > true", "13@11"),
+        ("1", "14@0"),
+        ("true", "25 entry 4000000"),
+    ] {
+        assert_eq!(counting(text.as_bytes(), &[], &too_many), wanted);
+    }
+    let refused = &too_many[..8];
+    assert_eq!(counting(b"true", &[], refused), "counted 0 0 2 0 0");
 }
 
 /// Whatever is wrong with text or list hides what is wrong with the blocks.

@@ -1,12 +1,14 @@
 //! The commands of the program `desk`.
 
 mod compare;
+mod count;
 mod histogram;
 mod options;
 mod out;
 mod pack;
 
 use std::fmt;
+use std::fs;
 use std::io::{self, BufReader, BufWriter, Write};
 use std::process::ExitCode;
 
@@ -23,6 +25,7 @@ const USAGE: &str = "usage:
   desk show < requests                       requests in readable form
   desk compare --seed S --count N -- PROGRAM [ARGUMENT...]
                                              PROGRAM's lines against ours
+  desk count TEXT LIST ENTRIES               what the program count writes
   desk pack keys FILE [OUT]                  a readable key list into bytes
   desk pack entries [--any] KEYS FILE [OUT]  readable entries into bytes
   desk unpack keys FILE [OUT]                and back again
@@ -79,12 +82,21 @@ fn command(arguments: &[String]) -> Result<ExitCode, Trouble> {
         "cases" => print_cases(rest)?,
         "show" => show_requests(rest)?,
         "compare" => return compare::run(rest),
+        "count" => count::print(rest)?,
         "pack" => pack::pack(rest)?,
         "unpack" => pack::unpack(rest)?,
         "help" | "--help" => print!("{USAGE}"),
         _ => return Err(Trouble::Usage(format!("unknown command {name}"))),
     }
     Ok(ExitCode::SUCCESS)
+}
+
+fn contents(file: &str) -> Result<Vec<u8>, Trouble> {
+    fs::read(file).map_err(|error| wrong(file, &error.to_string()))
+}
+
+fn wrong(file: &str, what: &str) -> Trouble {
+    Trouble::Wrong(format!("{file}: {what}"))
 }
 
 fn answer(rest: &[String]) -> Result<(), Trouble> {

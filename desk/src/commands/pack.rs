@@ -1,11 +1,10 @@
 //! The commands `pack` and `unpack`.
 
-use std::fs;
 use std::io::{self, Write};
 use std::path::Path;
 
 use super::out::write_file;
-use super::Trouble;
+use super::{contents, wrong, Trouble};
 use crate::lists::{list_bytes, NamedKey};
 use crate::pack::entries::Rules;
 use crate::pack::{entries_from_text, entries_to_text, keys_from_text, keys_to_text, Problem};
@@ -113,14 +112,6 @@ fn unpacked_keys(file: &str) -> Result<Load, Trouble> {
     Ok(Load::of_keys(keys_to_text(&keys).into_bytes(), keys.len()))
 }
 
-fn contents(file: &str) -> Result<Vec<u8>, Trouble> {
-    fs::read(file).map_err(|error| wrong(file, &error.to_string()))
-}
-
 fn at_line(file: &str, problem: &Problem) -> Trouble {
     Trouble::Wrong(format!("{file}:{}: {}", problem.line, problem.what))
-}
-
-fn wrong(file: &str, what: &str) -> Trouble {
-    Trouble::Wrong(format!("{file}: {what}"))
 }

@@ -1,5 +1,7 @@
 //! The parts of a text together with their code in blocks that another translator made
 //! of it: what is done to one is done to the other, so that blocks that agree still do.
+//! Where entries are counted for each part there are no blocks, and only the text has
+//! parts.
 
 use std::ops::Range;
 
@@ -18,13 +20,16 @@ pub struct Part {
     code: Code,
 }
 
-/// The parts of a request with a good text and blocks of good layout; else nothing.
+/// The parts of a request with a good text, and with blocks of good layout or entries
+/// to count; else nothing.
 pub fn part_pieces(request: &Request) -> Vec<Part> {
     found_parts(request).unwrap_or_default()
 }
 
 fn found_parts(request: &Request) -> Option<Vec<Part>> {
-    code(request)?;
+    if code(request).is_none() && request.entries().is_none() {
+        return None;
+    }
     let text = &request.inputs[request.input(Input::Text)?];
     let keys = key_list(&request.inputs[request.input(Input::List)?]).ok()?;
     let codes = part_codes(text, &keys).ok()?;
@@ -43,13 +48,14 @@ fn found_parts(request: &Request) -> Option<Vec<Part>> {
 /// Leaves these parts out of text and blocks, or makes each of them true.
 pub fn change(request: &mut Request, deed: Deed, stretch: Range<usize>) {
     let mut left = part_pieces(request);
-    let (Some(text), Some((input, mut changed, keys))) =
-        (request.input(Input::Text), code(request))
-    else {
+    let Some(text) = request.input(Input::Text) else {
         return;
     };
-    for part in &left[stretch.clone()] {
-        changed = without(&changed, &part.code, deed);
+    if let Some((input, mut changed, keys)) = code(request) {
+        for part in &left[stretch.clone()] {
+            changed = without(&changed, &part.code, deed);
+        }
+        request.inputs[input] = blocks_of(&changed, keys);
     }
     let filling = deed.token().unwrap_or_default();
     for part in &mut left[stretch] {
@@ -61,7 +67,6 @@ pub fn change(request: &mut Request, deed: Deed, stretch: Range<usize>) {
         .filter(|text| !text.is_empty())
         .collect();
     request.inputs[text] = texts.join(&b';');
-    request.inputs[input] = blocks_of(&changed, keys);
 }
 
 /// The code with the deed done to a part where it stands by itself, if it does.

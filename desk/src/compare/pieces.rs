@@ -10,17 +10,20 @@ use crate::reference::keys::Key;
 use crate::reference::pact::Opcode;
 use crate::reference::tokens::old_tokens;
 use crate::reference::Input;
-use crate::requests::Request;
+use crate::requests::{Entries, Request};
 
 /// A way to divide a request into pieces.
 #[derive(Clone, Copy, PartialEq, Eq, Debug)]
 pub enum Division {
     /// Key records, each with its entry record and its number in the code.
     Keys,
-    /// Parts of the text, each with its code in blocks that are made of it.
+    /// Parts of the text, each with its code in blocks that are made of it, if there are
+    /// blocks.
     Parts,
     /// Tokens of the text, each with the blanks after it.
     Tokens,
+    /// Pairs of parentheses of the text, in the order of their opening ones.
+    Parentheses,
     /// Instructions of blocks of good layout; totals and checks are made again,
     /// and skips land where they did.
     Instructions,
@@ -30,6 +33,10 @@ pub enum Division {
     Assertions,
     /// Numbers of a table.
     Numbers,
+    /// Whole entries of those laid end to end.
+    Entries,
+    /// Bytes of a cut last entry, from its front.
+    Cut,
     /// Bytes of one of the three inputs.
     Bytes(usize),
     /// Bytes of one of the three inputs that are not zero.
@@ -79,10 +86,13 @@ impl Deed {
 }
 
 /// All steps that are tried, coarse ones first.
-pub const STEPS: [(Division, Deed); 22] = [
+pub const STEPS: [(Division, Deed); 25] = [
     (Division::Keys, Deed::Drop),
+    (Division::Entries, Deed::Drop),
+    (Division::Cut, Deed::Drop),
     (Division::Parts, Deed::Drop),
     (Division::Parts, Deed::True),
+    (Division::Parentheses, Deed::Drop),
     (Division::Tokens, Deed::Drop),
     (Division::Tokens, Deed::Unwrap),
     (Division::Tokens, Deed::True),
@@ -111,6 +121,7 @@ impl Division {
         match self {
             Division::Keys => length(request.input(Input::List)) / Key::SIZE,
             Division::Parts => both::part_pieces(request).len(),
+            Division::Parentheses => pairs(&token_pieces(request)).len(),
             Division::Tokens => token_pieces(request).len(),
             Division::Instructions => code(request).map_or(0, |(_, code, _)| code.len()),
             Division::Blocks => length(request.input(Input::Blocks)) / BLOCK,
@@ -118,6 +129,12 @@ impl Division {
             Division::Numbers => request
                 .table_and_buffer()
                 .map_or(0, |(_, lent)| lent.table.len()),
+            Division::Entries => request.entries().map_or(0, |entries| {
+                request.inputs[entries.input].len() / entries.size
+            }),
+            Division::Cut => request.entries().map_or(0, |entries| {
+                request.inputs[entries.input].len() % entries.size
+            }),
             Division::Bytes(input) => request.inputs[input].len(),
             Division::NonZeros(input) => non_zeros(&request.inputs[input]).count(),
         }
@@ -129,6 +146,16 @@ impl Division {
         match self {
             Division::Keys => drop_keys(&mut simpler, stretch),
             Division::Parts => both::change(&mut simpler, deed, stretch),
+            Division::Parentheses => {
+                if let Some(input) = request.input(Input::Text) {
+                    let mut pieces = token_pieces(request);
+                    for (open, close) in &pairs(&pieces)[stretch] {
+                        pieces[*open].clear();
+                        pieces[*close].clear();
+                    }
+                    simpler.inputs[input] = pieces.concat();
+                }
+            }
             Division::Tokens => {
                 if let Some(input) = request.input(Input::Text) {
                     let filling = deed.token().map(|token| [token, b" "].concat());
@@ -158,6 +185,18 @@ impl Division {
                 if let Some((input, mut lent)) = request.table_and_buffer() {
                     lent.table.drain(stretch);
                     simpler.inputs[input] = lent.to_bytes();
+                }
+            }
+            Division::Entries => {
+                if let Some(Entries { input, size }) = request.entries() {
+                    simpler.inputs[input].drain(stretch.start * size..stretch.end * size);
+                }
+            }
+            Division::Cut => {
+                if let Some(Entries { input, size }) = request.entries() {
+                    let bytes = &mut simpler.inputs[input];
+                    let whole = bytes.len() - bytes.len() % size;
+                    bytes.drain(whole + stretch.start..whole + stretch.end);
                 }
             }
             Division::Bytes(input) => {
@@ -233,6 +272,21 @@ fn token_pieces(request: &Request) -> Vec<Vec<u8>> {
         .collect()
 }
 
+/// The pairs of parentheses among the pieces of a text, by their indices.
+fn pairs(pieces: &[Vec<u8>]) -> Vec<(usize, usize)> {
+    let mut open = Vec::new();
+    let mut pairs = Vec::new();
+    for (index, piece) in pieces.iter().enumerate() {
+        match piece.first() {
+            Some(b'(') => open.push(index),
+            Some(b')') => pairs.extend(open.pop().map(|before| (before, index))),
+            _ => {}
+        }
+    }
+    pairs.sort_unstable();
+    pairs
+}
+
 /// The contract cut behind each of its assertions, good or not; what stands behind the
 /// last one is a piece too.
 fn assertion_pieces(request: &Request) -> Vec<Vec<u8>> {
@@ -273,6 +327,7 @@ fn drop_keys(request: &mut Request, keys: Range<usize>) {
         return;
     };
     let blocks = code(request);
+    let entries = request.entries();
     request.inputs[list].drain(keys.start * Key::SIZE..keys.end * Key::SIZE);
     if let Some(entry) = request.input(Input::Entry) {
         drop_records(&mut request.inputs[entry], &keys);
@@ -281,6 +336,11 @@ fn drop_keys(request: &mut Request, keys: Range<usize>) {
         drop_records(&mut change.old, &keys);
         drop_records(&mut change.new, &keys);
         request.inputs[input] = change.to_bytes();
+    }
+    if let Some(Entries { input, size }) = entries {
+        let entries = request.inputs[input].chunks(size);
+        let left: Vec<Vec<u8>> = entries.map(|entry| without_records(entry, &keys)).collect();
+        request.inputs[input] = left.concat();
     }
     if let Some((input, mut code, count)) = blocks {
         for parts in &mut code {
@@ -296,6 +356,12 @@ fn drop_records(entry: &mut Vec<u8>, keys: &Range<usize>) {
     if entry.len() >= records.end {
         entry.drain(records);
     }
+}
+
+/// An entry, whole or cut, without what it has of the records of these keys.
+fn without_records(entry: &[u8], keys: &Range<usize>) -> Vec<u8> {
+    let place = |key: usize| Entry::size(key).min(entry.len());
+    [&entry[..place(keys.start)], &entry[place(keys.end)..]].concat()
 }
 
 /// Lets an instruction that pushes a key after the dropped ones push it still.

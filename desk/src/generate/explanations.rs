@@ -29,8 +29,20 @@ pub fn text(rng: &mut Rng, keys: &[NamedKey], entry: &Entry) -> Vec<u8> {
 fn several(rng: &mut Rng, keys: &[NamedKey], entry: &Entry) -> Vec<u8> {
     let count = rng.between(1, 6);
     let first_false = rng.below(count + 1);
+    let truths = truths(rng, count, first_false);
+    with_truths(rng, keys, entry, &truths)
+}
+
+/// A few parts that are all true of the entry, whatever they say of others.
+pub fn all_true(rng: &mut Rng, keys: &[NamedKey], entry: &Entry) -> Vec<u8> {
+    let truths = vec![true; rng.between(1, 6)];
+    with_truths(rng, keys, entry, &truths)
+}
+
+/// A part for each of these truths of the entry.
+fn with_truths(rng: &mut Rng, keys: &[NamedKey], entry: &Entry, truths: &[bool]) -> Vec<u8> {
     let mut tokens = Tokens::new();
-    for truth in truths(rng, count, first_false) {
+    for &truth in truths {
         tokens.extend(part(rng, keys, entry, truth));
         tokens.push(b";".to_vec());
     }

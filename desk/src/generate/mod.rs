@@ -10,6 +10,7 @@ pub mod contracts;
 pub mod damage;
 pub mod entries;
 pub mod explanations;
+pub mod files;
 pub mod limits;
 pub mod lists;
 pub mod octals;
@@ -46,6 +47,7 @@ pub const SHARES: &[(Call, usize)] = &[
     (Call::FixOctal, 3),
     (Call::Pact, 4),
     (Call::Compare, 4),
+    (Call::Count, 4),
 ];
 
 /// Request `index` of the run with this seed.

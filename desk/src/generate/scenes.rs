@@ -3,8 +3,8 @@
 use super::rivals::Rival;
 use super::rng::Rng;
 use super::{
-    bits, blocks, buffers, contracts, damage, entries, explanations, limits, lists, octals, parted,
-    prints, programs, rechecks, rivals, skips, snippets, spelling, texts,
+    bits, blocks, buffers, contracts, damage, entries, explanations, files, limits, lists, octals,
+    parted, prints, programs, rechecks, rivals, skips, snippets, spelling, texts,
 };
 use crate::lists::{list_bytes, NamedKey};
 use crate::reference;
@@ -53,6 +53,15 @@ impl Scene {
         }
     }
 
+    /// No keys at all.
+    fn without_keys(rng: &mut Rng) -> Scene {
+        Scene {
+            keys: Vec::new(),
+            entry: entries::good(rng, &[]),
+            marked: false,
+        }
+    }
+
     pub fn request(&self, rng: &mut Rng, call: Call) -> Request {
         let none = Vec::new;
         match call {
@@ -70,6 +79,7 @@ impl Scene {
             // A contract has names and a table of its own.
             Call::Pact => contracts::request(rng),
             Call::Compare => self.compare(rng),
+            Call::Count => self.count(rng),
         }
     }
 
@@ -210,6 +220,29 @@ impl Scene {
             damage::any(rng, &mut text);
         }
         Request::new(Call::Compare, text, self.list(rng), blocks)
+    }
+
+    /// A file of entries, for these keys, for all or for none.
+    fn count(&self, rng: &mut Rng) -> Request {
+        match rng.below(12) {
+            0 => Scene::full(rng).count_here(rng),
+            1 => Scene::without_keys(rng).count_here(rng),
+            _ => self.count_here(rng),
+        }
+    }
+
+    fn count_here(&self, rng: &mut Rng) -> Request {
+        let mut text = match rng.below(24) {
+            0 => bits::text(rng, &self.keys),
+            1..=4 => self.text(rng),
+            5..=12 => explanations::all_true(rng, &self.keys, &self.entry),
+            _ => parted::text(rng, &self.keys, &self.entry),
+        };
+        if rng.one_in(20) {
+            damage::any(rng, &mut text);
+        }
+        let file = files::entries(rng, &self.keys, &self.entry);
+        Request::new(Call::Count, text, self.list(rng), file)
     }
 
     /// Most often a text in which it is the keys it names that count.

@@ -9,20 +9,20 @@
 use super::answers::Refusal;
 use super::code::{in_parts, Instruction, Parts};
 use super::keys::Key;
-use super::parts::parts;
+use super::parts::typed_parts;
 use super::translating::{instructions, skip_of};
 use super::tree::Join;
-use super::types::typed_text;
 
 /// The code of a part, or of several that are joined.
 pub type Code = Vec<Parts>;
 
 /// The code of each top-level part of a good text.
 pub fn part_codes(text: &[u8], keys: &[Key]) -> Result<Vec<Code>, Refusal> {
-    parts(text)?
+    let trees = typed_parts(text, keys)?;
+    Ok(trees
         .iter()
-        .map(|part| Ok(in_parts(&instructions(&typed_text(&part.tree, keys)?))))
-        .collect()
+        .map(|tree| in_parts(&instructions(tree)))
+        .collect())
 }
 
 /// Is this the code of these parts, each used once, in some order, joined from the left?

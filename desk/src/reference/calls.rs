@@ -3,13 +3,15 @@
 //! 18; 19; 20. A refusal changes nothing lent." Document 02, request a: "A print
 //! over 4,096 bytes, or over the lent buffer, is refused with number 21, placed
 //! in the buffer at its length here and in every later request. Bytes after a
-//! print, or after a text that a later request writes, stay."
+//! print, or after a text that a later request writes, stay." Request m: 25, and "a
+//! refused list or text comes before that".
 
 use super::agreeing::{is_in_some_order, part_codes};
 use super::answers::{Answer, Input, Refusal};
 use super::blocks::{blocks_of, bytes_needed, checked_layout};
 use super::code::{in_parts, Instruction};
 use super::contracts::clauses;
+use super::counting::{not_too_many, Counts};
 use super::drafting::{surely_too_long, tree_of};
 use super::entries::Entry;
 use super::explaining::{first_false_part, key_of_record, Explanation};
@@ -19,6 +21,7 @@ use super::keys::{key_list, name_list, Key};
 use super::loading::checked_code;
 use super::meaning::holds;
 use super::pact::MOST_INDICES;
+use super::parts::typed_parts;
 use super::printing::print_of;
 use super::rechecking::{reuses, Rechecked};
 use super::running::outcome;
@@ -181,6 +184,15 @@ pub fn compare(text: &[u8], list: &[u8], blocks: &[u8]) -> Answer {
         })
     };
     comparing().into()
+}
+
+/// Counts entries laid end to end, for a text and for each of its parts. It has the
+/// stages of `check`, then 25; what is wrong with an entry is counted and not refused.
+pub fn count(text: &[u8], list: &[u8], entries: &[u8]) -> Result<Counts, Refusal> {
+    let (tree, keys) = checked_text(text, list)?;
+    not_too_many(entries, &keys)?;
+    let parts = typed_parts(text, &keys)?;
+    Ok(Counts::of(&tree, &parts, &keys, entries))
 }
 
 /// Stage 1.

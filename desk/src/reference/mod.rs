@@ -6,7 +6,8 @@
 //! loading blocks, running loaded blocks on an entry." And document 02's "Print
 //! a restriction in house style", "Tell me on site what broke", "A summary beside
 //! each rule", "Stop early, and count", "Octal goes", "Numbers that lose bits", "Take
-//! in Pact contracts" and "Check a contractor's translator".
+//! in Pact contracts", "Check a contractor's translator" and "A count before I drive
+//! home".
 //!
 //! The files follow the documents' sections. Plainness comes before speed:
 //! what stands here is meant to be held against the paper, line by line.
@@ -19,6 +20,7 @@ pub mod blocks;
 pub mod calls;
 pub mod code;
 pub mod contracts;
+pub mod counting;
 pub mod drafting;
 pub mod entries;
 pub mod explaining;
@@ -44,8 +46,9 @@ pub mod values;
 pub mod words;
 
 pub use answers::{Answer, Input};
-pub use calls::{check, compare, explain, fix_octal, judge, load, pact, print};
-pub use calls::{read, recheck, run, summarize, translate};
+pub use calls::{check, compare, count, explain, fix_octal, judge, load, pact};
+pub use calls::{print, read, recheck, run, summarize, translate};
+pub use counting::Counts;
 pub use explaining::Explanation;
 pub use rechecking::Rechecked;
 pub use running::Outcome;

@@ -10,8 +10,10 @@ use std::ops::Range;
 
 use super::answers::Refusal;
 use super::grammar::tree;
+use super::keys::Key;
 use super::tokens::{tokens, Shape, Symbol, Token};
 use super::tree::Node;
+use super::types::{typed_text, Typed};
 
 /// A piece of an input, no copy: where it starts, and its bytes.
 #[derive(Clone, Copy, PartialEq, Eq, Debug)]
@@ -57,6 +59,14 @@ pub fn parts(text: &[u8]) -> Result<Vec<Part<'_>>, Refusal> {
                 },
             })
         })
+        .collect()
+}
+
+/// The trees of the parts with types, each by itself, or the refusal of one.
+pub fn typed_parts(text: &[u8], keys: &[Key]) -> Result<Vec<Typed>, Refusal> {
+    parts(text)?
+        .iter()
+        .map(|part| typed_text(&part.tree, keys))
         .collect()
 }
 

@@ -10,8 +10,9 @@ use desk::pack::entries::Rules;
 use desk::pack::{entries_from_text, keys_from_text};
 use desk::reference::blocks::{bytes_needed, BLOCK, MOST_BLOCKS};
 use desk::reference::calls::LONGEST_TEXT;
-use desk::reference::{check, compare, explain, fix_octal, judge, load, pact, print};
-use desk::reference::{read, recheck, run, summarize, translate};
+use desk::reference::counting::output;
+use desk::reference::{check, compare, count, explain, fix_octal, judge, load, pact};
+use desk::reference::{print, read, recheck, run, summarize, translate};
 use desk::reference::{Answer, Explanation, Input, Outcome, Rechecked};
 use desk::requests::{Call, Request};
 
@@ -189,6 +190,16 @@ pub fn short_recheck(rechecked: Rechecked) -> String {
 pub fn rechecking(text: &str, old: &str, earlier: Answer, new: &str) -> String {
     let (old, new) = (entry_of(KEYS, old), entry_of(KEYS, new));
     short_recheck(recheck(text.as_bytes(), &list(), &old, earlier, &new))
+}
+
+/// What the program `count` writes for entries of document 01's keys, laid end to end.
+pub fn counting(text: impl AsRef<[u8]>, entries: &[u8]) -> String {
+    output(&count(text.as_ref(), &list(), entries))
+}
+
+/// What the program `count` writes for entries of no keys.
+pub fn counting_without_keys(text: impl AsRef<[u8]>, entries: &[u8]) -> String {
+    output(&count(text.as_ref(), &[], entries))
 }
 
 /// 2^128 − 1 in octal, the largest number there is.

@@ -16,11 +16,11 @@
 #include "plain.h"
 #include "tables.h"
 
-/* Plain C has no fix_octal, no pact and no compare: no time is compared with theirs. */
+/* Plain C has no fix_octal, no pact, no compare and no count: no time is compared with theirs. */
 static const struct calls plain_calls = {
     plain_read, plain_check, plain_judge,   plain_translate, plain_load,
     plain_run,  plain_print, plain_explain, plain_summarize, plain_recheck,   NULL,
-    NULL,       NULL,
+    NULL,       NULL,        NULL,
 };
 
 /* ---- The requests that show what every version answers, in one order. */

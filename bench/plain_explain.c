@@ -1,12 +1,6 @@
 /* What broke for an entry: the first part of the text that is false, or the key of a record that breaks its rule. */
 #include "plain_parts.h"
 
-/* A part: its first and its last token, and the node of its root. */
-struct part {
-    const struct token *first, *last;
-    size_t root;
-};
-
 /* Cut at each ";" outside parentheses; nothing stands behind a trailing one. */
 static size_t cut(const struct tokens *tokens, struct part parts[POLLUX_MAX_PARTS])
 {
@@ -35,6 +29,13 @@ static void find_roots(const struct tree *tree, struct part parts[POLLUX_MAX_PAR
         node = tree->at[node].left;
     }
     parts[0].root = node;
+}
+
+size_t find_parts(const struct tokens *tokens, const struct tree *tree, struct part parts[POLLUX_MAX_PARTS])
+{
+    size_t count = cut(tokens, parts);
+    find_roots(tree, parts, count);
+    return count;
 }
 
 /* Where all parts are true, nothing is to show. */
@@ -74,7 +75,6 @@ struct pollux_reason plain_explain(const uint8_t *text, size_t text_length, cons
     if (!checked_tree(text, text_length, list, list_length, &tokens, &tree, &answer) ||
         !check_entry(list, list_length, entry, entry_length, &answer))
         return refusal(answer, list);
-    size_t count = cut(&tokens, parts);
-    find_roots(&tree, parts, count);
+    size_t count = find_parts(&tokens, &tree, parts);
     return first_false(&tree, parts, count, list, entry);
 }

@@ -167,6 +167,17 @@ bool text_tree(const uint8_t *text, size_t text_length, struct tokens *tokens, s
 bool checked_tree(const uint8_t *text, size_t text_length, const uint8_t *list, size_t list_length, struct tokens *tokens,
                   struct tree *tree, struct pollux_answer *answer);
 
+/* ---- Parts (plain_explain.c). */
+
+/* A part: its first and its last token, and the node of its root. */
+struct part {
+    const struct token *first, *last;
+    size_t root;
+};
+
+/* How many there are. */
+size_t find_parts(const struct tokens *tokens, const struct tree *tree, struct part parts[POLLUX_MAX_PARTS]);
+
 /* Is the tree at a node, which is a bool, true of an entry that conforms? (plain_judge.c) */
 bool holds_at(const struct tree *tree, const uint8_t *list, const uint8_t *entry, size_t node);
 

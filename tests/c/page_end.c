@@ -1,11 +1,11 @@
 /*
  * Lends the inputs of every call at the very end of a page, with the next page out of bounds, and a little before it, so that
- * they begin at every alignment, a table at those that its numbers have; and at the very start of a page, with the one before out of bounds. A call that touches a byte
+ * they begin at every alignment, a table and the numbers for the parts at those that numbers have; and at the very start of a page, with the one before out of bounds. A call that touches a byte
  * outside its inputs ends this program with a message that names the case.
  *
- *   page_end vary < REQUESTS > VARIED     the requests of the incident, of an octal numeral, of a contract and of another order of
- *                                         parts, and those given, each whole, and with one input a byte shorter or a byte longer,
- *                                         of a table a number
+ *   page_end vary < REQUESTS > VARIED     the requests of the incident, of an octal numeral, of a contract, of another order of
+ *                                         parts and of a count, and those given, each whole, and with one input a byte shorter or
+ *                                         a byte longer, of a table a number; the numbers for the parts are always as many
  *   page_end VARIED LINES                 makes the calls and holds their answers to the lines
  *
  * LINES is what `desk answer` says of VARIED. The last line is 'N passed, M failed'; the status is 0 if M is 0.
@@ -60,7 +60,7 @@ static void write_all_varied(const struct request *request)
 {
     write_request(stdout, request);
     for (unsigned input = 0; input < INPUTS; input++)
-        if (input_name(request->call, input)[0] != '\0')
+        if (input_name(request->call, input)[0] != '\0' && !(request->call == COUNT && input == PARTS))
             write_varied(request, input);
 }
 
@@ -133,6 +133,20 @@ static void write_comparison(void)
     write_all_varied(&request);
 }
 
+/* An entry that is accepted and one that is violated, and no byte more; the text ends in a name that fills its record to the last byte of the list. */
+static void write_count(void)
+{
+    static uint8_t list[POLLUX_KEY_SIZE] = { POLLUX_MAX_NAME, 0, 1 }, text[] = "true;1==", ours[sizeof text - 1 + POLLUX_MAX_NAME];
+    static uint8_t entries[2 * POLLUX_ENTRY_SIZE(1)] = { [4] = 1, [23] = 1, [POLLUX_ENTRY_SIZE(1) + 4] = 1 };
+    static uint64_t parts[POLLUX_MAX_PARTS];
+    memset(list + POLLUX_KEY_SIZE - POLLUX_MAX_NAME, 'k', POLLUX_MAX_NAME);
+    memset(ours, 'k', sizeof ours);
+    memcpy(ours, text, sizeof text - 1);
+    struct request request = { .call = COUNT, .inputs = { { ours, sizeof ours }, { list, sizeof list },
+                                                          { entries, sizeof entries }, { (uint8_t *)parts, sizeof parts } } };
+    write_all_varied(&request);
+}
+
 static int vary(void)
 {
     struct request request;
@@ -140,6 +154,7 @@ static int vary(void)
     write_octal();
     write_contract();
     write_comparison();
+    write_count();
     while (read_request(stdin, &request))
         write_all_varied(&request);
     return fflush(stdout) == 0 ? 0 : 3;
@@ -280,16 +295,30 @@ static bool failed(const char *what)
     return false;
 }
 
-/* Only the blocks or the text that an answer tells of may have changed, and after a refusal nothing. */
+/* How many bytes an answer tells of. */
+static size_t written_for(unsigned call, struct told answer)
+{
+    if (answer.says != POLLUX_DONE)
+        return 0;
+    switch (call) {
+    case TRANSLATE: return POLLUX_BLOCKS_SIZE(answer.value);
+    case COUNT: return answer.value * sizeof(uint64_t);
+    default: return answer.value;
+    }
+}
+
+/* Only the blocks, the text or the numbers that an answer tells of may have changed, and after a refusal nothing. */
 static bool kept_rest(const struct request *request, const struct request *lent, struct told answer)
 {
-    if (!writes(request->call))
-        return true;
-    size_t written = request->call == TRANSLATE ? POLLUX_BLOCKS_SIZE(answer.value) : answer.value;
-    if (answer.says != POLLUX_DONE)
-        written = 0;
-    const struct input *before = &request->inputs[2], *after = &lent->inputs[2];
-    return written <= after->length && memcmp(before->at + written, after->at + written, after->length - written) == 0;
+    size_t written = written_for(request->call, answer);
+    for (unsigned i = 0; i < INPUTS; i++) {
+        const struct input *before = &request->inputs[i], *after = &lent->inputs[i];
+        if (!writes_to(request->call, i))
+            continue;
+        if (written > after->length || memcmp(before->at + written, after->at + written, after->length - written) != 0)
+            return false;
+    }
+    return true;
 }
 
 static bool same_answer(const struct request *lent, struct told answer, const char *line)
@@ -309,7 +338,7 @@ static bool try_placing(const struct request *request, const char *line, unsigne
     now.placing = placing;
     for (unsigned i = 0; i < INPUTS; i++) {
         lent.inputs[i] = lend(&arenas[i], request->inputs[i], placing, unit(request->call, i));
-        if (!writes(request->call) || i != 2)
+        if (!writes_to(request->call, i))
             protect(&arenas[i], PROT_READ);
     }
     struct told answer = make_call(&pollux_calls, &lent);
@@ -319,7 +348,7 @@ static bool try_placing(const struct request *request, const char *line, unsigne
             return failed("bytes around an input were written");
     }
     if (!kept_rest(request, &lent, answer))
-        return failed("bytes of the buffer changed that must stay");
+        return failed("bytes of the buffer, or numbers for the parts, changed that must stay");
     return same_answer(&lent, answer, line) || failed("another answer");
 }
 

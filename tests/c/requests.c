@@ -8,7 +8,7 @@ const char *call_name(unsigned call)
 {
     static const char *const names[] = { "no call", "read",    "check",     "judge",   "translate", "load",
                                          "run",     "print",   "explain",   "summarize", "recheck", "fix_octal", "pact",
-                                         "compare" };
+                                         "compare", "count" };
     return names[call <= LAST_CALL ? call : 0];
 }
 
@@ -28,18 +28,24 @@ const char *input_name(unsigned call, unsigned input)
         [FIX_OCTAL] = { "text", "", "buffer", "" },
         [PACT] = { "contract", "list", "buffer", [TABLE] = "table" },
         [COMPARE] = { "text", "list", "blocks", "" },
+        [COUNT] = { "text", "list", "entries", [PARTS] = "parts" },
     };
     return names[call][input];
 }
 
 size_t unit(unsigned call, unsigned input)
 {
-    return call == PACT && input == TABLE ? sizeof(uint64_t) : 1;
+    return (call == PACT && input == TABLE) || (call == COUNT && input == PARTS) ? sizeof(uint64_t) : 1;
 }
 
 bool writes(unsigned call)
 {
     return call == TRANSLATE || call == PRINT || call == FIX_OCTAL || call == PACT;
+}
+
+bool writes_to(unsigned call, unsigned input)
+{
+    return input == 2 ? writes(call) : call == COUNT && input == PARTS;
 }
 
 static void read_exactly(FILE *file, uint8_t *into, size_t length)
@@ -117,11 +123,21 @@ static bool take_table(struct request *request)
     return true;
 }
 
+/* Numbers for the parts, none of which is one that entries of such a length can have. */
+static bool take_parts(struct request *request)
+{
+    static uint64_t numbers[POLLUX_MAX_PARTS];
+    memset(numbers, 0xa5, sizeof numbers);
+    request->inputs[PARTS] = (struct input){ (uint8_t *)numbers, sizeof numbers };
+    return true;
+}
+
 static bool take_third(struct request *request)
 {
     switch (request->call) {
     case RECHECK: return take_apart(request);
     case PACT: return take_table(request);
+    case COUNT: return take_parts(request);
     default: return true;
     }
 }
@@ -211,7 +227,7 @@ void write_request(FILE *file, const struct request *request)
 const struct calls pollux_calls = {
     pollux_read, pollux_check, pollux_judge,   pollux_translate, pollux_load,
     pollux_run,  pollux_print, pollux_explain, pollux_summarize, pollux_recheck, pollux_fix_octal,
-    pollux_pact, pollux_compare,
+    pollux_pact, pollux_compare, pollux_count,
 };
 
 static struct pollux_answer make_plain_call(const struct calls *calls, const struct request *request)
@@ -265,10 +281,22 @@ static struct told tell_recheck(struct pollux_rechecked it)
     return (struct told){ .says = it.says, .number = it.number, .input = it.input, .value = it.value, .reused = it.reused };
 }
 
+static struct told tell_counts(struct pollux_counts it)
+{
+    return (struct told){ .says = it.says, .number = it.number, .input = it.input, .value = it.value,
+                          .accepted = it.accepted, .violated = it.violated, .refused = it.refused, .cut = it.cut };
+}
+
+static uint64_t *parts_of(const struct request *request)
+{
+    return (uint64_t *)request->inputs[PARTS].at;
+}
+
 struct told make_call(const struct calls *calls, const struct request *request)
 {
     const struct input *a = &request->inputs[0], *b = &request->inputs[1], *c = &request->inputs[2], *old = &request->inputs[OLD_ENTRY];
     switch (request->call) {
+    case COUNT: return tell_counts(calls->count(a->at, a->length, b->at, b->length, c->at, c->length, parts_of(request)));
     case EXPLAIN: return tell_reason(calls->explain(a->at, a->length, b->at, b->length, c->at, c->length));
     case SUMMARIZE: return tell_summary(calls->summarize(a->at, a->length, b->at, b->length));
     case RECHECK:
@@ -357,6 +385,29 @@ static bool fits_named(const struct request *request, struct told answer)
     return answer.keys >> keys == 0 && answer.count <= keys && answer.priority <= named && answer.reused <= (request->call == RECHECK);
 }
 
+/* Are the numbers of the parts such that some part is false for each entry that is violated, and none for any other? */
+static bool fits_parts(const uint64_t *numbers, uint64_t parts, uint64_t violated)
+{
+    uint64_t all = 0;
+    for (uint64_t k = 0; k < parts; k++) {
+        if (numbers[k] > violated)
+            return false;
+        all += numbers[k];
+    }
+    return all >= violated;
+}
+
+/* Only a count has totals, which are of all whole entries. */
+static bool fits_totals(const struct request *request, struct told answer)
+{
+    uint64_t entries = answer.accepted + answer.violated + answer.refused;
+    if (request->call != COUNT || answer.says == POLLUX_REFUSED)
+        return entries == 0 && answer.cut == 0;
+    size_t size = POLLUX_ENTRY_SIZE(request->inputs[1].length / POLLUX_KEY_SIZE), length = request->inputs[2].length;
+    return entries == length / size && answer.cut == length % size && answer.value >= 1 && answer.value <= POLLUX_MAX_PARTS &&
+           fits_parts(parts_of(request), answer.value, answer.violated);
+}
+
 /* ---- Lines. */
 
 /* Writes at the end of a line. */
@@ -408,6 +459,20 @@ static void add_explanation(char line[LINE_SIZE], const struct request *request,
     }
 }
 
+static void add_counts(char line[LINE_SIZE], const struct request *request, struct told answer)
+{
+    ADD(line, "counted %" PRIu64 " %" PRIu64 " %" PRIu64 " %" PRIu64, answer.accepted, answer.violated, answer.refused, answer.cut);
+    for (uint64_t k = 0; k < answer.value; k++)
+        ADD(line, " %" PRIu64, parts_of(request)[k]);
+}
+
+/* Does the answer say what its call may say? */
+static bool fits(const struct request *request, struct told answer)
+{
+    return fits_call(request->call, answer) && fits_steps(request, answer) && fits_shown(request, answer) && fits_named(request, answer) &&
+           fits_totals(request, answer);
+}
+
 static void add_odd(char line[LINE_SIZE], struct told answer)
 {
     uint64_t numbers[sizeof answer / sizeof(uint64_t)];
@@ -420,10 +485,12 @@ static void add_odd(char line[LINE_SIZE], struct told answer)
 void answer_line(char line[LINE_SIZE], const struct request *request, struct told answer)
 {
     line[0] = '\0';
-    if (!fits_call(request->call, answer) || !fits_steps(request, answer) || !fits_shown(request, answer) || !fits_named(request, answer))
+    if (!fits(request, answer))
         add_odd(line, answer);
     else if (request->call == EXPLAIN)
         add_explanation(line, request, answer);
+    else if (request->call == COUNT && answer.says == POLLUX_DONE)
+        add_counts(line, request, answer);
     else {
         if (request->call == RECHECK)
             ADD(line, "%s ", answer.reused ? "reused" : "judged");

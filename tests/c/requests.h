@@ -4,9 +4,10 @@
  * A request is a byte for the call and three inputs, each a length of 4 bytes, big-endian, and its bytes; a call that has fewer
  * inputs finds the rest empty. The third input of a recheck is made of a byte for the earlier answer, the old entry's length in 4
  * bytes, the old entry and the new one, which are two inputs here. That of a contract is made of how many numbers the table has, in 2
- * bytes, the numbers, in 8 bytes each, and the buffer, which are two inputs here too; the table's are in the machine's own order. The line
- * of a verdict by blocks ends in the steps of the run, that of a translation, a print, a fixed text or a text of a contract in the Adler-32
- * sum of the buffer as it stands after the call, and that of an explanation in the sum of the piece that is shown.
+ * bytes, the numbers, in 8 bytes each, and the buffer, which are two inputs here too; the table's are in the machine's own order. A count is
+ * lent the numbers for the parts besides, which are an input here that no request brings. The line of a verdict by blocks ends in the steps of the run, that of a translation, a print, a fixed text or a text of a contract in the Adler-32
+ * sum of the buffer as it stands after the call, that of an explanation in the sum of the piece that is shown, and that of a count in the
+ * numbers of the text's parts.
  */
 #ifndef REQUESTS_H
 #define REQUESTS_H
@@ -16,8 +17,8 @@
 
 #include "pollux.h"
 
-enum { READ = 1, CHECK, JUDGE, TRANSLATE, LOAD, RUN, PRINT, EXPLAIN, SUMMARIZE, RECHECK, FIX_OCTAL, PACT, COMPARE, LAST_CALL = COMPARE };
-enum { INPUTS = 4, OLD_ENTRY = 3, TABLE = 3, LONGEST_INPUT = 65536, LINE_SIZE = 300 };
+enum { READ = 1, CHECK, JUDGE, TRANSLATE, LOAD, RUN, PRINT, EXPLAIN, SUMMARIZE, RECHECK, FIX_OCTAL, PACT, COMPARE, COUNT, LAST_CALL = COUNT };
+enum { INPUTS = 4, OLD_ENTRY = 3, TABLE = 3, PARTS = 3, LONGEST_INPUT = 65536, LINE_SIZE = 4096 };
 
 struct input {
     uint8_t *at; /* never NULL */
@@ -32,16 +33,17 @@ struct request {
 
 /*
  * The call's name, and which input of a request it is: "text", "list", "entry", "old entry", "blocks", "buffer", "contract", "table",
- * or "" if it has none.
+ * "entries", "parts", or "" if it has none.
  */
 const char *call_name(unsigned call);
 const char *input_name(unsigned call, unsigned input);
 
-/* How many bytes an input of the call is made of at a time: those of a number for a table, and else one. A table is aligned to them. */
+/* How many bytes an input of the call is made of at a time: those of a number for a table and the parts, which are aligned to them; else one. */
 size_t unit(unsigned call, unsigned input);
 
-/* Does the call write into its third input? */
+/* Does the call write into its third input, which is its buffer, or into one of its inputs? */
 bool writes(unsigned call);
+bool writes_to(unsigned call, unsigned input);
 
 /*
  * Reads the next request into memory that the next one uses again; false at the end. Requests that name no call, have an input
@@ -53,7 +55,7 @@ bool read_request(FILE *file, struct request *request);
 bool can_be_read(const struct request *request);
 void write_request(FILE *file, const struct request *request);
 
-/* Someone's version of the calls; who has no fix_octal, pact or compare is not asked for it. */
+/* Someone's version of the calls; who has no fix_octal, pact, compare or count is not asked for it. */
 struct calls {
     struct pollux_answer (*read)(const uint8_t *, size_t);
     struct pollux_answer (*check)(const uint8_t *, size_t, const uint8_t *, size_t);
@@ -69,6 +71,7 @@ struct calls {
     struct pollux_answer (*fix_octal)(const uint8_t *, size_t, uint8_t *, size_t);
     struct pollux_answer (*pact)(const uint8_t *, size_t, const uint64_t *, size_t, const uint8_t *, size_t, uint8_t *, size_t);
     struct pollux_answer (*compare)(const uint8_t *, size_t, const uint8_t *, size_t, const uint8_t *, size_t);
+    struct pollux_counts (*count)(const uint8_t *, size_t, const uint8_t *, size_t, const uint8_t *, size_t, uint64_t *);
 };
 
 extern const struct calls pollux_calls;
@@ -79,6 +82,7 @@ struct told {
     uint64_t part, place, start, length; /* explain */
     uint64_t keys, priority, count;      /* summarize */
     uint64_t reused;                     /* recheck */
+    uint64_t accepted, violated, refused, cut; /* count */
 };
 
 struct told make_call(const struct calls *calls, const struct request *request);

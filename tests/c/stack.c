@@ -92,6 +92,16 @@ static void measure_blocks(const struct request *translation)
     measure(&request);
 }
 
+/* Two entries, the second of which is cut: more of them take no more. */
+static void measure_count(uint8_t *text, size_t length)
+{
+    static uint8_t entries[2 * POLLUX_PRIORITY_SIZE - 1];
+    static uint64_t parts[POLLUX_MAX_PARTS];
+    struct request request = { .call = COUNT, .inputs = { { text, length }, { entry, 0 }, { entries, sizeof entries },
+                                                          { (uint8_t *)parts, sizeof parts } } };
+    measure(&request);
+}
+
 static void measure_text(uint8_t *text, size_t length)
 {
     struct request request = { .inputs = { { text, length }, { entry, 0 }, { entry, sizeof entry }, { entry, 0 } } };
@@ -101,6 +111,7 @@ static void measure_text(uint8_t *text, size_t length)
     measure(&request);
     request.call = SUMMARIZE;
     measure(&request);
+    measure_count(text, length);
     /* Without an old entry the new one is judged, with one it is not. */
     request.call = RECHECK;
     measure(&request);

@@ -30,50 +30,10 @@ struct Split {
 const CUT: usize = 7;
 
 // The base of most numerals, and what its numbers are cut by. To divide by a number that the compiler knows is many times faster than by any
-// other.
+// other: so where the base is ten, each of the three functions that divide is called with it by name, and compiled once more for it.
 const TEN: u32 = 10;
 
 const TEN_MILLION: u32 = 10_000_000;
-
-fn quotient(n: u64, by: u32) -> u64
-    requires { ⌜ 0 < by ⌝ }
-    ensures { λ r. ⌜ r ≡ n / by ⌝ }
-{
-    if by == TEN_MILLION {
-        return n / 10_000_000;
-    }
-    n / by as u64
-}
-
-fn short_quotient(n: u32, base: u32) -> u32
-    requires { ⌜ 0 < base ⌝ }
-    ensures { λ r. ⌜ r ≡ n / base ⌝ }
-{
-    if base == TEN {
-        return n / 10;
-    }
-    n / base
-}
-
-fn short_remainder(n: u32, base: u32) -> u32
-    requires { ⌜ 0 < base ⌝ }
-    ensures { λ r. ⌜ r ≡ n % base ⌝ }
-{
-    if base == TEN {
-        return n % 10;
-    }
-    n % base
-}
-
-fn remainder(n: u64, by: u32) -> u64
-    requires { ⌜ 0 < by ⌝ }
-    ensures { λ r. ⌜ r ≡ n % by ⌝ }
-{
-    if by == TEN_MILLION {
-        return n % 10_000_000;
-    }
-    n % by as u64
-}
 
 // A limb divided, after what the limbs above it left over.
 fn divide_limb(limb: u32, over: u32, by: u32) -> Split
@@ -89,8 +49,8 @@ fn divide_limb(limb: u32, over: u32, by: u32) -> Split
         };
     }
     Split {
-        limb: quotient(both, by) as u32,
-        rest: remainder(both, by) as u32,
+        limb: (both / by as u64) as u32,
+        rest: (both % by as u64) as u32,
     }
 }
 
@@ -125,8 +85,8 @@ fn put_cut(n: u32, base: u32, end: usize, bytes: &mut [u8])
     let mut left = n;
     while first < i {
         i -= 1;
-        bytes[i] = digit_byte(short_remainder(left, base));
-        left = short_quotient(left, base);
+        bytes[i] = digit_byte(left % base);
+        left = left / base;
     }
 }
 
@@ -140,13 +100,37 @@ fn put_limb(n: u32, base: u32, end: usize, bytes: &mut [u8]) -> usize
     let mut left = n;
     while 0 < i {
         i -= 1;
-        bytes[i] = digit_byte(short_remainder(left, base));
+        bytes[i] = digit_byte(left % base);
         if left < base {
             return i;
         }
-        left = short_quotient(left, base);
+        left = left / base;
     }
     0
+}
+
+// Writes the last seven digits of a longer number before an offset, zeros too.
+fn put_seven(n: u32, base: u32, end: usize, bytes: &mut [u8])
+    requires { ⌜ (2 ≤ base) × (base ≤ 16) × (n < base ^ 7) ⌝ }
+    requires { ⌜ (7 ≤ end) × (end ≤ length (now bytes)) ⌝ }
+    ensures { λ _. ⌜ Ends base 7 n end (now (bytes .entry)) (now (bytes .exit)) ⌝ }
+{
+    if base == TEN {
+        return put_cut(n, TEN, end, bytes);
+    }
+    put_cut(n, base, end, bytes)
+}
+
+// Writes the digits of a limb before an offset, as many as there is room for, and tells where they begin.
+fn put_first(n: u32, base: u32, end: usize, bytes: &mut [u8]) -> usize
+    requires { ⌜ (2 ≤ base) × (base ≤ 16) ⌝ }
+    requires { ⌜ end ≤ length (now bytes) ⌝ }
+    ensures { λ r. ⌜ Begins base n end (now (bytes .entry)) (now (bytes .exit)) r ⌝ }
+{
+    if base == TEN {
+        return put_limb(n, TEN, end, bytes);
+    }
+    put_limb(n, base, end, bytes)
 }
 
 impl Magnitude {
@@ -180,6 +164,17 @@ impl Magnitude {
         }
     }
 
+    // The number without its last seven digits in a base, and those digits.
+    fn cut(self, base: u32) -> Divided
+        requires { ⌜ (2 ≤ base) × (base ≤ 16) ⌝ }
+        ensures { λ r. ⌜ Divides (value self) (base ^ 7) r ⌝ }
+    {
+        if base == TEN {
+            return self.divide(TEN_MILLION);
+        }
+        self.divide(cut_by(base))
+    }
+
     // The numeral of the number in a base. It is written from its last digit on, before those that stand, so the digits that may still
     // be written are as many as the bytes before them. Most numbers have one limb, and nothing is cut off them.
     pub fn digits_in(self, base: u32) -> Digits
@@ -190,12 +185,12 @@ impl Magnitude {
         let mut end = 128;
         let mut left = self;
         while left.is_long() {
-            let d = left.divide(cut_by(base));
-            put_cut(d.rest, base, end, &mut bytes);
+            let d = left.cut(base);
+            put_seven(d.rest, base, end, &mut bytes);
             end -= CUT;
             left = d.number;
         }
-        let first = put_limb(left.limbs[0], base, end, &mut bytes);
+        let first = put_first(left.limbs[0], base, end, &mut bytes);
         Digits {
             bytes: bytes,
             first: first,

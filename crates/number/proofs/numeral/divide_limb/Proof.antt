@@ -23,18 +23,18 @@ left-whole c = (omega arith, c .if1 .taken)
 
 limb-fits : tie.Need-cast-t10
 limb-fits c =
-    let s : tie.Start = c .before .before in
-    record { fits = omega (arith, c .quotient .ensures, quotient-fits (s .args .limb) (s .args .over) (s .args .by) (s .fits .limb .fits) (s .pre)) }
+    let s : tie.Start = c .before in
+    record { fits = quotient-fits (s .args .limb) (s .args .over) (s .args .by) (s .fits .limb .fits) (s .pre) }
 
-rest-fits : tie.Need-cast-t11
+rest-fits : tie.Need-cast-t12
 rest-fits c =
-    let s : tie.Start = c .before .before .before in
-    record { fits = omega (arith, c .remainder .ensures, mod-lt (both s) (some-divisor s), s .fits .by .fits) }
+    let s : tie.Start = c .before in
+    record { fits = omega (arith, mod-lt (both s) (some-divisor s), s .fits .by .fits) }
 
 divided : tie.Need-returns-2
 divided c =
-    let s : tie.Start = c .before .before .before in
-    rw (c .before .quotient .ensures, c .remainder .ensures) (div-add-mod' (both s) (s .args .by), mod-lt (both s) (some-divisor s))
+    let s : tie.Start = c .before in
+    (div-add-mod' (both s) (s .args .by), mod-lt (both s) (some-divisor s))
 
 pub divide-limb-spec : {M : Type 1} → statement M
 divide-limb-spec =
@@ -44,8 +44,8 @@ divide-limb-spec =
     (λ c. search needs)
     whole-fits
     left-whole
-    (λ c κs. some-divisor (c .before))
+    (λ c. search needs)
     limb-fits
-    (λ c κs. some-divisor (c .before .before))
+    (λ c. search needs)
     rest-fits
     divided)

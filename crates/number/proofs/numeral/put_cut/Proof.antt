@@ -40,25 +40,24 @@ seven-left c =
 
 small-rest : tie.Need-digit-byte-requires Inv-loop μ-loop
 small-rest c κs =
-    let l = c .before .before in
+    let l = c .before in
     let below = mod-lt (l .loop .left) (some-base l) in
-    omega (arith, c .short-remainder .ensures, below, start l .pre)
+    omega (arith, below, start l .pre)
 
 one-more : tie.Need-loop-again Inv-loop μ-loop
 one-more c =
-    let written = c .before in
-    let l = written .before .before .before in
+    let l = c .before .before in
     let base = start l .args .base in
     let i = l .loop .i in
     let k = i - 1 - first (start l) in
-    let turns : first (start l) < i = written .before .before .loop-test .taken in
+    let turns : first (start l) < i = c .before .loop-test .taken in
     let step : i - first (start l) ≡ suc k = omega arith in (
       omega (arith, turns),
       omega (arith, l .loop .inv .1),
       simp length-set (l .loop .inv .2),
-      rw (c .short-quotient .ensures) (cut-less base k (l .loop .left) (start l .pre .0 .0) (rw step at (l .loop .inv .3))),
+      cut-less base k (l .loop .left) (start l .pre .0 .0) (rw step at (l .loop .inv .3)),
       λ high some.
-          rw (written .digit-byte .ensures, written .before .short-remainder .ensures, c .short-quotient .ensures)
+          rw (c .digit-byte .ensures)
           (cut-more base high k (l .loop .left) (start l .pre .0 .0) some (l .loop .bytes) i (omega arith)
           (omega (arith, l .loop .inv .1, l .loop .inv .2, start l .pre))
           ∙ (rw step at (l .loop .inv .4 high some))),
@@ -82,10 +81,10 @@ put-cut-spec =
     (λ c. omega (arith, c .before .pre))
     seven-left
     (λ c. search needs)
-    (λ c κs. some-base (c .before))
+    (λ c. search needs)
     small-rest
     (λ c. search needs)
-    (λ c κs. some-base (c .before .before .before))
+    (λ c. search needs)
     (λ c. search needs)
     one-more
     (λ c. c .before .loop .inv .2)

@@ -31,22 +31,22 @@ abbrev Digit : Type 0
 Digit = tie.After-digit-byte Inv-loop μ-loop
 
 abbrev turning : Digit → Turning
-turning d = d .before .before .before
+turning d = d .before .before
 
 some-base : (l : Turning) → 0 < start l .args .base
 some-base l = omega (arith, start l .pre)
 
 some-left : (d : Digit) → 0 < turning d .loop .i
-some-left d = d .before .before .loop-test .taken
+some-left d = d .before .loop-test .taken
 
 inside : (l : Turning) → l .loop .i ≤ length (l .loop .bytes)
 inside l = omega (arith, l .loop .inv .0, l .loop .inv .1, start l .pre)
 
 small-rest : tie.Need-digit-byte-requires Inv-loop μ-loop
 small-rest c κs =
-    let l = c .before .before in
+    let l = c .before in
     let below = mod-lt (l .loop .left) (some-base l) in
-    omega (arith, c .short-remainder .ensures, below, start l .pre)
+    omega (arith, below, start l .pre)
 
 ends-at-digit : tie.Need-returns Inv-loop μ-loop
 ends-at-digit c =
@@ -55,18 +55,18 @@ ends-at-digit c =
     record {
       inside = omega (arith, l .loop .inv .0);
       bytes =
-          rw (d .digit-byte .ensures, d .before .short-remainder .ensures)
+          rw (d .digit-byte .ensures)
           (digit-last (start l .args .base) (l .loop .left) (l .loop .bytes) (l .loop .i) (some-left d) (inside l) (lt-ltb _ _ (c .if1 .taken)) ∙ l .loop .inv .2);
     }
 
 one-more : tie.Need-loop-again Inv-loop μ-loop
 one-more c =
-    let d : Digit = c .before .before in
+    let d : Digit = c .before in
     let l = turning d in (
       omega (arith, l .loop .inv .0),
       simp length-set (l .loop .inv .1),
-      rw (d .digit-byte .ensures, d .before .short-remainder .ensures, c .short-quotient .ensures)
-          (digit-more (start l .args .base) (l .loop .left) (l .loop .bytes) (l .loop .i) (some-left d) (inside l) (le-ltb _ _ (c .before .if1 .left)) ∙ l .loop .inv .2),
+      rw (d .digit-byte .ensures)
+          (digit-more (start l .args .base) (l .loop .left) (l .loop .bytes) (l .loop .i) (some-left d) (inside l) (le-ltb _ _ (c .if1 .left)) ∙ l .loop .inv .2),
     )
 
 ends-full : tie.Need-returns-2 Inv-loop μ-loop
@@ -83,12 +83,12 @@ put-limb-spec =
     μ-loop
     (λ c. (omega arith, refl, refl))
     (λ c. search needs)
-    (λ c κs. some-base (c .before))
+    (λ c. search needs)
     small-rest
     (λ c. search needs)
     (λ c. simp length-set (turning (c .before) .loop .inv .1))
     ends-at-digit
-    (λ c κs. some-base (turning (c .before)))
+    (λ c. search needs)
     (λ c. search needs)
     one-more
     (λ c. c .before .loop .inv .1)

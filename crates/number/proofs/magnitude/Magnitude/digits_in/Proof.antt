@@ -45,11 +45,11 @@ base l = l .before .args .base
 abbrev left : Turning → ℕ
 left l = value (l .loop .left)
 
-abbrev cut-at : tie.After-put-cut Inv-loop μ-loop → tie.After-divide Inv-loop μ-loop
+abbrev cut-at : tie.After-put-seven Inv-loop μ-loop → tie.After-cut Inv-loop μ-loop
 cut-at c = c .before .before
 
-abbrev long-at : tie.After-divide Inv-loop μ-loop → Long
-long-at c = c .before .before
+abbrev long-at : tie.After-cut Inv-loop μ-loop → Long
+long-at c = c .before
 
 -- a number of several limbs has seven digits to cut off
 module _ (c : Long) where
@@ -77,13 +77,13 @@ fits-at-first c = (
 )
 
 -- what was cut off is below the power
-cut-is : (d : tie.After-divide Inv-loop μ-loop) → (let l = long-turn (long-at d) in d .divide .result .rest ≡ left l % base l ^ 7)
-cut-is d = d .divide .ensures .rest ∙ ap (λ (x : ℕ). left (long-turn (long-at d)) % x) (d .before .cut-by .ensures)
+cut-is : (d : tie.After-cut Inv-loop μ-loop) → (let l = long-turn (long-at d) in d .cut .result .rest ≡ left l % base l ^ 7)
+cut-is d = d .cut .ensures .rest
 
-left-is : (d : tie.After-divide Inv-loop μ-loop) → (let l = long-turn (long-at d) in value (d .divide .result .number) ≡ left l / base l ^ 7)
-left-is d = d .divide .ensures .whole ∙ ap (λ (x : ℕ). left (long-turn (long-at d)) / x) (d .before .cut-by .ensures)
+left-is : (d : tie.After-cut Inv-loop μ-loop) → (let l = long-turn (long-at d) in value (d .cut .result .number) ≡ left l / base l ^ 7)
+left-is d = d .cut .ensures .whole
 
-cut-fits : tie.Need-put-cut-requires Inv-loop μ-loop
+cut-fits : tie.Need-put-seven-requires Inv-loop μ-loop
 cut-fits c κs =
     let d = c .before in
     let n = long-at d in
@@ -97,10 +97,10 @@ cut-off c =
     let n = long-at d in
     let l = long-turn n in (
       omega (arith, l .loop .inv .0),
-      omega (arith, put .put-cut .kept, l .loop .inv .1),
+      omega (arith, put .put-seven .kept, l .loop .inv .1),
       rw (left-is d) (shorter (base l) (left l) (two n) (most n) (two-limbs n) (l .loop .end) (l .loop .inv .2)),
       rw (left-is d)
-          (cut-whole (base l) (left l) (two n) (most n) (two-limbs n) (l .loop .end) (l .loop .bytes) _ (rw (cut-is d) at (put .put-cut .ensures))
+          (cut-whole (base l) (left l) (two n) (most n) (two-limbs n) (l .loop .end) (l .loop .bytes) _ (rw (cut-is d) at (put .put-seven .ensures))
           ∙ l .loop .inv .3),
     )
 
@@ -111,10 +111,10 @@ all-there c =
     let l = short-turn short in
     let lowest = short .before .is-long .ensures .0 (short .if1 .left) in
     record {
-      inside = omega (arith, put .put-limb .ensures .inside, l .loop .inv .0);
-      size = omega (arith, put .put-limb .kept, l .loop .inv .1);
+      inside = omega (arith, put .put-first .ensures .inside, l .loop .inv .0);
+      size = omega (arith, put .put-first .kept, l .loop .inv .1);
       bytes =
-          put .put-limb .ensures .bytes ∙ ap (λ (x : ℕ). numeralWith (base l) (l .loop .end) x (l .loop .bytes)) (sym lowest) ∙ l .loop .inv .3;
+          put .put-first .ensures .bytes ∙ ap (λ (x : ℕ). numeralWith (base l) (l .loop .end) x (l .loop .bytes)) (sym lowest) ∙ l .loop .inv .3;
     }
 
 pub digits-in-spec : {M : Type 1} → statement M
@@ -125,8 +125,7 @@ digits-in-spec =
     μ-loop
     fits-at-first
     (λ c κs. search needs)
-    (λ c κs. most c)
-    (λ c κs. rw (c .cut-by .ensures) (some-power (c .before)))
+    (λ c κs. long-turn c .before .pre)
     (λ c. sym (long-turn (long-at (c .before)) .loop .inv .1))
     cut-fits
     (λ c. room (long-at (cut-at (c .before))))

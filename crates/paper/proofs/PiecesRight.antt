@@ -16,10 +16,9 @@ use Rattle.paper.specs.Explained.{keyIndex, stretchFrom}
 use Rattle.paper.specs.PartsDecide.{StretchIn}
 use Rattle.paper.specs.Promised.{ExplainPromised}
 use Rattle.paper.specs.Pieces.{PartOf, inText, inList, ExplainedPromised}
-use Rattle.paper.specs.PiecesRight.{Shown, ShownPromised, SamePiece, SameShown, OneShown, ShowsPart, ShowsName, PiecesShown, CopyOf, Hands, HandsPieces, HandsCopies, CopiesFail}
+use Rattle.paper.specs.PiecesRight.{Shown, ShownPromised, SamePiece, SameShown, OneShown, ShowsPart, ShowsName, PiecesShown, CopyOf, CopiesNoPieces}
 use Rattle.paper.proofs.Promised.{explanation-same, no-second-result}
 use Rattle.paper.proofs.ExplainedRight.{pieces-in-inputs}
-use Rattle.paper.proofs.WrongExplainers.{low, twoFalse, two-shown, two-lendable}
 
 -- a part of a list, as code takes it and as bytes of it are told
 part : (from to : ℕ) (l : List ℕ) → slice from to l ≡ bytesAt l from (to - from)
@@ -68,6 +67,14 @@ module _ {In : RefT (List ℕ) → RefT (List ℕ) → Type 0} (e : Stretched In
 
   no-second-piece : (r q : RefT (List ℕ)) → In s r → In s q → SamePiece r q
   no-second-piece r q p o = same-piece (e .is-part s r p) (e .is-part s q o)
+
+-- so pieces lie in the blocks of what is lent
+pub in-blocks : (text list : RefT (List ℕ)) (entry : List ℕ) (r : Shown) → ShownPromised text list entry r
+    → (ptr (r .text) .0 ≡ ptr text .0) × (ptr (r .list) .0 ≡ ptr list .0)
+in-blocks text list entry r p = (
+  text-stretched (r .why) .is-part text (r .text) (p .in-text) .block,
+  list-stretched (r .why) .is-part list (r .list) (p .in-list) .block,
+)
 
 -- one explanation with its pieces
 
@@ -152,54 +159,9 @@ pieces-shown =
 no-copy : {r q : RefT (List ℕ)} → SamePiece r q → ¬ (now r ≡ []) → ¬ CopyOf r q
 no-copy same has copy = copy .elsewhere (λ i. (sym (same .block) i, sym (same .offset has) i))
 
--- a reference to bytes, wherever they lie
-abbrev lentAt : List ℕ → RefT (List ℕ)
-lentAt s = record { ptr = (0, 0); name = 0; now = s }
-
--- `false;false`, of which the first five bytes are shown
-two-piece : (r : Shown) → ShownPromised (lentAt twoFalse) (lentAt []) low r → ¬ (now (r .text) ≡ [])
-two-piece r p none =
-    let why : r .why ≡ X.Part 1 0 0 5 = explanation-same (r .why) (X.Part 1 0 0 5) (p .says ∙ two-shown) in
-    let bytes = subst (λ (w : Explanation). inText w (lentAt twoFalse) (r .text)) why (p .in-text) .bytes in
-    let z : _≡_ {A = ℕ} 0 5 = ap length (sym none ∙ bytes) in
-    omega arith
-
-copies-fail : (x : Hands) → HandsCopies x → ¬ HandsPieces x
-copies-fail x copies hands =
-    let text = lentAt twoFalse in
-    let list = lentAt [] in
-    let kept = shown-promised text list low in
-    let (why, of-text, of-list) = copies text list low two-lendable (theShown text list low) kept in
-    let same = same-shown text list low (theShown text list low) (x text list low) kept (hands text list low two-lendable) in
-    no-copy (same .text) (two-piece (theShown text list low) kept) of-text
-
--- one that has a block of its own
-abbrev moved : RefT (List ℕ) → RefT (List ℕ) → RefT (List ℕ) → RefT (List ℕ)
-moved text list r = record { ptr = (suc (ptr text .0 + ptr list .0), 0); name = r .name; now = now r }
-
-abbrev copier : Hands
-copier text list entry =
-    let r = theShown text list entry in
-    record { why = r .why; text = moved text list (r .text); list = moved text list (r .list) }
-
--- it is none of those that are lent
-moved-copies : (text list p r : RefT (List ℕ)) → SamePiece p r → ¬ (suc (ptr text .0 + ptr list .0) ≡ ptr p .0) → CopyOf r (moved text list p)
-moved-copies text list p r same other =
-    record { bytes = same .bytes; elsewhere = λ e. other (ap (λ (x : ℕ × ℕ). x .0) e ∙ sym (same .block)) }
-
-copier-copies : HandsCopies copier
-copier-copies text list entry _ r p =
-    let same = same-shown text list entry (theShown text list entry) r (shown-promised text list entry) p in (
-      same .why,
-      moved-copies text list (theShown text list entry .text) (r .text) (same .text) (λ e. omega (arith, e)),
-      moved-copies text list (theShown text list entry .list) (r .list) (same .list) (λ e. omega (arith, e)),
-    )
-
-pub pieces-not-copied : CopiesFail
-pieces-not-copied =
+pub copies-no-pieces : CopiesNoPieces
+copies-no-pieces =
     record {
       of-text = λ text list entry r q p has copy o. no-copy (same-shown text list entry r q p o .text) has copy;
       of-list = λ text list entry r q p has copy o. no-copy (same-shown text list entry r q p o .list) has copy;
-      fails = copies-fail;
-      there-is = (copier, copier-copies);
     }

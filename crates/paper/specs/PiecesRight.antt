@@ -17,7 +17,6 @@ use Rattle.paper.specs.Numbers.{bytesAt}
 use Rattle.paper.specs.Keys.{Key, keys}
 use Rattle.paper.specs.Explained.{keyIndex, stretchFrom}
 use Rattle.paper.specs.ExplainedRight.{PieceOfText}
-use Rattle.paper.specs.WrongExplainers.{Lendable}
 use Rattle.paper.specs.Pieces.{ExplainedPromised}
 
 -- an explanation with its pieces
@@ -79,27 +78,9 @@ pub record CopyOf (r q : RefT (List ℕ)) : Type 0 where
   pub bytes : now q ≡ now r
   pub elsewhere : ¬ (ptr q ≡ ptr r)
 
--- what is handed back for a text, a list and an entry
-abbrev pub Hands : Type 0
-Hands = RefT (List ℕ) → RefT (List ℕ) → List ℕ → Shown
-
-abbrev pub HandsPieces : Hands → Type 0
-HandsPieces x =
-    (text list : RefT (List ℕ)) (entry : List ℕ) → Lendable (now text) (now list) entry → ShownPromised text list entry (x text list entry)
-
--- the right numbers and the right bytes, copied
-abbrev pub HandsCopies : Hands → Type 0
-HandsCopies x =
-    (text list : RefT (List ℕ)) (entry : List ℕ) → Lendable (now text) (now list) entry
-    → (r : Shown) → ShownPromised text list entry r
-    → (x text list entry .why ≡ r .why) × CopyOf (r .text) (x text list entry .text) × CopyOf (r .list) (x text list entry .list)
-
-pub record CopiesFail : Type 0 where
-  -- wherever a piece has a byte
+-- it is no piece, wherever a piece has a byte
+pub record CopiesNoPieces : Type 0 where
   pub of-text : (text list : RefT (List ℕ)) (entry : List ℕ) (r q : Shown) → ShownPromised text list entry r → ¬ (now (r .text) ≡ [])
       → CopyOf (r .text) (q .text) → ¬ ShownPromised text list entry q
   pub of-list : (text list : RefT (List ℕ)) (entry : List ℕ) (r q : Shown) → ShownPromised text list entry r → ¬ (now (r .list) ≡ [])
       → CopyOf (r .list) (q .list) → ¬ ShownPromised text list entry q
-  -- so no program that copies keeps the promise; and there is such a program
-  pub fails : (x : Hands) → HandsCopies x → ¬ HandsPieces x
-  pub there-is : (x : Hands) × HandsCopies x

@@ -1,13 +1,13 @@
 // The promises of the public calls, held to account.
 ghost use Rattle.paper.specs.Promised.{NoSecondResult, CanBeKept};
-ghost use Rattle.paper.specs.WrongPrints.{WrongPrintsFail};
-ghost use Rattle.paper.specs.WrongFixers.{WrongFixersFail};
-ghost use Rattle.paper.specs.WrongRunners.{WrongRunnersFail};
-ghost use Rattle.paper.specs.WrongCheckers.{WrongCheckersFail};
-ghost use Rattle.paper.specs.WrongDrafters.{WrongDraftersFail};
-ghost use Rattle.paper.specs.WrongComparers.{WrongComparersFail};
-ghost use Rattle.paper.specs.WrongCounters.{WrongCountersFail};
-ghost use Rattle.paper.specs.WrongPrograms.{WrongProgramsExist, WrongProgramsFail, NoWrongProgram, PaddingSeen};
+ghost use Rattle.tried.specs.WrongPrints.{WrongPrintsFail};
+ghost use Rattle.tried.specs.WrongFixers.{WrongFixersFail};
+ghost use Rattle.tried.specs.WrongRunners.{WrongRunnersFail};
+ghost use Rattle.tried.specs.WrongCheckers.{WrongCheckersFail};
+ghost use Rattle.tried.specs.WrongDrafters.{WrongDraftersFail};
+ghost use Rattle.tried.specs.WrongComparers.{WrongComparersFail};
+ghost use Rattle.tried.specs.WrongCounters.{WrongCountersFail};
+ghost use Rattle.tried.specs.WrongPrograms.{WrongProgramsExist, WrongProgramsFail, NoWrongProgram, PaddingSeen};
 
 // For all inputs one result keeps the promise of a call, and no second; of `translate`, `print`, `fix_octal` and `pact`, one answer with one
 // buffer at exit, and of `count` with the numbers of the parts at exit.

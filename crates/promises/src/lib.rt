@@ -1,5 +1,6 @@
 // What we advertise, as contracts, so that whatever is lost fails the gate. Functions that do nothing state theorems about the definitions
-// in `paper`; those of `calls`, and the last two of `pieces`, state the demands of what the real calls of `valve` answer.
+// of `paper`, and the examples and wrong programs of `tried`; those of `calls`, and the last two of `pieces`, state the demands of what the real
+// calls of `valve` answer.
 mod accounts;
 mod bases;
 mod bits;

@@ -1,7 +1,7 @@
 // The parts of a text, and what broke: the explanation of an entry.
 ghost use Rattle.paper.specs.PartsDecide.{TextIsItsParts, PartsDecide, PartsInText, FewParts, AtMostParts};
 ghost use Rattle.paper.specs.ExplainedRight.{ExplainedIsRight, ExplainedAsJudged, PiecesInInputs};
-ghost use Rattle.paper.specs.WrongExplainers.{WrongExplainersFail, WrongExplainersExist};
+ghost use Rattle.tried.specs.WrongExplainers.{WrongExplainersFail, WrongExplainersExist};
 
 // The tree of a text is the trees of its top-level parts, joined by ";" from the left.
 pub fn text_is_its_parts()

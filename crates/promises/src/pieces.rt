@@ -1,5 +1,6 @@
 // The pieces of an explanation: "handed back as the piece itself .. no copy".
-ghost use Rattle.paper.specs.PiecesRight.{OneShown, PiecesShown, CopiesFail};
+ghost use Rattle.paper.specs.PiecesRight.{OneShown, PiecesShown};
+ghost use Rattle.tried.specs.WrongCopiers.{CopiesFail};
 ghost use Rattle.promises.specs.PiecesHeld.{TextPieceRight, ListPieceRight};
 
 // For all inputs there is an explanation with its two pieces, and no second: pointer, length and bytes are fixed of a piece that has a byte, and

@@ -1,33 +1,33 @@
 // The rules by example: what document 01 marks, both sides of every limit, and every clause of every definition. `tools/mutate` takes
 // the modules named here for those in which a changed definition must be seen.
-ghost use Rattle.paper.specs.MarkedJudgements.{Marked};
-ghost use Rattle.paper.specs.Readings.{Readings};
-ghost use Rattle.paper.specs.CaseFour.{CaseFour};
-ghost use Rattle.paper.specs.Limits.{Texts, Lists, Entries, Held, Sizes};
-ghost use Rattle.paper.specs.TokenExamples.{TokenExamples};
-ghost use Rattle.paper.specs.AddressExamples.{AddressExamples};
-ghost use Rattle.paper.specs.TreeExamples.{TreeExamples};
-ghost use Rattle.paper.specs.SentenceExamples.{SentenceExamples};
-ghost use Rattle.paper.specs.KeyExamples.{KeyExamples};
-ghost use Rattle.paper.specs.EntryExamples.{EntryExamples};
-ghost use Rattle.paper.specs.RequiredExamples.{RequiredExamples};
-ghost use Rattle.paper.specs.DependenceExamples.{DependenceExamples};
-ghost use Rattle.paper.specs.TypeExamples.{TypeExamples};
-ghost use Rattle.paper.specs.BitsExamples.{BitsExamples};
-ghost use Rattle.paper.specs.MeaningExamples.{MeaningExamples};
-ghost use Rattle.paper.specs.BlockExamples.{BlockExamples};
-ghost use Rattle.paper.specs.InstructionExamples.{InstructionExamples};
-ghost use Rattle.paper.specs.TranslationExamples.{TranslationExamples};
-ghost use Rattle.paper.specs.SkipExamples.{SkipExamples};
-ghost use Rattle.paper.specs.PrintExamples.{PrintExamples};
-ghost use Rattle.paper.specs.FixExamples.{FixExamples};
-ghost use Rattle.paper.specs.DraftExamples.{DraftExamples};
-ghost use Rattle.paper.specs.CompareExamples.{CompareExamples};
-ghost use Rattle.paper.specs.CountExamples.{CountExamples};
-ghost use Rattle.paper.specs.PartExamples.{PartExamples};
-ghost use Rattle.paper.specs.SummaryExamples.{SummaryExamples};
-ghost use Rattle.paper.specs.AnswerExamples.{AnswerExamples};
-ghost use Rattle.paper.specs.FaultExamples.{FaultExamples};
+ghost use Rattle.tried.specs.MarkedJudgements.{Marked};
+ghost use Rattle.tried.specs.Readings.{Readings};
+ghost use Rattle.tried.specs.CaseFour.{CaseFour};
+ghost use Rattle.tried.specs.Limits.{Texts, Lists, Entries, Held, Sizes};
+ghost use Rattle.tried.specs.TokenExamples.{TokenExamples};
+ghost use Rattle.tried.specs.AddressExamples.{AddressExamples};
+ghost use Rattle.tried.specs.TreeExamples.{TreeExamples};
+ghost use Rattle.tried.specs.SentenceExamples.{SentenceExamples};
+ghost use Rattle.tried.specs.KeyExamples.{KeyExamples};
+ghost use Rattle.tried.specs.EntryExamples.{EntryExamples};
+ghost use Rattle.tried.specs.RequiredExamples.{RequiredExamples};
+ghost use Rattle.tried.specs.DependenceExamples.{DependenceExamples};
+ghost use Rattle.tried.specs.TypeExamples.{TypeExamples};
+ghost use Rattle.tried.specs.BitsExamples.{BitsExamples};
+ghost use Rattle.tried.specs.MeaningExamples.{MeaningExamples};
+ghost use Rattle.tried.specs.BlockExamples.{BlockExamples};
+ghost use Rattle.tried.specs.InstructionExamples.{InstructionExamples};
+ghost use Rattle.tried.specs.TranslationExamples.{TranslationExamples};
+ghost use Rattle.tried.specs.SkipExamples.{SkipExamples};
+ghost use Rattle.tried.specs.PrintExamples.{PrintExamples};
+ghost use Rattle.tried.specs.FixExamples.{FixExamples};
+ghost use Rattle.tried.specs.DraftExamples.{DraftExamples};
+ghost use Rattle.tried.specs.CompareExamples.{CompareExamples};
+ghost use Rattle.tried.specs.CountExamples.{CountExamples};
+ghost use Rattle.tried.specs.PartExamples.{PartExamples};
+ghost use Rattle.tried.specs.SummaryExamples.{SummaryExamples};
+ghost use Rattle.tried.specs.AnswerExamples.{AnswerExamples};
+ghost use Rattle.tried.specs.FaultExamples.{FaultExamples};
 
 // The sixteen marked judgements.
 pub fn marked_judgements()

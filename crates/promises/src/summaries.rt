@@ -1,6 +1,6 @@
 // The summary of what a text names, and a recheck by it.
 ghost use Rattle.paper.specs.RecheckedRight.{BitsAreNames, ReusedExactly, FreshIfTrue};
-ghost use Rattle.paper.specs.WrongRecheckers.{WrongRecheckersFail};
+ghost use Rattle.tried.specs.WrongRecheckers.{WrongRecheckersFail};
 
 // Of a text and a list that pass: a bit is set exactly where the text names the key, as a whole or by a field, and no bit past the list's keys;
 // the ones are as many as the keys that it names; and the mark is set exactly where it names ::priority.

@@ -1,4 +1,4 @@
-use Rattle.paper.proofs.WrongPrograms as Theorem
+use Rattle.tried.proofs.WrongPrograms as Theorem
 use Rattle.promises.proofs.accounts.no_wrong_program_keeps_them.Statement.{statement}
 use Rattle.promises.proofs.accounts.no_wrong_program_keeps_them.Tie as tie
 

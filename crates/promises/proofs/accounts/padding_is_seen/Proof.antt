@@ -1,4 +1,4 @@
-use Rattle.paper.proofs.WrongPrograms as Theorem
+use Rattle.tried.proofs.WrongPrograms as Theorem
 use Rattle.promises.proofs.accounts.padding_is_seen.Statement.{statement}
 use Rattle.promises.proofs.accounts.padding_is_seen.Tie as tie
 

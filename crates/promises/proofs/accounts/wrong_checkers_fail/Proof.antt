@@ -1,4 +1,4 @@
-use Rattle.paper.proofs.WrongCheckers as Theorem
+use Rattle.tried.proofs.WrongCheckers as Theorem
 use Rattle.promises.proofs.accounts.wrong_checkers_fail.Statement.{statement}
 use Rattle.promises.proofs.accounts.wrong_checkers_fail.Tie as tie
 

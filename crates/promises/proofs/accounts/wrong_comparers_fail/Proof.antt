@@ -1,4 +1,4 @@
-use Rattle.paper.proofs.WrongComparers as Theorem
+use Rattle.tried.proofs.WrongComparers as Theorem
 use Rattle.promises.proofs.accounts.wrong_comparers_fail.Statement.{statement}
 use Rattle.promises.proofs.accounts.wrong_comparers_fail.Tie as tie
 

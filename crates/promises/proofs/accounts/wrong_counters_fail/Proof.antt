@@ -1,4 +1,4 @@
-use Rattle.paper.proofs.WrongCounters as Theorem
+use Rattle.tried.proofs.WrongCounters as Theorem
 use Rattle.promises.proofs.accounts.wrong_counters_fail.Statement.{statement}
 use Rattle.promises.proofs.accounts.wrong_counters_fail.Tie as tie
 

@@ -1,4 +1,4 @@
-use Rattle.paper.proofs.WrongDrafters as Theorem
+use Rattle.tried.proofs.WrongDrafters as Theorem
 use Rattle.promises.proofs.accounts.wrong_drafters_fail.Statement.{statement}
 use Rattle.promises.proofs.accounts.wrong_drafters_fail.Tie as tie
 

@@ -1,4 +1,4 @@
-use Rattle.paper.proofs.WrongFixers as Theorem
+use Rattle.tried.proofs.WrongFixers as Theorem
 use Rattle.promises.proofs.accounts.wrong_fixers_fail.Statement.{statement}
 use Rattle.promises.proofs.accounts.wrong_fixers_fail.Tie as tie
 

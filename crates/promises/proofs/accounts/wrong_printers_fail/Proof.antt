@@ -1,4 +1,4 @@
-use Rattle.paper.proofs.WrongPrints as Theorem
+use Rattle.tried.proofs.WrongPrints as Theorem
 use Rattle.promises.proofs.accounts.wrong_printers_fail.Statement.{statement}
 use Rattle.promises.proofs.accounts.wrong_printers_fail.Tie as tie
 

@@ -1,4 +1,4 @@
-use Rattle.paper.proofs.WrongProgramsExist as Theorem
+use Rattle.tried.proofs.WrongProgramsExist as Theorem
 use Rattle.promises.proofs.accounts.wrong_programs_exist.Statement.{statement}
 use Rattle.promises.proofs.accounts.wrong_programs_exist.Tie as tie
 

@@ -1,4 +1,4 @@
-use Rattle.paper.proofs.WrongPrograms as Theorem
+use Rattle.tried.proofs.WrongPrograms as Theorem
 use Rattle.promises.proofs.accounts.wrong_programs_fail.Statement.{statement}
 use Rattle.promises.proofs.accounts.wrong_programs_fail.Tie as tie
 

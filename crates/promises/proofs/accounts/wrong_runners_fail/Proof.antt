@@ -1,4 +1,4 @@
-use Rattle.paper.proofs.WrongRunners as Theorem
+use Rattle.tried.proofs.WrongRunners as Theorem
 use Rattle.promises.proofs.accounts.wrong_runners_fail.Statement.{statement}
 use Rattle.promises.proofs.accounts.wrong_runners_fail.Tie as tie
 

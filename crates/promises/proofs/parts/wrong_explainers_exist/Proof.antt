@@ -1,4 +1,4 @@
-use Rattle.paper.proofs.WrongExplainersExist as Theorem
+use Rattle.tried.proofs.WrongExplainersExist as Theorem
 use Rattle.promises.proofs.parts.wrong_explainers_exist.Statement.{statement}
 use Rattle.promises.proofs.parts.wrong_explainers_exist.Tie as tie
 

@@ -1,4 +1,4 @@
-use Rattle.paper.proofs.WrongExplainers as Theorem
+use Rattle.tried.proofs.WrongExplainers as Theorem
 use Rattle.promises.proofs.parts.wrong_explainers_fail.Statement.{statement}
 use Rattle.promises.proofs.parts.wrong_explainers_fail.Tie as tie
 

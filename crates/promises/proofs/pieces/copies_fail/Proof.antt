@@ -1,4 +1,4 @@
-use Rattle.paper.proofs.PiecesRight as Theorem
+use Rattle.tried.proofs.WrongCopiers as Theorem
 use Rattle.promises.proofs.pieces.copies_fail.Statement.{statement}
 use Rattle.promises.proofs.pieces.copies_fail.Tie as tie
 

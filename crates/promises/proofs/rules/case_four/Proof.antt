@@ -1,4 +1,4 @@
-use Rattle.paper.proofs.CaseFour as Theorem
+use Rattle.tried.proofs.CaseFour as Theorem
 use Rattle.promises.proofs.rules.case_four.Statement.{statement}
 use Rattle.promises.proofs.rules.case_four.Tie as tie
 

@@ -1,4 +1,4 @@
-use Rattle.paper.proofs.AddressExamples as Theorem
+use Rattle.tried.proofs.AddressExamples as Theorem
 use Rattle.promises.proofs.rules.examples_of_addresses.Statement.{statement}
 use Rattle.promises.proofs.rules.examples_of_addresses.Tie as tie
 

@@ -1,4 +1,4 @@
-use Rattle.paper.proofs.AnswerExamples as Theorem
+use Rattle.tried.proofs.AnswerExamples as Theorem
 use Rattle.promises.proofs.rules.examples_of_answers.Statement.{statement}
 use Rattle.promises.proofs.rules.examples_of_answers.Tie as tie
 

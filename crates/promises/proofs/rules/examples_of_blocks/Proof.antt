@@ -1,4 +1,4 @@
-use Rattle.paper.proofs.BlockExamples as Theorem
+use Rattle.tried.proofs.BlockExamples as Theorem
 use Rattle.promises.proofs.rules.examples_of_blocks.Statement.{statement}
 use Rattle.promises.proofs.rules.examples_of_blocks.Tie as tie
 

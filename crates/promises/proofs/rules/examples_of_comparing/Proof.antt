@@ -1,4 +1,4 @@
-use Rattle.paper.proofs.CompareExamples as Theorem
+use Rattle.tried.proofs.CompareExamples as Theorem
 use Rattle.promises.proofs.rules.examples_of_comparing.Statement.{statement}
 use Rattle.promises.proofs.rules.examples_of_comparing.Tie as tie
 

@@ -1,4 +1,4 @@
-use Rattle.paper.proofs.DraftExamples as Theorem
+use Rattle.tried.proofs.DraftExamples as Theorem
 use Rattle.promises.proofs.rules.examples_of_contracts.Statement.{statement}
 use Rattle.promises.proofs.rules.examples_of_contracts.Tie as tie
 

@@ -1,4 +1,4 @@
-use Rattle.paper.proofs.CountExamples as Theorem
+use Rattle.tried.proofs.CountExamples as Theorem
 use Rattle.promises.proofs.rules.examples_of_counting.Statement.{statement}
 use Rattle.promises.proofs.rules.examples_of_counting.Tie as tie
 

@@ -1,4 +1,4 @@
-use Rattle.paper.proofs.DependenceExamples as Theorem
+use Rattle.tried.proofs.DependenceExamples as Theorem
 use Rattle.promises.proofs.rules.examples_of_dependence.Statement.{statement}
 use Rattle.promises.proofs.rules.examples_of_dependence.Tie as tie
 

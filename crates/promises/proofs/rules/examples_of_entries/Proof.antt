@@ -1,4 +1,4 @@
-use Rattle.paper.proofs.EntryExamples as Theorem
+use Rattle.tried.proofs.EntryExamples as Theorem
 use Rattle.promises.proofs.rules.examples_of_entries.Statement.{statement}
 use Rattle.promises.proofs.rules.examples_of_entries.Tie as tie
 

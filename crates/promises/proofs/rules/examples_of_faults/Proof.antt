@@ -1,4 +1,4 @@
-use Rattle.paper.proofs.FaultExamples as Theorem
+use Rattle.tried.proofs.FaultExamples as Theorem
 use Rattle.promises.proofs.rules.examples_of_faults.Statement.{statement}
 use Rattle.promises.proofs.rules.examples_of_faults.Tie as tie
 

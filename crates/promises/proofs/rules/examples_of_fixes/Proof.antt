@@ -1,4 +1,4 @@
-use Rattle.paper.proofs.FixExamples as Theorem
+use Rattle.tried.proofs.FixExamples as Theorem
 use Rattle.promises.proofs.rules.examples_of_fixes.Statement.{statement}
 use Rattle.promises.proofs.rules.examples_of_fixes.Tie as tie
 

@@ -1,4 +1,4 @@
-use Rattle.paper.proofs.InstructionExamples as Theorem
+use Rattle.tried.proofs.InstructionExamples as Theorem
 use Rattle.promises.proofs.rules.examples_of_instructions.Statement.{statement}
 use Rattle.promises.proofs.rules.examples_of_instructions.Tie as tie
 

@@ -1,4 +1,4 @@
-use Rattle.paper.proofs.KeyExamples as Theorem
+use Rattle.tried.proofs.KeyExamples as Theorem
 use Rattle.promises.proofs.rules.examples_of_key_lists.Statement.{statement}
 use Rattle.promises.proofs.rules.examples_of_key_lists.Tie as tie
 

@@ -1,4 +1,4 @@
-use Rattle.paper.proofs.BitsExamples as Theorem
+use Rattle.tried.proofs.BitsExamples as Theorem
 use Rattle.promises.proofs.rules.examples_of_lost_bits.Statement.{statement}
 use Rattle.promises.proofs.rules.examples_of_lost_bits.Tie as tie
 

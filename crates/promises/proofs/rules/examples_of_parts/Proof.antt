@@ -1,4 +1,4 @@
-use Rattle.paper.proofs.PartExamples as Theorem
+use Rattle.tried.proofs.PartExamples as Theorem
 use Rattle.promises.proofs.rules.examples_of_parts.Statement.{statement}
 use Rattle.promises.proofs.rules.examples_of_parts.Tie as tie
 

@@ -1,4 +1,4 @@
-use Rattle.paper.proofs.PrintExamples as Theorem
+use Rattle.tried.proofs.PrintExamples as Theorem
 use Rattle.promises.proofs.rules.examples_of_prints.Statement.{statement}
 use Rattle.promises.proofs.rules.examples_of_prints.Tie as tie
 

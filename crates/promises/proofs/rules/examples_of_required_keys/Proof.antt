@@ -1,4 +1,4 @@
-use Rattle.paper.proofs.RequiredExamples as Theorem
+use Rattle.tried.proofs.RequiredExamples as Theorem
 use Rattle.promises.proofs.rules.examples_of_required_keys.Statement.{statement}
 use Rattle.promises.proofs.rules.examples_of_required_keys.Tie as tie
 

@@ -1,4 +1,4 @@
-use Rattle.paper.proofs.SentenceExamples as Theorem
+use Rattle.tried.proofs.SentenceExamples as Theorem
 use Rattle.promises.proofs.rules.examples_of_sentences.Statement.{statement}
 use Rattle.promises.proofs.rules.examples_of_sentences.Tie as tie
 

@@ -1,4 +1,4 @@
-use Rattle.paper.proofs.SkipExamples as Theorem
+use Rattle.tried.proofs.SkipExamples as Theorem
 use Rattle.promises.proofs.rules.examples_of_skips.Statement.{statement}
 use Rattle.promises.proofs.rules.examples_of_skips.Tie as tie
 

@@ -1,4 +1,4 @@
-use Rattle.paper.proofs.SummaryExamples as Theorem
+use Rattle.tried.proofs.SummaryExamples as Theorem
 use Rattle.promises.proofs.rules.examples_of_summaries.Statement.{statement}
 use Rattle.promises.proofs.rules.examples_of_summaries.Tie as tie
 

@@ -1,4 +1,4 @@
-use Rattle.paper.proofs.TokenExamples as Theorem
+use Rattle.tried.proofs.TokenExamples as Theorem
 use Rattle.promises.proofs.rules.examples_of_tokens.Statement.{statement}
 use Rattle.promises.proofs.rules.examples_of_tokens.Tie as tie
 

@@ -1,4 +1,4 @@
-use Rattle.paper.proofs.TranslationExamples as Theorem
+use Rattle.tried.proofs.TranslationExamples as Theorem
 use Rattle.promises.proofs.rules.examples_of_translations.Statement.{statement}
 use Rattle.promises.proofs.rules.examples_of_translations.Tie as tie
 

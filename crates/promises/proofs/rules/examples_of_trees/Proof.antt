@@ -1,4 +1,4 @@
-use Rattle.paper.proofs.TreeExamples as Theorem
+use Rattle.tried.proofs.TreeExamples as Theorem
 use Rattle.promises.proofs.rules.examples_of_trees.Statement.{statement}
 use Rattle.promises.proofs.rules.examples_of_trees.Tie as tie
 

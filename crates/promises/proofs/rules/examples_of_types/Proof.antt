@@ -1,4 +1,4 @@
-use Rattle.paper.proofs.TypeExamples as Theorem
+use Rattle.tried.proofs.TypeExamples as Theorem
 use Rattle.promises.proofs.rules.examples_of_types.Statement.{statement}
 use Rattle.promises.proofs.rules.examples_of_types.Tie as tie
 

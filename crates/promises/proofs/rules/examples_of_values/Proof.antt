@@ -1,4 +1,4 @@
-use Rattle.paper.proofs.MeaningExamples as Theorem
+use Rattle.tried.proofs.MeaningExamples as Theorem
 use Rattle.promises.proofs.rules.examples_of_values.Statement.{statement}
 use Rattle.promises.proofs.rules.examples_of_values.Tie as tie
 

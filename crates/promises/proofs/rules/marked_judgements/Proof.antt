@@ -1,4 +1,4 @@
-use Rattle.paper.proofs.MarkedJudgements as Theorem
+use Rattle.tried.proofs.MarkedJudgements as Theorem
 use Rattle.promises.proofs.rules.marked_judgements.Statement.{statement}
 use Rattle.promises.proofs.rules.marked_judgements.Tie as tie
 

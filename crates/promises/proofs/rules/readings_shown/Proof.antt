@@ -1,4 +1,4 @@
-use Rattle.paper.proofs.Readings as Theorem
+use Rattle.tried.proofs.Readings as Theorem
 use Rattle.promises.proofs.rules.readings_shown.Statement.{statement}
 use Rattle.promises.proofs.rules.readings_shown.Tie as tie
 

@@ -1,4 +1,4 @@
-use Rattle.paper.proofs.WrongRecheckers as Theorem
+use Rattle.tried.proofs.WrongRecheckers as Theorem
 use Rattle.promises.proofs.summaries.wrong_recheckers_fail.Statement.{statement}
 use Rattle.promises.proofs.summaries.wrong_recheckers_fail.Tie as tie
 

@@ -1,8 +1,0 @@
--- The sixteen marked judgements follow from the definitions.
-use mathlib.Core.Path.{refl}
-use Rattle.paper.specs.Calls.{judgeAnswer}
-use Rattle.paper.specs.MarkedJudgements.{Marked}
-
-pub marked : Marked
-unfolding judgeAnswer
-marked = refl

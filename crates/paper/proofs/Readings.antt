@@ -1,8 +1,0 @@
--- The texts that show our readings are judged as they say.
-use mathlib.Core.Path.{refl}
-use Rattle.paper.specs.Calls.{judgeAnswer}
-use Rattle.paper.specs.Readings.{Readings}
-
-pub readings : Readings
-unfolding judgeAnswer
-readings = refl

@@ -41,22 +41,33 @@ zero-there zero i = refl
 zero-there (suc n) zero = refl
 zero-there (suc n) (suc i) = zero-there n i
 
-byte-there : (s : List ℕ) (n i : ℕ) → getD (s ++ replicate n 0) i 0 ≡ getD s i 0
-byte-there [] n i = zero-there n i
-byte-there (x ∷ s) n zero = refl
-byte-there (x ∷ s) n (suc i) = byte-there s n i
+zero-past : (s : List ℕ) (n i : ℕ) → length s ≤ i → getD (s ++ replicate n 0) i 0 ≡ 0
+zero-past [] n i h = zero-there n i
+zero-past (x ∷ s) n zero h = absurd (omega arith)
+zero-past (x ∷ s) n (suc i) h = zero-past s n i (omega arith)
+
+-- a block after the first i of these
+abbrev pub putTo : List ℕ → List ℕ → ℕ → List ℕ
+putTo code b i = paste b 4 (padded code) i
 
 module _ (code : List ℕ) (few : length code ≤ 500) where
   pub padded-length : length (padded code) ≡ 500
   padded-length = length-append code (replicate (500 - length code) 0) ∙ rw length-replicate (omega arith)
 
+  -- the code is copied, and then each zero is stored
   module _ (b : List ℕ) (size : length b ≡ 512) where
-    pub padded-on : (i : ℕ) → i < 500 → set (paste b 4 (padded code) i) (4 + i) (getD code i 0) ≡ paste b 4 (padded code) (i + 1)
-    padded-on i h =
-        ap (set (paste b 4 (padded code) i) (4 + i)) (sym (byte-there code (500 - length code) i))
-        ∙ paste-suc b 4 (padded code) i 0 (omega arith) (omega (arith, padded-length)) ∙ ap (paste b 4 (padded code)) (sym (add-one i))
+    pub put-copied : sets b 4 code ≡ putTo code b (length code)
+    put-copied =
+        stored b 4 (length code) code refl (omega arith)
+        ∙ ap (λ (s : List ℕ). take 4 b ++ s ++ drop (4 + length code) b)
+        (sym (take-at code (replicate (500 - length code) 0) (length code) refl))
 
-    pub padded-through : paste b 4 (padded code) 500 ≡ sets b 4 (padded code)
-    padded-through =
+    pub put-zero : (i : ℕ) → length code ≤ i → i < 500 → set (putTo code b i) (4 + i) 0 ≡ putTo code b (i + 1)
+    put-zero i past h =
+        ap (set (putTo code b i) (4 + i)) (sym (zero-past code (500 - length code) i past))
+        ∙ paste-suc b 4 (padded code) i 0 (omega arith) (omega (arith, padded-length)) ∙ ap (putTo code b) (sym (add-one i))
+
+    pub put-all : putTo code b 500 ≡ sets b 4 (padded code)
+    put-all =
         ap (λ (s : List ℕ). take 4 b ++ s ++ drop 504 b) (take-all 500 (padded code) (omega (arith, padded-length)))
         ∙ sym (stored b 4 500 (padded code) padded-length (omega arith))

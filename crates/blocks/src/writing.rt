@@ -1,7 +1,7 @@
 // Writing blocks: the bytes of instructions, 25 to a block, with the block's numbers and its check.
 ghost use mathlib.Core.Path.{_≡_};
 ghost use Prim.Native.Nat.{_+_, _*_, _/_, _≤_};
-ghost use lib.ListN.{length, getD};
+ghost use lib.ListN.{length};
 ghost use lib.Seq.{sets};
 ghost use Rattle.paper.specs.Numbers.{bigEndian, bytesAt};
 ghost use Rattle.paper.specs.Blocks.{blocksNeeded};
@@ -9,6 +9,7 @@ ghost use Rattle.paper.specs.Calls.{over};
 ghost use Rattle.blocks.specs.Written.{padded, codedBlock, blockAt, codedBlocks};
 use crate::fields::Block;
 use crate::sums::seal;
+use spelling::bytes;
 
 fn put_two_bytes(out: &mut [u8], at: usize, n: usize)
     requires { ⌜ at + 2 ≤ length (now out) ⌝ }
@@ -18,21 +19,15 @@ fn put_two_bytes(out: &mut [u8], at: usize, n: usize)
     out[at + 1] = (n % 256) as u8;
 }
 
-// The byte at an offset, and 0 past the end.
-fn byte_or_zero(s: &[u8], at: usize) -> u8
-    ensures { λ r. ⌜ r ≡ getD (now (s .entry)) at 0 ⌝ }
-{
-    if at < s.len() { s[at] } else { 0 }
-}
-
 // The instructions, then zeros.
 fn put_code(code: &[u8], block: &mut [u8])
     requires { ⌜ (length (now block) ≡ 512) × (length (now code) ≤ 500) ⌝ }
     ensures { λ _. ⌜ now (block .exit) ≡ sets (now (block .entry)) 4 (padded (now (code .entry))) ⌝ }
 {
-    let mut i = 0;
+    bytes::copy(code, Block::HEAD, block);
+    let mut i = code.len();
     while i < Block::CODE {
-        block[Block::HEAD + i] = byte_or_zero(code, i);
+        block[Block::HEAD + i] = 0;
         i += 1;
     }
 }

@@ -218,35 +218,38 @@ module _ {T : Tape} {n : ℕ} {once top : Bool} {op : Operator} {p : Parser} {at
                 }
 
 -- what the loop over a rung keeps, from where it begins: the nodes' number, how far it is, and whatever the rung comes to
-pub record Turned (T : Tape) (n : ℕ) (once top : Bool) (op : Operator) (p : Parser) (at b : ℕ) (start : List ℕ) (f₀ i₀ : ℕ) (nodes : List ℕ) (f i : ℕ)
+pub record Turned (T : Tape) (n : ℕ) (once top : Bool) (op : Operator) (p : Parser) (start : List ℕ) (f₀ i₀ : ℕ) (nodes : List ℕ) (f i : ℕ)
     : Type 0 where
   pub kept : length nodes ≡ length start
-  pub grown : b < f
-  pub moved : f + at ≤ i + b
+  pub some : 0 < f
+  pub used : f ≤ i
+  pub moved : i₀ ≤ i
   pub inside : i ≤ n
-  pub going : (o : Out) (before : List ℕ) → Going T n once top op p at b o before start f₀ i₀ → Going T n once top op p at b o before nodes f i
+  pub going : (at b : ℕ) (o : Out) (before : List ℕ) → Going T n once top op p at b o before start f₀ i₀ → Going T n once top op p at b o before nodes f i
 
-module _ {T : Tape} {n : ℕ} {once top : Bool} {op : Operator} {p : Parser} {at b : ℕ} where
-  pub turned-start : {o : Out} {before nodes : List ℕ} {f i : ℕ} → Took T n at b o before nodes f i → Turned T n once top op p at b nodes f i nodes f i
-  turned-start h =
+module _ {T : Tape} {n : ℕ} {once top : Bool} {op : Operator} {p : Parser} where
+  pub turned-start : {nodes : List ℕ} {f i : ℕ} → 0 < f → f ≤ i → i ≤ n → Turned T n once top op p nodes f i nodes f i
+  turned-start grown used inside =
       record {
         kept = refl;
-        grown = h .built .grown;
-        moved = h .built .moved;
-        inside = h .built .inside;
-        going = λ o before w. w;
+        some = grown;
+        used = used;
+        moved = omega arith;
+        inside = inside;
+        going = λ at b o before w. w;
       }
 
-  module _ {start nodes : List ℕ} {f₀ i₀ f i : ℕ} (w : Turned T n once top op p at b start f₀ i₀ nodes f i) where
+  module _ {start nodes : List ℕ} {f₀ i₀ f i : ℕ} (w : Turned T n once top op p start f₀ i₀ nodes f i) where
     pub turned-on : {k : ℕ} → Joining T n i op k → (top && eqb (i + 1) n) ≡ false → once ≡ false → {mid last : List ℕ} {g j : ℕ}
         → Took T n (i + 1) f (p (past T n i)) nodes mid g j → last ≡ sets mid (nodeAt g) (operatorWords (joinedKind k) (placeOn T i) (f - 1))
-        → Turned T n once top op p at b start f₀ i₀ last (g + 1) j
+        → Turned T n once top op p start f₀ i₀ last (g + 1) j
     turned-on J on many {mid} {last} {g} r put =
         record {
           kept =
               (ap length put ∙ simp length-sets) ∙ (ap length (r .built .stored) ∙ simp length-sets) ∙ w .kept;
-          grown = omega (arith, w .grown, r .built);
+          some = omega arith;
+          used = omega (arith, w .used, r .built);
           moved = omega (arith, w .moved, r .built);
           inside = r .built .inside;
-          going = λ o before v. going-on (w .going o before v) J on r put many;
+          going = λ at b o before v. going-on (w .going at b o before v) J on r put many;
         }

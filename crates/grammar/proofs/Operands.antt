@@ -2,7 +2,7 @@
 use Prim.Native.Nat.{ℕ, zero, suc, _+_, _-_, _≤_, _<_}
 use mathlib.Core.Path.{_≡_, refl, sym, ap, _∙_}
 use mathlib.Core.Bool.{false, cond}
-use mathlib.Core.Logic.{_⊎_, ⊎-elim}
+use mathlib.Core.Logic.{_⊎_, ⊎-elim, inl, inr}
 use mathlib.Core.List.{List, _∷_}
 use native.Mathlib.Omega.{arith}
 use native.Mathlib.Decide.{decLt}
@@ -215,3 +215,11 @@ module _ (l : ℕ) (some : l ≡ 0 → ⊥) (T : Tape) (n at : ℕ) where
 
   pub level-not : Finds (T .rows) n at firstPrefix lastPrefix Other → L.prefix l (onward T n at) ≡ L.atom l (onward T n at)
   level-not h = level ∙ prefix-not address _ _ T n at h (λ place us. deep place)
+
+-- where no token opens a level, it does not matter how many are left
+pub leaf-first : (l : ℕ) (T : Tape) (n at : ℕ) → Finds (T .rows) n at firstPrefix (signNo opening) Other
+    → L.prefix l (onward T n at) ≡ L.prefix 0 (onward T n at)
+leaf-first zero T n at h = refl
+leaf-first (suc l) T n at h =
+    level-not (suc l) (λ e. omega arith) T n at (λ here. ⊎-elim (λ low. inl low) (λ high. inr (omega arith)) (h here))
+    ∙ leaf-only (suc l) T n at (λ here. ⊎-elim (λ low. inl (omega arith)) (λ high. inr high) (h here))

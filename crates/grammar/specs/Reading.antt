@@ -75,6 +75,13 @@ Begins o T from before after r = Meets T (from .count) (from .token) (from .node
 abbrev pub Reads : (ℕ → Parser) → Tape → Start → List ℕ → List ℕ → Taken → Type 0
 Reads p T from before after r = Begins (λ T n at. p (from .levels) (onward T n at)) T from before after r
 
+-- an answer from a start on to which p has read a tree: to what q makes of all of it
+abbrev pub Continues : (ℕ → Parser) → (ℕ → Parser) → Tape → Start → List ℕ → List ℕ → Taken → Type 0
+Continues p q T from before after r =
+    (at b : ℕ) (first : List ℕ)
+    → Took T (from .count) at b (p (from .levels) (onward T (from .count) at)) first before (from .node) (from .token)
+    → Meets T (from .count) at b (q (from .levels) (onward T (from .count) at)) first after r
+
 -- an undotted word stands at `at`
 abbrev pub isName : Tape → ℕ → ℕ → Bool
 isName T n at = ltb at n && eqb (kindAt (T .rows) at) wordNo && undotted (slice (startAt (T .rows) at) (endAt (T .rows) at) (T .text))

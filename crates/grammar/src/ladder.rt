@@ -1,6 +1,7 @@
-// The ladder, from the loosest level to the tightest. A rung reads its first operand by the next tighter one, goes on
-// while its operator is the next token, and passes every refusal up: any number of operators, or one at most. An atom
-// starts the ladder again inside parentheses, after a token and with a level less.
+// The ladder, from the loosest level to the tightest. Whatever rung is asked for, the first operand of the tightest one
+// stands first: it is read at once, and the rungs are climbed from there. Each goes on while its operator is the next
+// token, any number of operators or one at most, reads what stands after it by the next tighter rung, and passes every
+// refusal up. An atom starts the ladder again inside parentheses, after a token and with a level less.
 //
 // All of them take the tape, where to start, and the nodes.
 ghost use mathlib.Core.Path.{_≡_};
@@ -10,7 +11,7 @@ ghost use lib.Dec.{eqb};
 ghost use lib.ListN.{length};
 ghost use Rattle.tokens.specs.Tape.{tapeOf, rowWords};
 ghost use Rattle.grammar.specs.Ladder as L;
-ghost use Rattle.grammar.specs.Reading.{Ready, Reads, Finds};
+ghost use Rattle.grammar.specs.Reading.{Ready, Reads, Continues, Finds};
 use crate::leaves::close;
 use crate::leaves::leaf;
 use crate::steps::Rung;
@@ -99,28 +100,84 @@ fn tighter(rung: Rung) -> Tighter
     }
 }
 
-// An operand of a rung.
+// How far up the ladder a rung is.
+fn height(rung: Rung) -> u8
+    ensures { λ r. ⌜ r ≡ L.height rung ⌝ }
+{
+    match rung {
+        Rung::Whole => 5,
+        Rung::Sequence => 5,
+        Rung::Implication => 4,
+        Rung::Disjunction => 3,
+        Rung::Conjunction => 2,
+        Rung::Comparison => 1,
+    }
+}
+
+// The next looser rung on the way up to another. Next to an implication that is the goal itself.
+fn looser(rung: Rung, goal: Rung) -> Rung
+    ensures { λ r. ⌜ r ≡ L.looser goal rung ⌝ }
+{
+    match rung {
+        Rung::Whole => goal,
+        Rung::Sequence => goal,
+        Rung::Implication => goal,
+        Rung::Disjunction => Rung::Implication,
+        Rung::Conjunction => Rung::Disjunction,
+        Rung::Comparison => Rung::Conjunction,
+    }
+}
+
+// An operand of a rung. What opens no level is a leaf, and read as one at once.
 fn operand(text: &[u8], tape: &[u32], rung: Rung, from: Start, nodes: &mut [u32]) -> Taken
     requires { ⌜ Ready (tapeOf (now text) (now tape)) (length (now nodes)) from ⌝ }
     ensures { λ r. ⌜ Reads (L.operandOf rung) (tapeOf (now (text .entry)) (now (tape .entry))) from (now (nodes .entry)) (now (nodes .exit)) r ⌝ }
 {
     let Tighter::Rung(next) = tighter(rung) else {
+        let Next::Is(_) = next_in(tape, from.count, from.token, NOT, OPENING) else {
+            return leaf(text, tape, from, nodes);
+        };
         return prefix(text, tape, from, nodes);
     };
     chain(text, tape, next, from, nodes)
 }
 
-// Operands with operators of a rung between them, joined from the left.
+// Operands with operators of a rung between them, joined from the left: what the tightest rung reads first is climbed
+// from, rung after rung.
 pub(crate) fn chain(text: &[u8], tape: &[u32], rung: Rung, from: Start, nodes: &mut [u32]) -> Taken
     requires { ⌜ Ready (tapeOf (now text) (now tape)) (length (now nodes)) from ⌝ }
     ensures { λ r. ⌜ Reads (L.rungOf rung) (tapeOf (now (text .entry)) (now (tape .entry))) from (now (nodes .entry)) (now (nodes .exit)) r ⌝ }
 {
-    let first = operand(text, tape, rung, from, nodes);
+    let first = operand(text, tape, Rung::Comparison, from, nodes);
     let Taken::Tree(f, i) = first else {
         return first;
     };
+    let mut level = Rung::Comparison;
     let mut past = f;
     let mut next = i;
+    loop {
+        let onward = from.moved(next, past);
+        let more = further(text, tape, level, onward, nodes);
+        let Taken::Tree(end, rest) = more else {
+            return more;
+        };
+        if height(level) == height(rung) {
+            return more;
+        }
+        level = looser(level, rung);
+        past = end;
+        next = rest;
+    }
+}
+
+// What a rung makes of its first operand, the tree before the start: it goes on while its operator is the next token.
+fn further(text: &[u8], tape: &[u32], rung: Rung, from: Start, nodes: &mut [u32]) -> Taken
+    requires { ⌜ 0 < from .node ⌝ }
+    requires { ⌜ Ready (tapeOf (now text) (now tape)) (length (now nodes)) from ⌝ }
+    ensures { λ r. ⌜ Continues (L.operandOf rung) (L.rungOf rung) (tapeOf (now (text .entry)) (now (tape .entry))) from (now (nodes .entry)) (now (nodes .exit)) r ⌝ }
+{
+    let mut past = from.node;
+    let mut next = from.token;
     loop {
         let Next::Is(sign) = operator_at(tape, rung, from.count, next) else {
             return Taken::Tree(past, next);

@@ -9,7 +9,7 @@ use lib.Seq.{sets}
 use lib.Dec.{eqb}
 use borrow.Author.Tests.{eqb-true, eqb-false}
 use Rattle.paper.specs.Answers.{Answer, ok, refused, inText}
-use Rattle.paper.specs.Tokens.{Literal, Token, Scan, octalNumeral, taken, scan, tokensFrom, tokens, mostTokens}
+use Rattle.paper.specs.Tokens.{isBlank, Literal, plain, Token, Scan, octalNumeral, taken, scan, tokensFrom, tokens, mostTokens}
 use Rattle.paper.specs.Parts.{tokenEnd}
 use Rattle.number.specs.Bases.{literalMeant}
 use Rattle.number.specs.declared.base.Literal as N
@@ -18,6 +18,7 @@ use Rattle.tokens.specs.Tape.{Tape, tapeOf, Room, rowAt, Has, rowOf, tok
 use Rattle.tokens.specs.Tokenized.{tokenizedSays, octalRefusal, Cut, SpansOn, EndsOn}
 use Rattle.tokens.specs.declared.found.Lexeme.{Lexeme}
 use Rattle.tokens.specs.declared.found.Lexeme.the-variants as F
+use Rattle.tokens.proofs.Scans.{stands-as, as-blank, blank-stands}
 use Rattle.tokens.proofs.Steps.{following, following-one, blank-step, token-step, full-step, octal-full-step, octal-step, no-step, large-step, end-step}
 use Rattle.tokens.proofs.Storing.{tokens-stored, spans-stored, ends-stored}
 
@@ -64,6 +65,11 @@ module _ (text rows : List ℕ) (n at : ℕ) (g : Going (tapeOf text rows) n at)
         placed = g .placed;
         ended = g .ended;
       }
+
+  -- a byte that is a blank by itself
+  pub going-past : isBlank (getD text at 0) ≡ true → Going (tapeOf text rows) n (at + 1)
+  going-past e =
+      going-blank (plain 0) (at + 1) (stands-as refl refl (as-blank (getD text at 0) (drop (at + 1) text) e) (blank-stands text at h))
 
   -- a slice with room has a row for the next token
   pub going-row : (size : List ℕ) → Room text size → length rows ≡ length size → n < mostTokens → Has rows n

@@ -14,6 +14,7 @@ use crate::rows::Row;
 use paper::Counted;
 use paper::Place;
 use paper::refused;
+use spelling::bytes::is_blank;
 
 pub mod fixing;
 mod found;
@@ -45,6 +46,11 @@ pub fn tokenize(text: &[u8], tape: &mut [u32]) -> Counted
     let mut n = 0;
     let mut at = 0;
     while at < text.len() {
+        // A blank needs no scan, whose answer goes through memory.
+        if is_blank(text[at]) {
+            at += 1;
+            continue;
+        }
         let scanned = scan::scan(text, at);
         let found = scanned.found;
         match found {

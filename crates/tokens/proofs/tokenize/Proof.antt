@@ -1,9 +1,9 @@
 -- `tokens::tokenize` meets its contract. The invariant of its loop (`Going`): the tokens on the tape, and those from the next byte
--- on, are the text's. What is scanned at a byte is a blank, which the loop passes over, a token, which it stores in the next row, or
--- a refusal. The measure is the number of bytes that are left: each turn takes one at least.
+-- on, are the text's. A blank is passed over at once. What is scanned at another byte is a comment, which the loop passes over, a token,
+-- which it stores in the next row, or a refusal. The measure is the number of bytes that are left: each turn takes one at least.
 use Prim.Native.Nat.{ℕ, _-_, _<_}
 use native.Mathlib.Omega.{arith}
-use mathlib.Core.Path.{_≡_, refl}
+use mathlib.Core.Path.{_≡_, refl, sym, _∙_}
 use mathlib.Core.List.{List}
 use lib.ListN.{length}
 use borrow.Author.Needs.{needs}
@@ -12,7 +12,7 @@ use Rattle.number.specs.Bases.{literalMeant}
 use Rattle.tokens.specs.Tape.{tapeOf, Has}
 use Rattle.tokens.specs.declared.found.Lexeme.{Lexeme}
 use Rattle.tokens.specs.declared.found.Lexeme.the-variants as F
-use Rattle.tokens.proofs.Going.{Here, Going, going-start, going-blank, going-row, going-token, going-full, going-octal, going-none, going-large, going-end, going-cut}
+use Rattle.tokens.proofs.Going.{Here, Going, going-start, going-blank, going-past, going-row, going-token, going-full, going-octal, going-none, going-large, going-end, going-cut}
 use Rattle.tokens.proofs.tokenize.Statement.{statement}
 use Rattle.tokens.proofs.tokenize.Tie as tie
 
@@ -22,50 +22,68 @@ Inv-loop text tape₀ n₀ at₀ tape n at = (length tape ≡ length tape₀) ×
 abbrev μ-loop : tie.MeasureT-loop
 μ-loop text tape₀ n₀ at₀ tape n at = length text - at
 
--- within the loop's body, where the next byte has been scanned
+-- within the loop's body, where it is known whether the next byte is a blank
+abbrev Asked : Type 0
+Asked = tie.After-is-blank Inv-loop μ-loop
+
+abbrev in-loop : Asked → tie.In-loop Inv-loop μ-loop
+in-loop c = c .before .before
+
+abbrev at-loop : Asked → tie.At-loop Inv-loop μ-loop
+at-loop c = in-loop c .before
+
+abbrev start : Asked → tie.Start Inv-loop μ-loop
+start c = at-loop c .before .before .before
+
+abbrev text : Asked → List ℕ
+text c = start c .args .text .now
+
+abbrev rows : Asked → List ℕ
+rows c = at-loop c .loop .tape
+
+abbrev n : Asked → ℕ
+n c = at-loop c .loop .n
+
+abbrev at : Asked → ℕ
+at c = at-loop c .loop .at
+
+going : (c : Asked) → Going (tapeOf (text c) (rows c)) (n c) (at c)
+going c = at-loop c .loop .inv .1
+
+more : (c : Asked) → at c < length (text c)
+more c = in-loop c .loop-test .taken
+
+-- a blank
+
+past-blank : tie.Need-loop-again Inv-loop μ-loop
+past-blank c =
+    let a : Asked = c .before in
+    (at-loop a .loop .inv .0, going-past (text a) (rows a) (n a) (at a) (going a) (more a) (sym (a .is-blank .ensures) ∙ c .if1 .taken))
+
+-- where another byte has been scanned
 abbrev Scanned : Type 0
 Scanned = tie.After-scan Inv-loop μ-loop
 
-abbrev at-loop : Scanned → tie.At-loop Inv-loop μ-loop
-at-loop c = c .before .before
-
-abbrev start : Scanned → tie.Start Inv-loop μ-loop
-start c = at-loop c .before .before .before
-
-abbrev text : Scanned → List ℕ
-text c = start c .args .text .now
-
-abbrev rows : Scanned → List ℕ
-rows c = at-loop c .loop .tape
-
-abbrev n : Scanned → ℕ
-n c = at-loop c .loop .n
-
-abbrev at : Scanned → ℕ
-at c = at-loop c .loop .at
+abbrev asked : Scanned → Asked
+asked c = c .before .before
 
 abbrev literal : Scanned → Literal
 literal c = literalMeant (c .scan .result .literal)
 
-going : (c : Scanned) → Going (tapeOf (text c) (rows c)) (n c) (at c)
-going c = at-loop c .loop .inv .1
-
-more : (c : Scanned) → at c < length (text c)
-more c = c .before .loop-test .taken
-
-here : (c : Scanned) (f : Lexeme) → c .scan .result .found ≡ f → Here (text c) (at c) (literal c) f
+here : (c : Scanned) (f : Lexeme) → c .scan .result .found ≡ f → Here (text (asked c)) (at (asked c)) (literal c) f
 here c f e = rw e at (c .scan .ensures)
 
--- a blank
+-- a comment
 
-blank : tie.Need-loop-again Inv-loop μ-loop
-blank c =
+comment : tie.Need-loop-again-2 Inv-loop μ-loop
+comment c =
     let scanned = c .before .before .before in
+    let a = asked scanned in
     let found = c .before .found .given in
-    (at-loop scanned .loop .inv .0, going-blank (text scanned) (rows scanned) (n scanned) (at scanned) (going scanned) (more scanned) (literal scanned) (found .0 .0) (here scanned _ (found .1)))
+    (at-loop a .loop .inv .0, going-blank (text a) (rows a) (n a) (at a) (going a) (more a) (literal scanned) (found .0 .0) (here scanned _ (found .1)))
 
-blank-taken : tie.Need-loop-less Inv-loop μ-loop
-blank-taken c =
+comment-taken : tie.Need-loop-less-2 Inv-loop μ-loop
+comment-taken c =
     let scanned = c .before .before .before in
     let h = here scanned _ (c .before .found .given .1) in
     omega (arith, h .ends)
@@ -84,27 +102,28 @@ kind c = c .before .found2 .given .0 .0
 abbrev end : Token → ℕ
 end c = c .before .found2 .given .0 .1 .0
 
-token-here : (c : Token) → Here (text (token-scanned c)) (at (token-scanned c)) (literal (token-scanned c)) (F.Token (kind c) (end c))
+token-here : (c : Token) → Here (text (asked (token-scanned c))) (at (asked (token-scanned c))) (literal (token-scanned c)) (F.Token (kind c) (end c))
 token-here c = here (token-scanned c) _ (c .before .found2 .given .1)
 
 too-many : tie.Need-returns Inv-loop μ-loop
 too-many c =
     let t : Token = c .before in
     let s = token-scanned t in
-    (going-full (text s) (rows s) (n s) (at s) (going s) (more s) (literal s) (kind t) (end t) (c .if1 .taken) (token-here t), tt)
+    let a = asked s in
+    (going-full (text a) (rows a) (n a) (at a) (going a) (more a) (literal s) (kind t) (end t) (c .if2 .taken) (token-here t), tt)
 
 -- there is a row for it
-has-row : (c : tie.Else1 Inv-loop μ-loop) → Has (rows (token-scanned (c .before))) (n (token-scanned (c .before)))
+has-row : (c : tie.Else2 Inv-loop μ-loop) → Has (rows (asked (token-scanned (c .before)))) (n (asked (token-scanned (c .before))))
 has-row c =
-    let s = token-scanned (c .before) in
-    going-row (text s) (rows s) (n s) (at s) (going s) (more s) (start s .args .tape .now) (start s .pre .1) (at-loop s .loop .inv .0)
-    (omega (arith, going s .few, c .if1 .left))
+    let a = asked (token-scanned (c .before)) in
+    going-row (text a) (rows a) (n a) (at a) (going a) (more a) (start a .args .tape .now) (start a .pre .1) (at-loop a .loop .inv .0)
+    (omega (arith, going a .few, c .if2 .left))
 
 put-fits : tie.Need-put-requires Inv-loop μ-loop
 put-fits c κs =
     let t : Token = c .before .before .before in
-    let s = token-scanned t in
-    (has-row (c .before .before), omega (arith, token-here t .ends, start s .pre .0))
+    let a = asked (token-scanned t) in
+    (has-row (c .before .before), omega (arith, token-here t .ends, start a .pre .0))
 
 -- where it was stored
 abbrev Stored : Type 0
@@ -114,17 +133,18 @@ abbrev stored-token : Stored → Token
 stored-token c = c .before .before .before .before
 
 counted : tie.Need-add-n Inv-loop μ-loop
-counted c = let s = token-scanned (stored-token (c .before .before)) in omega (arith, going s .few)
+counted c = let a = asked (token-scanned (stored-token (c .before .before))) in omega (arith, going a .few)
 
-stored : tie.Need-loop-again-2 Inv-loop μ-loop
+stored : tie.Need-loop-again-3 Inv-loop μ-loop
 stored c =
     let put : Stored = c .before .before in
     let t = stored-token put in
     let s = token-scanned t in
+    let a = asked s in
     let few = put .before .before .before in
-    (omega (arith, put .put .kept, at-loop s .loop .inv .0), going-token (text s) (rows s) (n s) (at s) (going s) (more s) _ (kind t) (end t) (s .scan .result .literal) (omega (arith, going s .few, few .if1 .left)) (has-row few) (put .put .ensures) (token-here t))
+    (omega (arith, put .put .kept, at-loop a .loop .inv .0), going-token (text a) (rows a) (n a) (at a) (going a) (more a) _ (kind t) (end t) (s .scan .result .literal) (omega (arith, going a .few, few .if2 .left)) (has-row few) (put .put .ensures) (token-here t))
 
-token-taken : tie.Need-loop-less-2 Inv-loop μ-loop
+token-taken : tie.Need-loop-less-3 Inv-loop μ-loop
 token-taken c = let t = stored-token (c .before .before) in omega (arith, token-here t .ends)
 
 -- an octal numeral
@@ -132,26 +152,30 @@ token-taken c = let t = stored-token (c .before .before) in omega (arith, token-
 octal : tie.Need-returns-2 Inv-loop μ-loop
 octal c =
     let s = c .before .before .before in
+    let a = asked s in
     let found = here s _ (c .before .enum-told .given .1) in
-    rw (c .octal-refused .ensures) (going-octal (text s) (rows s) (n s) (at s) (going s) (more s) _ _ (found .says .is), tt)
+    rw (c .octal-refused .ensures) (going-octal (text a) (rows a) (n a) (at a) (going a) (more a) _ _ (found .says .is), tt)
 
 octal-too-large : tie.Need-returns-3 Inv-loop μ-loop
 octal-too-large c =
     let s = c .before .before .before in
+    let a = asked s in
     let found = here s _ (c .before .enum-told2 .given .1) in
-    rw (c .octal-refused2 .ensures) (going-octal (text s) (rows s) (n s) (at s) (going s) (more s) _ _ (found .says .is), tt)
+    rw (c .octal-refused2 .ensures) (going-octal (text a) (rows a) (n a) (at a) (going a) (more a) _ _ (found .says .is), tt)
 
 -- no token
 
 no-token : tie.Need-returns-4 Inv-loop μ-loop
 no-token c =
     let s = c .before .before in
-    (going-none (text s) (rows s) (n s) (at s) (going s) (more s) (literal s) (here s _ (c .enum-told3 .given .1)), tt)
+    let a = asked s in
+    (going-none (text a) (rows a) (n a) (at a) (going a) (more a) (literal s) (here s _ (c .enum-told3 .given .1)), tt)
 
 too-large : tie.Need-returns-5 Inv-loop μ-loop
 too-large c =
     let s = c .before .before in
-    (going-large (text s) (rows s) (n s) (at s) (going s) (more s) (literal s) (here s _ (c .enum-told4 .given .1)), tt)
+    let a = asked s in
+    (going-large (text a) (rows a) (n a) (at a) (going a) (more a) (literal s) (here s _ (c .enum-told4 .given .1)), tt)
 
 -- the end
 
@@ -167,10 +191,15 @@ tokenize-spec =
     Inv-loop
     μ-loop
     (λ c. (refl, going-start _))
+    (λ c. search needs)
+    (λ c κs. search needs)
+    (λ c. let a : Asked = c .before in omega (arith, more a, start a .pre .0))
+    (λ c. let a : Asked = c .before in omega (arith, more a))
+    past-blank
     (λ c κs. search needs)
     (λ c. search needs)
-    blank-taken
-    blank
+    comment-taken
+    comment
     (λ c. search needs)
     (λ c. search needs)
     too-many

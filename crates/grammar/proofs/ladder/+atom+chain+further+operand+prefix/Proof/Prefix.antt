@@ -7,8 +7,8 @@ use Rattle.grammar.specs.Ladder as L
 use Rattle.grammar.proofs.Outcomes.{took-on, found, absent, pass-up, same-out, ready-on, started, has-row}
 use Rattle.grammar.proofs.Operands.{level-up, level-took, level-not}
 use Rattle.grammar.proofs.ladder.prefix.Reads as prefix
-use Rattle.grammar.proofs.ladder.+atom+chain+operand+prefix.Lts-prefix as lts
-use Rattle.grammar.proofs.ladder.+atom+chain+operand+prefix.Proof.Common.{prefix-at, prefix-calls}
+use Rattle.grammar.proofs.ladder.+atom+chain+further+operand+prefix.Lts-prefix as lts
+use Rattle.grammar.proofs.ladder.+atom+chain+further+operand+prefix.Proof.Common.{prefix-at, prefix-calls}
 
 module _ (t : ℕ) where
   no-level : lts.Need-returns (prefix-calls t) (prefix-at t) prefix.Post

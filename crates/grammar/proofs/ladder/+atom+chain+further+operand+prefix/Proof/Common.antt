@@ -1,31 +1,31 @@
 -- The measures, and what each function of the ladder is given and asks.
 use Prim.Native.Nat.{ℕ, _+_, _*_, _-_, _<_}
-use native.Mathlib.Omega.{arith}
-use mathlib.Core.Path.{_≡_, subst}
 use borrow.Fn.Kinds.{In}
 use borrow.Fn.PlainCycle.{Measures, is, falls, and}
 use Rattle.tokens.specs.Tape.{tapeOf}
-use Rattle.grammar.specs.declared.steps.Rung.{Rung}
-use Rattle.grammar.specs.declared.steps.Rung.the-variants as R
 use Rattle.grammar.specs.declared.steps.Start.{Start}
-use Rattle.grammar.specs.declared.steps.Tighter.{Tighter}
-use Rattle.grammar.specs.declared.steps.Tighter.the-variants as T
 use Rattle.grammar.specs.Ladder as L
 use Rattle.grammar.proofs.Levels.{Turned}
+use Rattle.grammar.proofs.Climbing.{Climbed}
 use Rattle.grammar.proofs.ladder.atom.Reads as atom
 use Rattle.grammar.proofs.ladder.atom.Kinds as atom-kinds
-use Rattle.grammar.proofs.ladder.+atom+chain+operand+prefix.Lts-atom as atom-lts
+use Rattle.grammar.proofs.ladder.+atom+chain+further+operand+prefix.Lts-atom as atom-lts
 use Rattle.grammar.proofs.ladder.chain.Reads as chain
 use Rattle.grammar.proofs.ladder.chain.Kinds as chain-kinds
-use Rattle.grammar.proofs.ladder.+atom+chain+operand+prefix.Lts-chain as chain-lts
+use Rattle.grammar.proofs.ladder.+atom+chain+further+operand+prefix.Lts-chain as chain-lts
+use Rattle.grammar.proofs.ladder.further.Reads as further
+use Rattle.grammar.proofs.ladder.further.Kinds as further-kinds
+use Rattle.grammar.proofs.ladder.+atom+chain+further+operand+prefix.Lts-further as further-lts
 use Rattle.grammar.proofs.ladder.operand.Reads as operand
 use Rattle.grammar.proofs.ladder.operand.Kinds as operand-kinds
-use Rattle.grammar.proofs.ladder.+atom+chain+operand+prefix.Lts-operand as operand-lts
+use Rattle.grammar.proofs.ladder.+atom+chain+further+operand+prefix.Lts-operand as operand-lts
 use Rattle.grammar.proofs.ladder.prefix.Reads as prefix
 use Rattle.grammar.proofs.ladder.prefix.Kinds as prefix-kinds
-use Rattle.grammar.proofs.ladder.+atom+chain+operand+prefix.Lts-prefix as prefix-lts
+use Rattle.grammar.proofs.ladder.+atom+chain+further+operand+prefix.Lts-prefix as prefix-lts
 use Rattle.grammar.proofs.ladder.at_most_once.Reads as at-most-once-reads
 use Rattle.grammar.proofs.ladder.ends_after.Reads as ends-after-reads
+use Rattle.grammar.proofs.ladder.height.Reads as height-reads
+use Rattle.grammar.proofs.ladder.looser.Reads as looser-reads
 use Rattle.grammar.proofs.ladder.operator_at.Reads as operator-at-reads
 use Rattle.grammar.proofs.ladder.tighter.Reads as tighter-reads
 use Rattle.grammar.proofs.leaves.close.Reads as close-reads
@@ -38,39 +38,6 @@ use Rattle.grammar.proofs.tape.next_in.Reads as next-in-reads
 
 -- the measure: sixteen for each token that is left, and how far up the ladder a function is
 
-abbrev pub height : Rung → ℕ
-height R.Whole = 5
-height R.Sequence = 5
-height R.Implication = 4
-height R.Disjunction = 3
-height R.Conjunction = 2
-height R.Comparison = 1
-
--- the next tighter rung is lower, and every one is above a prefix operator
-
-abbrev Lower : Tighter → ℕ → Type 0
-Lower (T.Rung rung) h = height rung < h
-Lower T.Prefix h = Unit {0}
-
-lower : (rung : Rung) → Lower (L.tighter rung) (height rung)
-lower R.Whole = omega arith
-lower R.Sequence = omega arith
-lower R.Implication = omega arith
-lower R.Disjunction = omega arith
-lower R.Conjunction = omega arith
-lower R.Comparison = tt
-
-pub tighter-lower : (rung next : Rung) → L.tighter rung ≡ T.Rung next → height next < height rung
-tighter-lower rung next e = subst (λ (x : Tighter). Lower x (height rung)) e (lower rung)
-
-pub some-height : (rung : Rung) → 0 < height rung
-some-height R.Whole = omega arith
-some-height R.Sequence = omega arith
-some-height R.Implication = omega arith
-some-height R.Disjunction = omega arith
-some-height R.Conjunction = omega arith
-some-height R.Comparison = omega arith
-
 abbrev pub left : Start → ℕ
 left from = (from .count - from .token) * 16
 
@@ -81,10 +48,13 @@ abbrev pub μ-prefix : Measures 3 prefix-kinds.ps ℕ
 μ-prefix κs a = left (a .1 .1 .0) + 1
 
 abbrev pub μ-operand : Measures 3 operand-kinds.ps ℕ
-μ-operand κs a = left (a .1 .1 .1 .0) + 2 * height (a .1 .1 .0)
+μ-operand κs a = left (a .1 .1 .1 .0) + 2 * L.height (a .1 .1 .0)
 
 abbrev pub μ-chain : Measures 3 chain-kinds.ps ℕ
-μ-chain κs a = left (a .1 .1 .1 .0) + 2 * height (a .1 .1 .0) + 1
+μ-chain κs a = left (a .1 .1 .1 .0) + 2 * L.height (a .1 .1 .0) + 1
+
+abbrev pub μ-further : Measures 3 further-kinds.ps ℕ
+μ-further κs a = left (a .1 .1 .1 .0)
 
 -- what is asked of a call where the measure is t, and of a call from there
 
@@ -112,6 +82,12 @@ chain-at t = and 3 chain-kinds.ps (is 3 chain-kinds.ps μ-chain t) chain.Pre
 abbrev pub chain-below : ℕ → In 3 chain-kinds.ps
 chain-below t = and 3 chain-kinds.ps (falls 3 chain-kinds.ps _<_ μ-chain t) chain.Pre
 
+abbrev pub further-at : ℕ → In 3 further-kinds.ps
+further-at t = and 3 further-kinds.ps (is 3 further-kinds.ps μ-further t) further.Pre
+
+abbrev pub further-below : ℕ → In 3 further-kinds.ps
+further-below t = and 3 further-kinds.ps (falls 3 further-kinds.ps _<_ μ-further t) further.Pre
+
 -- the contracts of the functions that each calls
 
 abbrev pub atom-calls : ℕ → atom-lts.Claims
@@ -121,16 +97,28 @@ abbrev pub prefix-calls : ℕ → prefix-lts.Claims
 prefix-calls t = (leaf-reads.Asked, leaf-reads.Learnt, next-in-reads.Asked, next-in-reads.Learnt, atom-below t, atom.Post, inside-reads.Asked, inside-reads.Learnt, prefix-below t, prefix.Post, put-prefixed-reads.Asked, put-prefixed-reads.Learnt)
 
 abbrev pub operand-calls : ℕ → operand-lts.Claims
-operand-calls t = (tighter-reads.Asked, tighter-reads.Learnt, prefix-below t, prefix.Post, chain-below t, chain.Post)
+operand-calls t = (tighter-reads.Asked, tighter-reads.Learnt, next-in-reads.Asked, next-in-reads.Learnt, leaf-reads.Asked, leaf-reads.Learnt, prefix-below t, prefix.Post, chain-below t, chain.Post)
 
 abbrev pub chain-calls : ℕ → chain-lts.Claims
-chain-calls t = (operand-below t, operand.Post, operator-at-reads.Asked, operator-at-reads.Learnt, ends-after-reads.Asked, ends-after-reads.Learnt, moved-reads.Asked, moved-reads.Learnt, put-joined-reads.Asked, put-joined-reads.Learnt, at-most-once-reads.Asked, at-most-once-reads.Learnt)
+chain-calls t = (operand-below t, operand.Post, moved-reads.Asked, moved-reads.Learnt, further-below t, further.Post, height-reads.Asked, height-reads.Learnt, looser-reads.Asked, looser-reads.Learnt)
 
--- the invariant of the loop of `chain`, and its measure: the tokens that are left
+abbrev pub further-calls : ℕ → further-lts.Claims
+further-calls t = (operator-at-reads.Asked, operator-at-reads.Learnt, ends-after-reads.Asked, ends-after-reads.Learnt, moved-reads.Asked, moved-reads.Learnt, operand-below t, operand.Post, put-joined-reads.Asked, put-joined-reads.Learnt, at-most-once-reads.Asked, at-most-once-reads.Learnt)
+
+-- the invariant of the loop of `chain`, and its measure: the rungs up to the goal
 
 abbrev pub chain-Inv-loop : chain-lts.InvT-loop
-chain-Inv-loop text tape rung from nodes₀ f i past₀ next₀ nodes past next =
-    Turned (tapeOf text tape) (from .count) (L.atMostOnce rung) (L.mayEnd rung) (L.operators rung) (L.operandOf rung (from .levels)) (from .token) (from .node) nodes₀ past₀ next₀ nodes past next
+chain-Inv-loop text tape rung from nodes₀ f i level₀ past₀ next₀ nodes level past next =
+    Climbed (tapeOf text tape) (from .count) (from .levels) rung (from .token) (from .node) nodes₀ past₀ next₀ nodes level past next
 
 abbrev pub chain-μ-loop : chain-lts.MeasureT-loop
-chain-μ-loop text tape rung from nodes₀ f i past₀ next₀ nodes past next = from .count - next
+chain-μ-loop text tape rung from nodes₀ f i level₀ past₀ next₀ nodes level past next = L.height rung - L.height level
+
+-- the invariant of the loop of `further`, and its measure: the tokens that are left
+
+abbrev pub further-Inv-loop : further-lts.InvT-loop
+further-Inv-loop text tape rung from nodes₀ past₀ next₀ nodes past next =
+    Turned (tapeOf text tape) (from .count) (L.atMostOnce rung) (L.mayEnd rung) (L.operators rung) (L.operandOf rung (from .levels)) nodes₀ past₀ next₀ nodes past next
+
+abbrev pub further-μ-loop : further-lts.MeasureT-loop
+further-μ-loop text tape rung from nodes₀ past₀ next₀ nodes past next = from .count - next

@@ -8,8 +8,8 @@ use Rattle.grammar.specs.Ladder as L
 use Rattle.grammar.proofs.Outcomes.{took-on, found, absent, pass-up, same-out, ready-on, started}
 use Rattle.grammar.proofs.Operands.{paren-up, paren-close, leaf-only}
 use Rattle.grammar.proofs.ladder.atom.Reads as atom
-use Rattle.grammar.proofs.ladder.+atom+chain+operand+prefix.Lts-atom as lts
-use Rattle.grammar.proofs.ladder.+atom+chain+operand+prefix.Proof.Common.{atom-at, atom-calls}
+use Rattle.grammar.proofs.ladder.+atom+chain+further+operand+prefix.Lts-atom as lts
+use Rattle.grammar.proofs.ladder.+atom+chain+further+operand+prefix.Proof.Common.{atom-at, atom-calls}
 
 module _ (t : ℕ) where
   -- where "(" has been looked for; and from there what the function was given

@@ -10,7 +10,7 @@ ghost use Rattle.operands.specs.Conforming.{Conforming};
 ghost use Rattle.trees.specs.Standing.{treeAt};
 ghost use Rattle.trees.specs.Marks.{Marked};
 ghost use Rattle.judging.specs.Holding.{treeHolds};
-use crate::walk;
+use crate::truth;
 
 // Whether the tree at a node, which has the right types, is true on an entry.
 pub fn holds(list: &[u8], entry: &[u8], nodes: &[u32], at: usize) -> bool
@@ -19,6 +19,5 @@ pub fn holds(list: &[u8], entry: &[u8], nodes: &[u32], at: usize) -> bool
         → Marked (keysIn (now (list .entry))) text (now (nodes .entry)) (at + 1)
         → r ≡ treeHolds text (now (list .entry)) (now (entry .entry)) (now (nodes .entry)) at) ⌝ }
 {
-    let worth = walk::value_at(list, entry, nodes, at);
-    worth.is_true()
+    truth::truth_at(list, entry, nodes, at)
 }

@@ -2,7 +2,6 @@
 use Prim.Native.Nat.{ℕ}
 use mathlib.Core.Path.{_≡_, sym, _∙_, ap}
 use mathlib.Core.Bool.{Bool}
-use mathlib.Core.Option.{some}
 use mathlib.Core.List.{List}
 use Rattle.paper.specs.declared.Place.{Place}
 use Rattle.paper.specs.declared.Counted.{Counted}
@@ -12,16 +11,15 @@ use Rattle.paper.specs.declared.Checking.the-variants as C
 use Rattle.paper.specs.Answers.{ok, refused, _>>=_, inputOf, offsetOf, checkingSays}
 use Rattle.paper.specs.Grammar as G
 use Rattle.paper.specs.Entry.{entryOf}
-use Rattle.paper.specs.Meaning.{Value, valueOf, isTrue}
+use Rattle.paper.specs.Meaning.{valueOf, isTrue}
 use Rattle.paper.specs.Calls.{judgeAnswer}
 use Rattle.keys.specs.Says.{keysIn, conforms}
 use Rattle.keys.proofs.Conforming as K
-use Rattle.values.specs.Held.{Is}
-use Rattle.operands.specs.Conforming.{entryIn, Conforming}
+use Rattle.operands.specs.Conforming.{Conforming}
 use Rattle.trees.specs.Standing.{treeAt}
 use Rattle.reading.specs.Restricted.{Rooted, Restricts}
 use Rattle.reading.proofs.Stages.{not-restricted}
-use Rattle.judging.proofs.Truths.{truth-told}
+use Rattle.judging.specs.Holding.{treeHolds}
 
 module _ (text list entry : List ℕ) where
   pub not-passed : (nodes : List ℕ) (r : Counted) → Restricts text list nodes r
@@ -44,9 +42,6 @@ module _ (text list entry : List ℕ) where
       pub conforming : x ≡ C.Passed → Conforming list entry
       conforming e = record { listed = r .listed; entered = K.entered (keysIn list) entry (sym says ∙ ap checkingSays e) }
 
-    -- the tree has a value on an entry that conforms, and that is a truth
-    pub judged-by : Conforming list entry → (v : Value) (b : Bool) → Is (valueOf (keysIn list) (entryIn list entry) root) v → b ≡ isTrue (some v)
-        → ok b ≡ judgeAnswer text list entry
-    judged-by good v b i t =
-        let f : b ≡ isTrue (valueOf (keysIn list) (entryIn list entry) root) = t ∙ truth-told list entry root (r .typed .checked) v i in
-        sym (by-entry ∙ rw (good .entered, f))
+    -- the judgement is whether the tree is true on an entry that conforms
+    pub judged-by : Conforming list entry → (b : Bool) → b ≡ treeHolds text list entry nodes k → ok b ≡ judgeAnswer text list entry
+    judged-by good b told = sym (by-entry ∙ rw (good .entered, told))

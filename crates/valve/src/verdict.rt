@@ -27,8 +27,7 @@ pub(crate) fn judge_entered(list: &[u8], entry: &[u8], nodes: &[u32], root: usiz
     requires { ⌜ Conforming (now list) (now entry) ⌝ }
     ensures { λ r. ⌜ ((text : List ℕ) → Rooted text (now (list .entry)) (now (nodes .entry)) root → JudgePromised text (now (list .entry)) (now (entry .entry)) r) ⌝ }
 {
-    let worth = judging::value_at(list, entry, nodes, root);
-    verdict(worth.is_true())
+    verdict(judging::holds(list, entry, nodes, root))
 }
 
 // The same of any entry: 19; 20; and what the tree is worth on it.

@@ -2,11 +2,11 @@
 use Prim.Native.Nat.{ℕ, zero, suc, _<_, suc-le-suc}
 use native.Mathlib.Nat.{not-suc-le-zero, le-of-suc-le-suc}
 use native.Mathlib.Omega.{arith}
-use mathlib.Core.Path.{_≡_, refl, subst}
+use mathlib.Core.Path.{_≡_, refl, ap₂, subst}
 use mathlib.Core.Logic.{_⊎_, inl, inr}
 use mathlib.Core.Bool.{Bool, true, false, _&&_, and-eq-true-iff}
 use mathlib.Core.Option.{Option, none, some, Option·map, Option·none-ne-some}
-use mathlib.Core.List.{List, [], _∷_, _++_}
+use mathlib.Core.List.{List, [], _∷_, _++_, map}
 use lib.ListN.{length, getD, getElem?}
 use Rattle.paper.specs.Types.{when, andThen}
 use Rattle.paper.specs.BlocksRoundTrip.{All}
@@ -76,3 +76,14 @@ pub all-some : {A : Type 0} (P : A → Type 0) (xs : List A) (i : ℕ) (x : A) �
 all-some P [] i x h e = absurd (Option·none-ne-some x e)
 all-some P (y ∷ xs) zero x h e = let same : y ≡ x = cc in subst P same (h .0)
 all-some P (y ∷ xs) (suc i) x h e = all-some P xs i x (h .1) e
+
+-- one of a list that is mapped, and two maps that agree on each
+
+pub map-at : {A B : Type 0} (f : A → B) (xs : List A) (i : ℕ) (a : A) (b : B) → i < length xs → getD (map f xs) i b ≡ f (getD xs i a)
+map-at f [] i a b l = absurd (not-suc-le-zero l)
+map-at f (x ∷ xs) zero a b l = refl
+map-at f (x ∷ xs) (suc i) a b l = map-at f xs i a b (le-of-suc-le-suc l)
+
+pub map-same : {A B : Type 0} (P : A → Type 0) (f g : A → B) → ((a : A) → P a → f a ≡ g a) → (xs : List A) → All P xs → map f xs ≡ map g xs
+map-same P f g same [] h = refl
+map-same {B = B} P f g same (x ∷ xs) h = ap₂ (λ (y : B) (ys : List B). y ∷ ys) (same x (h .0)) (map-same P f g same xs (h .1))

@@ -25,16 +25,18 @@ use Rattle.paper.specs.Fixing.{fixAnswer, fixingSays}
 use Rattle.paper.specs.Drafting.{nameRule, draftAnswer, draftingSays}
 use Rattle.paper.specs.Comparing.{compareAnswer, agreementSays}
 use Rattle.paper.specs.Counting.{countAnswer, countingSays}
-use Rattle.paper.specs.Table.{Clear, ByTable, Stage, sizeStages, listStagesBy, listStages, treeStages, entryStages, entriesStages, blockStages, bufferStages, printingStages, fixingStages, draftingStages, checkStages, readStages, judgeStages, translateStages, loadStages, runStages, printStages, fixStages, draftStages, compareStages, countStages}
-use Rattle.paper.specs.Promised.{ReadPromised, CheckPromised, JudgePromised, TranslateResult, TranslatePromised, LoadPromised, RunPromised, PrintResult, PrintPromised, FixResult, FixPromised, DraftResult, DraftPromised, ComparePromised, CountResult, CountPromised, ExplainPromised, SummarizePromised, RecheckPromised}
-use Rattle.paper.specs.Demands.{Lent, lent, Refusal, Answered, ReadAnswered, CheckAnswered, EntryAnswered, JudgeAnswered, TranslateAnswered, LoadAnswered, RunAnswered, PrintAnswered, FixAnswered, DraftAnswered, CompareAnswered, CountAnswered, ExplainAnswered, SummarizeAnswered, RecheckAnswered, DemandOneMet}
+use Rattle.paper.specs.RunAll.{runAllAnswer, runningAllSays}
+use Rattle.paper.specs.Table.{Clear, ByTable, Stage, sizeStages, listStagesBy, listStages, treeStages, entryStages, entriesStages, tableStages, blockStages, bufferStages, printingStages, fixingStages, draftingStages, checkStages, readStages, judgeStages, translateStages, loadStages, runStages, printStages, fixStages, draftStages, compareStages, countStages, runAllStages}
+use Rattle.paper.specs.Promised.{ReadPromised, CheckPromised, JudgePromised, TranslateResult, TranslatePromised, LoadPromised, RunPromised, PrintResult, PrintPromised, FixResult, FixPromised, DraftResult, DraftPromised, ComparePromised, CountResult, CountPromised, RunAllResult, RunAllPromised, ExplainPromised, SummarizePromised, RecheckPromised}
+use Rattle.paper.specs.Demands.{Lent, lent, Refusal, Answered, ReadAnswered, CheckAnswered, EntryAnswered, JudgeAnswered, TranslateAnswered, LoadAnswered, RunAnswered, PrintAnswered, FixAnswered, DraftAnswered, CompareAnswered, CountAnswered, RunAllAnswered, ExplainAnswered, SummarizeAnswered, RecheckAnswered, DemandOneMet}
 use Rattle.paper.proofs.TranslationCorrect.{refused-unchanged}
-use Rattle.paper.proofs.RefusalsLocated.{AllLocated, LiesIn, located-then, decided-lies, size-located, list-located-by, list-located, tree-located, check-located, buffer-located, block-located, entry-located, entries-located, printing-located, fixing-located, drafting-located}
+use Rattle.paper.proofs.RefusalsLocated.{AllLocated, LiesIn, located-then, decided-lies, size-located, list-located-by, list-located, tree-located, check-located, buffer-located, block-located, entry-located, entries-located, table-located, printing-located, fixing-located, drafting-located}
 use Rattle.paper.proofs.Table.{table-holds}
 use Rattle.paper.proofs.PrintDemands.{print-unchanged}
 use Rattle.paper.proofs.FixDemands.{fix-unchanged}
 use Rattle.paper.proofs.DraftDemands.{draft-unchanged}
 use Rattle.paper.proofs.CountedRight.{count-unchanged}
+use Rattle.paper.proofs.RunAllPassed.{run-all-unchanged}
 use Rattle.paper.proofs.ExplainedRight.{explained-as-judged, judge-passes}
 use Rattle.paper.proofs.RecheckedRight.{reused-exactly}
 use Rattle.paper.proofs.Promised.{judgement-same}
@@ -193,6 +195,21 @@ count-answered text list entries numbers r promised =
           ∙ count-unchanged text list entries numbers n (inputOf at) (offsetOf at) (sym (promised .says) ∙ ap countingSays e);
     }
 
+pub run-all-answered : (list blocks entries answers : List ℕ) (r : RunAllResult) → RunAllPromised list blocks entries answers r
+    → RunAllAnswered list blocks entries answers r
+run-all-answered list blocks entries answers r promised =
+    let inputs = lent inList list ∷ lent inBlocks blocks ∷ lent inEntry entries ∷ lent inBuffer answers ∷ [] in
+    record {
+      says =
+          answered-by inputs (runAllAnswer list blocks entries answers) (runningAllSays (r .answer)) (runAllStages list blocks entries answers)
+          (table-holds .runAll list blocks entries answers)
+          (located-then inputs (loadStages list blocks) (tableStages list entries answers) (load-located inputs list blocks here second)
+          (λ _. table-located inputs list entries answers third fourth)) (promised .says);
+      unchanged = λ n at e.
+          promised .holds
+          ∙ run-all-unchanged list blocks entries answers n (inputOf at) (offsetOf at) (sym (promised .says) ∙ ap runningAllSays e);
+    }
+
 pub summarize-answered : (text list : List ℕ) (r : Summarizing) → SummarizePromised text list r → SummarizeAnswered text list r
 summarize-answered text list r promised =
     let inputs = lent inText text ∷ lent inList list ∷ [] in
@@ -251,4 +268,6 @@ demand-one-met p kept =
       compare = λ text list blocks t l s. compare-answered text list blocks (p .compare text list blocks) (kept .compare text list blocks t l s);
       count = λ text list entries numbers t l e n.
           count-answered text list entries numbers (p .count text list entries numbers) (kept .count text list entries numbers t l e n);
+      runAll = λ list blocks entries answers l s e a.
+          run-all-answered list blocks entries answers (p .runAll list blocks entries answers) (kept .runAll list blocks entries answers l s e a);
     }

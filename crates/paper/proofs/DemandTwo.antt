@@ -21,6 +21,8 @@ use Rattle.paper.specs.declared.Agreement.{Agreement}
 use Rattle.paper.specs.declared.Agreement.the-variants as A
 use Rattle.paper.specs.declared.Counting.{Counting}
 use Rattle.paper.specs.declared.Counting.the-variants as E
+use Rattle.paper.specs.declared.RunningAll.{RunningAll}
+use Rattle.paper.specs.declared.RunningAll.the-variants as U
 use Rattle.paper.specs.declared.Explanation.{Explanation}
 use Rattle.paper.specs.declared.Summarizing.{Summarizing}
 use Rattle.paper.specs.declared.Summarizing.the-variants as S
@@ -45,8 +47,9 @@ use Rattle.paper.specs.TranslationCorrect.{verdictOf}
 use Rattle.paper.specs.Comparing.{compareAnswer, agreementSays, agreement}
 use Rattle.paper.specs.ComparedRight as Q
 use Rattle.paper.specs.Counting.{wholeIn, mostEntries, counted as countsThere, Totals, totalsOf, countAnswer, noted, countNumbers, countingSays}
-use Rattle.paper.specs.Promised.{verdict, judgementOfRun, Bytes, Programs, Kept, ComparePromised, CountResult, CountPromised, ReadPromised, CheckPromised, JudgePromised, TranslateResult, TranslatePromised, ExplainPromised, SummarizePromised, RecheckPromised}
-use Rattle.paper.specs.Demands.{Checkable, Judgeable, Refuses, ReadRight, CheckedRight, JudgedRight, TranslatedRight, Comparable, CompareRight, AgreementMeans, Countable, countsIn, CountRight, ExplainRight, SummarizeRight, judgementIn, RecheckRight, DemandTwoMet}
+use Rattle.paper.specs.RunAll.{AllRan, allRan, ranAll, runAllAnswer, answered, runAllBytes, runningAllSays}
+use Rattle.paper.specs.Promised.{verdict, judgementOfRun, Bytes, Programs, Kept, ComparePromised, CountResult, CountPromised, RunAllResult, RunAllPromised, ReadPromised, CheckPromised, JudgePromised, TranslateResult, TranslatePromised, ExplainPromised, SummarizePromised, RecheckPromised}
+use Rattle.paper.specs.Demands.{Checkable, Judgeable, Refuses, ReadRight, CheckedRight, JudgedRight, TranslatedRight, Comparable, CompareRight, AgreementMeans, Countable, countsIn, CountRight, AllRunnable, verdictsIn, RunAllRight, ExplainRight, SummarizeRight, judgementIn, RecheckRight, DemandTwoMet}
 use Rattle.paper.proofs.Stages.{never-ok, ok-same, bind-ok, require-ok}
 use Rattle.paper.proofs.LoadedBlocksRun.{conforming}
 use Rattle.paper.proofs.TypeSoundness.{judged, bool-root}
@@ -62,6 +65,7 @@ use Rattle.paper.proofs.ExplainedRight.{explained-is-right}
 use Rattle.paper.proofs.RecheckedRight.{summary, summary-there, summarizes, reused-exactly, fresh-if-true}
 use Rattle.paper.proofs.Compared.{agrees-exactly, compared, comparable, agreement-means-equal}
 use Rattle.paper.proofs.CountedRight.{counted-from, counted-there}
+use Rattle.paper.proofs.RunAllPassed.{all-runnable, ran-all}
 use Rattle.paper.proofs.DemandOne.{recheck-judged}
 
 -- with a list, it passes a check: this is its restriction
@@ -368,6 +372,42 @@ module _ (text list entries : List ℕ) where
         written = λ c. promised .holds ∙ countable-numbers numbers c;
       }
 
+-- a table: of blocks that load, whole entries, and answers for all of them
+
+module _ (list blocks entries answers : List ℕ) where
+  abbrev CanRun : Type 0
+  CanRun = AllRunnable list blocks entries answers
+
+  runnable-totals : (j : CanRun) → runAllAnswer list blocks entries answers ≡ ok (allRan (verdictsIn list blocks entries answers j))
+  unfolding runAllAnswer
+  runnable-totals j = ap (λ x. x >>= λ v. ok (allRan v)) (ran-all list blocks entries answers j)
+
+  runnable-bytes : (j : CanRun) → runAllBytes list blocks entries answers ≡ over (verdictsIn list blocks entries answers j .bytes) answers
+  unfolding runAllBytes
+  runnable-bytes j = ap (λ x. answered x answers) (ran-all list blocks entries answers j)
+
+  totals-runnable : (a : AllRan) → runAllAnswer list blocks entries answers ≡ ok a → CanRun
+  unfolding runAllAnswer
+  totals-runnable a e =
+      let (v, there, _) = bind-ok (ranAll list blocks entries answers) (λ v. ok (allRan v)) a e in
+      all-runnable list blocks entries answers v there .0
+
+  refused-unless : (a : RunningAll) → runningAllSays a ≡ runAllAnswer list blocks entries answers → ¬ CanRun
+      → (n : ℕ) × (at : Place) × (a ≡ U.Refused n at)
+  refused-unless (U.Ran n s) says unfit = absurd (unfit (totals-runnable _ (sym says)))
+  refused-unless (U.Refused n at) says unfit = (n, at, refl)
+
+  pub run-all-right : (r : RunAllResult) → RunAllPromised list blocks entries answers r → RunAllRight list blocks entries answers r
+  run-all-right r promised =
+      record {
+        refuses = (
+          λ (n, at, e) j. never-ok (sym (ap runningAllSays e) ∙ promised .says ∙ runnable-totals j),
+          refused-unless (r .answer) (promised .says),
+        );
+        totals = λ j. promised .says ∙ runnable-totals j;
+        written = λ j. promised .holds ∙ runnable-bytes j;
+      }
+
 -- a recheck: what it says is what the judgement in it says
 
 said-in : (r : Rechecking) → judgementSays (judgementIn r) ≡ saidBy (recheckingSays r)
@@ -408,4 +448,6 @@ demand-two-met p kept =
       agreement-means = agreement-means p kept;
       counts = λ text list entries numbers t l e n.
           count-right text list entries numbers (p .count text list entries numbers) (kept .count text list entries numbers t l e n);
+      runs-all = λ list blocks entries answers l s e a.
+          run-all-right list blocks entries answers (p .runAll list blocks entries answers) (kept .runAll list blocks entries answers l s e a);
     }

@@ -1,21 +1,28 @@
 -- A file is its whole entries, one after the other, and what is cut: as many of an entry's size are taken from it as its length holds. Where
 -- the first of two stretches has whole entries only, those of both are those of the first and then those of the second.
 use Prim.Native.Nat.{ℕ, zero, suc, _+_, _*_, _/_, _%_, _≤_, _<_}
-use native.Mathlib.Nat.{suc-mul, mod-lt, div-self, div-add-mod', div-mul-le-self, mul-add-div-right, mul-add-mod-self-right}
+use native.Mathlib.Nat.{suc-mul, zero-mul, mul-le-mul-right, mod-lt, div-self, div-add-mod', div-mul-le-self, mul-add-div-right, mul-add-mod-self-right}
+use native.Mathlib.Numerals.{add-one}
 use native.Mathlib.Omega.{arith}
 use mathlib.Core.Path.{_≡_, refl, sym, ap, ap₂, _∙_}
 use mathlib.Core.List.{List, [], _∷_, _++_, append-assoc}
-use lib.ListN.{length, take, drop, length-append, length-drop, take-append-drop}
+use lib.ListN.{length, take, drop, getD, length-append, length-drop, take-append-drop}
 use lib.Seq.{length-take-le, take-length, take-append-le, drop-append-le, drop-drop}
 use Rattle.paper.specs.Keys.{Key}
 use Rattle.paper.specs.BlocksRoundTrip.{All}
 use Rattle.paper.specs.Counting.{entrySize, wholeIn, cutIn, laidOut, entriesIn}
 use Rattle.paper.specs.CountedRight.{endToEnd, FileIsItsEntries}
 
+-- one that lies among those that a length holds lies in it whole
+pub whole-inside : (k size m : ℕ) → k < m / size → k * size + size ≤ m
+whole-inside k size m h =
+    let up = mul-le-mul-right size h in
+    omega (arith, up, suc-mul k size, div-mul-le-self m size)
+
 -- so many of a size
 
 module _ (size : ℕ) where
-  laid-length : (n : ℕ) (s : List ℕ) → length (laidOut size n s) ≡ n
+  pub laid-length : (n : ℕ) (s : List ℕ) → length (laidOut size n s) ≡ n
   laid-length zero s = refl
   laid-length (suc n) s = ap suc (laid-length n (drop size s))
 
@@ -46,6 +53,26 @@ module _ (size : ℕ) where
       ∙ sym (append-assoc (take size s) later rest)
       ∙ ap (λ (t : List ℕ). take size s ++ later ++ t) left
 
+  -- one more at the end
+  laid-more : (n : ℕ) (s : List ℕ) → laidOut size (suc n) s ≡ laidOut size n s ++ (take size (drop (n * size) s) ∷ [])
+  laid-more zero s = rw (zero-mul size)
+  laid-more (suc n) s =
+      let past : size + n * size ≡ suc n * size = omega (arith, suc-mul n size) in
+      ap (λ (es : List (List ℕ)). take size s ∷ es)
+      (laid-more n (drop size s)
+      ∙ ap (λ (r : List ℕ). laidOut size n (drop size s) ++ (take size r ∷ [])) (drop-drop (n * size) size s ∙ ap (λ (m : ℕ). drop m s) past))
+
+  pub laid-next : (k : ℕ) (s : List ℕ) → laidOut size (k + 1) s ≡ laidOut size k s ++ (take size (drop (k * size) s) ∷ [])
+  laid-next k s = ap (λ (n : ℕ). laidOut size n s) (add-one k) ∙ laid-more k s
+
+  -- each at its place
+  laid-at : (n : ℕ) (s : List ℕ) (i : ℕ) → i < n → getD (laidOut size n s) i [] ≡ take size (drop (i * size) s)
+  laid-at (suc n) s zero h = rw (zero-mul size)
+  laid-at (suc n) s (suc i) h =
+      let past : size + i * size ≡ suc i * size = omega (arith, suc-mul i size) in
+      laid-at n (drop size s) i (omega (arith, h))
+      ∙ ap (λ (r : List ℕ). take size r) (drop-drop (i * size) size s ∙ ap (λ (m : ℕ). drop m s) past)
+
   -- of two stretches
   laid-append : (n m : ℕ) (s t : List ℕ) → length s ≡ n * size → laidOut size (n + m) (s ++ t) ≡ laidOut size n s ++ laidOut size m t
   laid-append zero m [] t h = let z : 0 + m ≡ m = omega arith in ap (λ (k : ℕ). laidOut size k t) z
@@ -68,6 +95,16 @@ module _ (ks : List Key) where
   pub entries-length : (s : List ℕ) → length (entriesIn ks s) ≡ wholeIn ks s
   entries-length s = laid-length (entrySize ks) (wholeIn ks s) s
 
+  -- each at its place, and as long as an entry is
+  pub entries-at : (s : List ℕ) (i : ℕ) → i < wholeIn ks s → getD (entriesIn ks s) i [] ≡ take (entrySize ks) (drop (i * entrySize ks) s)
+  entries-at s i h = laid-at (entrySize ks) (wholeIn ks s) s i h
+
+  pub entries-sized : (s : List ℕ) (i : ℕ) → i < wholeIn ks s → length (take (entrySize ks) (drop (i * entrySize ks) s)) ≡ entrySize ks
+  entries-sized s i h =
+      let inside = whole-inside i (entrySize ks) (length s) h in
+      let left = length-drop (i * entrySize ks) s in
+      length-take-le (entrySize ks) (drop (i * entrySize ks) s) (omega (arith, inside, left))
+
   -- an entry is the only one in itself
   pub one-entry : (s : List ℕ) → length s ≡ entrySize ks → entriesIn ks s ≡ s ∷ []
   one-entry s h =
@@ -84,7 +121,7 @@ module _ (ks : List Key) where
     both-size : length (first ++ rest) ≡ wholeIn ks first * entrySize ks + length rest
     both-size = let e = length-append first rest in omega (arith, e, first-size)
 
-    whole-both : wholeIn ks (first ++ rest) ≡ wholeIn ks first + wholeIn ks rest
+    pub whole-both : wholeIn ks (first ++ rest) ≡ wholeIn ks first + wholeIn ks rest
     whole-both =
         ap (λ (n : ℕ). n / entrySize ks) both-size ∙ mul-add-div-right some-size (wholeIn ks first) (length rest)
 

@@ -1,4 +1,4 @@
--- Refusals 19 and 20 by the table, of one entry; and 25, of many.
+-- Refusals 19 and 20 by the table, of one entry; 25, of many; and of many with their answers 19 and 15.
 use Prim.Native.Nat.{ℕ, zero, suc, _+_, _*_, _^_, _<_, suc-le-suc}
 use native.Mathlib.Omega.{arith}
 use mathlib.Core.Path.{_≡_, refl, sym, ap, subst, _∙_}
@@ -8,12 +8,13 @@ use mathlib.Core.List.{List, [], _∷_}
 use lib.ListN.{length, getElem?}
 use lib.Dec.{eqb, leb, ltb}
 use borrow.Author.Tests.{eqb-true, eqb-false, leb-true, leb-false, ltb-false, le-ltb}
-use Rattle.paper.specs.Answers.{Answer, ok, _>>=_, require, inTurn, inEntry}
+use Rattle.paper.specs.Answers.{Answer, ok, _>>=_, require, inTurn, inEntry, inBuffer}
 use Rattle.paper.specs.Keys.{Key, keys}
 use Rattle.paper.specs.Entry.{Entry, headSize, matchSize, matchAt, matchOk, matchesFrom, asked, priorityOf, ruleTest, entryOf}
-use Rattle.paper.specs.Counting.{entrySize, wholeIn, mostEntries, fewEntries}
-use Rattle.paper.specs.Faults.{Faults, EntrySize, entry-wrong, EntryRules, priority-broken, match-broken, EntriesMany, entries-over}
-use Rattle.paper.specs.Table.{Free, stage, Given, entryStages, entriesStages}
+use Rattle.paper.specs.Counting.{entrySize, wholeIn, cutIn, mostEntries, fewEntries}
+use Rattle.paper.specs.RunAll.{wholeOnly, answersFit}
+use Rattle.paper.specs.Faults.{Faults, EntrySize, entry-wrong, EntryRules, priority-broken, match-broken, EntriesMany, entries-over, EntriesSize, entries-cut, AnswersSize, answers-few}
+use Rattle.paper.specs.Table.{Free, stage, Given, entryStages, entriesStages, tableStages}
 use Rattle.paper.proofs.Basics.{some-below}
 use Rattle.paper.proofs.Stages.{bind-again}
 use Rattle.paper.proofs.StagesInOrder.{Tells, test-tells, given-tells, Follows, follows-one, follows-as, follows-then}
@@ -144,3 +145,47 @@ entries-follow list ks entries listed =
     let many : List Key → Faults = λ ks. EntriesMany ks entries in
     follows-one inEntry (Given (keys list) many) (fewEntries ks entries)
     (given-tells (keys list) ks listed many inEntry (fewEntries ks entries) (many-tells ks entries))
+
+-- many, with their answers: none is cut, and there is an answer for each
+
+module _ (ks : List Key) (entries : List ℕ) where
+  whole-free : eqb (cutIn ks entries) 0 ≡ true → Free (EntriesSize ks entries)
+  whole-free h n at (entries-cut d) = d (eqb-true (cutIn ks entries) 0 h)
+
+  whole-only : (m to : ℕ) → EntriesSize ks entries m to → (m ≡ 19) × (to ≡ length entries)
+  whole-only m to (entries-cut d) = (refl, refl)
+
+  whole-tells : Tells inEntry (EntriesSize ks entries) (wholeOnly ks entries)
+  whole-tells =
+      test-tells (EntriesSize ks entries) (eqb (cutIn ks entries) 0) 19 inEntry (length entries) whole-free
+      (λ h. entries-cut (eqb-false (cutIn ks entries) 0 h)) whole-only
+
+  module _ (answers : List ℕ) where
+    abbrev enough : Bool
+    enough = leb (wholeIn ks entries) (length answers)
+
+    answers-free : enough ≡ true → Free (AnswersSize ks entries answers)
+    answers-free h n at (answers-few l) = let e = leb-true (wholeIn ks entries) (length answers) h in omega (arith, e, l)
+
+    answers-only : (m to : ℕ) → AnswersSize ks entries answers m to → (m ≡ 15) × (to ≡ length answers)
+    answers-only m to (answers-few l) = (refl, refl)
+
+    answers-tell : Tells inBuffer (AnswersSize ks entries answers) (answersFit ks entries answers)
+    answers-tell =
+        test-tells (AnswersSize ks entries answers) enough 15 inBuffer (length answers) answers-free
+        (λ h. answers-few (leb-false (wholeIn ks entries) (length answers) h)) answers-only
+
+-- whatever is answered where both pass
+pub table-follows : {A : Type 0} (list : List ℕ) (ks : List Key) (entries answers : List ℕ) (v : A) → keys list ≡ ok ks
+    → Follows (tableStages list entries answers) (wholeOnly ks entries >>= λ _. answersFit ks entries answers >>= λ _. ok v)
+table-follows list ks entries answers v listed =
+    let size : List Key → Faults = λ ks. EntriesSize ks entries in
+    let room : List Key → Faults = λ ks. AnswersSize ks entries answers in
+    let last = stage inBuffer (Given (keys list) room) ∷ [] in
+    let one = given-tells (keys list) ks listed size inEntry (wholeOnly ks entries) (whole-tells ks entries) in
+    let two = given-tells (keys list) ks listed room inBuffer (answersFit ks entries answers) (answers-tell ks entries answers) in
+    follows-then (stage inEntry (Given (keys list) size) ∷ []) last (wholeOnly ks entries) (λ _. answersFit ks entries answers >>= λ _. ok v)
+    (follows-one inEntry (Given (keys list) size) (wholeOnly ks entries) one)
+    (λ _ _.
+    follows-as last (answersFit ks entries answers) (λ _. v)
+    (follows-one inBuffer (Given (keys list) room) (answersFit ks entries answers) two))

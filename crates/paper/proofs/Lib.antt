@@ -102,6 +102,11 @@ pub mod Fitting
 pub mod Compared
 pub mod EntriesLaid
 pub mod CountedRight
+pub mod Overwritten
+pub mod EntriesRefused
+pub mod RunAllPassed
+pub mod RunAllRight
+pub mod TableJudged
 pub mod RecordsRefused
 pub mod NamesInList
 pub mod Depends

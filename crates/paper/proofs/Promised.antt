@@ -28,6 +28,8 @@ use Rattle.paper.specs.declared.Agreement.{Agreement}
 use Rattle.paper.specs.declared.Agreement.the-variants as A
 use Rattle.paper.specs.declared.Counting.{Counting}
 use Rattle.paper.specs.declared.Counting.the-variants as E
+use Rattle.paper.specs.declared.RunningAll.{RunningAll}
+use Rattle.paper.specs.declared.RunningAll.the-variants as U
 use Rattle.paper.specs.declared.Explanation.{Explanation}
 use Rattle.paper.specs.declared.Explanation.the-variants as X
 use Rattle.paper.specs.declared.Summarizing.{Summarizing}
@@ -45,6 +47,7 @@ use Rattle.paper.specs.Fixing.{fixAnswer, fixBuffer, fixingSays}
 use Rattle.paper.specs.Drafting.{draftAnswer, draftBuffer, draftingSays}
 use Rattle.paper.specs.Comparing.{compareAnswer, agreementSays, agreement}
 use Rattle.paper.specs.Counting.{Totals, countAnswer, countNumbers, countingSays}
+use Rattle.paper.specs.RunAll.{AllRan, runAllAnswer, runAllBytes, runningAllSays}
 use Rattle.paper.specs.Promised.{ExplainPromised, RecheckPromised, verdict, verdictIn, judgementOfRun, Sole, NoSecondResult, CanBeKept}
 
 -- places
@@ -222,6 +225,16 @@ countings = record { good = countedTo; refusal = E.Refused; good-says = λ t. re
     go (E.Counted n a v f c) = is-good (record { parts = n; accepted = a; violated = v; refused = f; cut = c })
     go (E.Refused n p) = is-refusal n p
 
+abbrev ranAllTo : AllRan → RunningAll
+ranAllTo a = U.Ran (a .entries) (a .steps)
+
+allRunnings : Enum runningAllSays
+allRunnings = record { good = ranAllTo; refusal = U.Refused; good-says = λ a. refl; refusal-says = λ n p. refl; either = go }
+  where
+    go : (r : RunningAll) → Either ranAllTo U.Refused r
+    go (U.Ran n s) = is-good (record { entries = n; steps = s })
+    go (U.Refused n p) = is-refusal n p
+
 summaries : Enum summarizingSays
 summaries =
     record {
@@ -339,6 +352,9 @@ agreement-same = same-says agreementSays agreements
 pub counting-same : (r s : Counting) → countingSays r ≡ countingSays s → r ≡ s
 counting-same = same-says countingSays countings
 
+pub running-all-same : (r s : RunningAll) → runningAllSays r ≡ runningAllSays s → r ≡ s
+running-all-same = same-says runningAllSays allRunnings
+
 pub summarizing-same : (r s : Summarizing) → summarizingSays r ≡ summarizingSays s → r ≡ s
 summarizing-same = same-says summarizingSays summaries
 
@@ -402,6 +418,13 @@ no-second-result =
             satisfies = record { says = answer .satisfies; holds = refl };
             no-second = λ r h i. record { answer = answer .no-second (r .answer) (h .says) i; numbers = h .holds i };
           };
+      runAll = λ list blocks entries answers.
+          let answer = one-says runningAllSays allRunnings (runAllAnswer list blocks entries answers) in
+          record {
+            result = record { answer = answer .result; bytes = runAllBytes list blocks entries answers };
+            satisfies = record { says = answer .satisfies; holds = refl };
+            no-second = λ r h i. record { answer = answer .no-second (r .answer) (h .says) i; bytes = h .holds i };
+          };
     }
 
 pub can-be-kept : CanBeKept
@@ -422,6 +445,7 @@ can-be-kept =
         draft = λ contract table list buffer. s .draft contract table list buffer .result;
         compare = λ text list blocks. s .compare text list blocks .result;
         count = λ text list entries numbers. s .count text list entries numbers .result;
+        runAll = λ list blocks entries answers. s .runAll list blocks entries answers .result;
       },
       record {
         read = λ text _. s .read text .satisfies;
@@ -438,5 +462,6 @@ can-be-kept =
         draft = λ contract table list buffer _ _ _ _. s .draft contract table list buffer .satisfies;
         compare = λ text list blocks _ _ _. s .compare text list blocks .satisfies;
         count = λ text list entries numbers _ _ _ _. s .count text list entries numbers .satisfies;
+        runAll = λ list blocks entries answers _ _ _ _. s .runAll list blocks entries answers .satisfies;
       },
     )

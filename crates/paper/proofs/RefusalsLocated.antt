@@ -24,8 +24,8 @@ use Rattle.paper.specs.Fixing.{oldScan, fixed}
 use Rattle.paper.specs.Contract.{Front}
 use Rattle.paper.specs.Drafting.{namesOf, drafted}
 use Rattle.paper.specs.Counting.{wholeIn, mostEntries}
-use Rattle.paper.specs.Faults.{Faults, TextSize, text-over, ListSize, list-uneven, list-over, ListRecords, record-broken, name-repeated, TokenFaults, no-token, numeral-large, one-more-token, one-more-octal, octal-numeral, TextGrammar, TreeTypes, key-unknown, key-of-field-unknown, field-unknown, attribute-unknown, prefix-wrong, join-wrong, comparison-wrong, left-loses-bits, right-loses-bits, in-operand, join-left, join-right, comparison-left, comparison-right, RootType, not-bool, BufferSize, buffer-short, BlocksSize, no-blocks, blocks-uneven, blocks-over, BlocksLayout, block-broken, BlocksCode, instruction-fails, skip-misfits, end-not-bool, EntrySize, entry-wrong, EntryRules, priority-broken, match-broken, EntriesMany, entries-over, LendingSize, over-limit, over-buffer, TableSize, table-over, frontBytes, ContractFaults, opcode-wrong, nothing-to-join, joined-twice, index-unknown, cut-before-index, cut-before-assertion, TextLimits, tokens-many, levels-many}
-use Rattle.paper.specs.Table.{lastNumber, Free, Stage, Given, Decided, Clear, sizeStages, listStagesBy, listStages, treeStages, typeStages, bufferStages, blockStages, entryStages, entriesStages, printingStages, fixingStages, draftingStages, checkStages}
+use Rattle.paper.specs.Faults.{Faults, TextSize, text-over, ListSize, list-uneven, list-over, ListRecords, record-broken, name-repeated, TokenFaults, no-token, numeral-large, one-more-token, one-more-octal, octal-numeral, TextGrammar, TreeTypes, key-unknown, key-of-field-unknown, field-unknown, attribute-unknown, prefix-wrong, join-wrong, comparison-wrong, left-loses-bits, right-loses-bits, in-operand, join-left, join-right, comparison-left, comparison-right, RootType, not-bool, BufferSize, buffer-short, BlocksSize, no-blocks, blocks-uneven, blocks-over, BlocksLayout, block-broken, BlocksCode, instruction-fails, skip-misfits, end-not-bool, EntrySize, entry-wrong, EntryRules, priority-broken, match-broken, EntriesMany, entries-over, EntriesSize, entries-cut, AnswersSize, answers-few, LendingSize, over-limit, over-buffer, TableSize, table-over, frontBytes, ContractFaults, opcode-wrong, nothing-to-join, joined-twice, index-unknown, cut-before-index, cut-before-assertion, TextLimits, tokens-many, levels-many}
+use Rattle.paper.specs.Table.{lastNumber, Free, Stage, Given, Decided, Clear, sizeStages, listStagesBy, listStages, treeStages, typeStages, bufferStages, blockStages, entryStages, entriesStages, tableStages, printingStages, fixingStages, draftingStages, checkStages}
 use Rattle.paper.specs.Demands.{Lent, lent}
 use Rattle.paper.proofs.Basics.{some-below}
 use Rattle.paper.proofs.Stages.{bind-ok}
@@ -211,6 +211,12 @@ entries-bounded entries ks n at (entries-over l) =
     let most : mostEntries ≤ wholeIn ks entries = omega (arith, l) in
     bound (omega arith) (omega arith) (le-div-iff-mul-le (some-size ks) .0 most)
 
+whole-bounded : (entries : List ℕ) (ks : List Key) (n at : ℕ) → EntriesSize ks entries n at → Bounded entries n at
+whole-bounded entries ks n at (entries-cut d) = bound (omega arith) (omega arith) (omega arith)
+
+answers-bounded : (entries answers : List ℕ) (ks : List Key) (n at : ℕ) → AnswersSize ks entries answers n at → Bounded answers n at
+answers-bounded entries answers ks n at (answers-few l) = bound (omega arith) (omega arith) (omega arith)
+
 lending-bounded : (new buffer : List ℕ) (n at : ℕ) → LendingSize new buffer n at → Bounded buffer n at
 lending-bounded new buffer n at (over-limit l) = bound (omega arith) (omega arith) (omega arith)
 lending-bounded new buffer n at (over-buffer l) = bound (omega arith) (omega arith) (omega arith)
@@ -302,6 +308,15 @@ module _ (inputs : List Lent) where
   entries-located list entries m =
       let bounded = given-bounded (keys list) (λ ks. EntriesMany ks entries) entries (entries-bounded entries) in
       (record { bytes = entries; among = m; bounded = bounded }, λ _. tt)
+
+  pub table-located : (list entries answers : List ℕ) → There inEntry entries → There inBuffer answers
+      → AllLocated inputs (tableStages list entries answers)
+  table-located list entries answers m b =
+      let in-entries = given-bounded (keys list) (λ ks. EntriesSize ks entries) entries (whole-bounded entries) in
+      let in-answers = given-bounded (keys list) (λ ks. AnswersSize ks entries answers) answers (answers-bounded entries answers) in (
+        record { bytes = entries; among = m; bounded = in-entries },
+        λ _. (record { bytes = answers; among = b; bounded = in-answers }, λ _. tt),
+      )
 
   pub printing-located : (text buffer : List ℕ) → There inBuffer buffer → AllLocated inputs (printingStages text buffer)
   printing-located text buffer m =

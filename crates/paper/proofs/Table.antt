@@ -25,15 +25,16 @@ use Rattle.paper.specs.Drafting.{draftAnswer}
 use Rattle.paper.specs.Parts.{Part, parts}
 use Rattle.paper.specs.Comparing.{recordsIn, fits, partCodes, compareAnswer}
 use Rattle.paper.specs.Counting.{Counts, countsOf, fewEntries, counted, totalsOf, countAnswer}
+use Rattle.paper.specs.RunAll.{verdictsOn, ranAll, allRan, runAllAnswer}
 use Rattle.paper.specs.Faults.{Faults, TextSize, text-over, TokenFaults, TextTokens, TextGrammar, BufferSize, buffer-short, LendingSize}
-use Rattle.paper.specs.Table.{Free, stage, Given, sizeStages, listStages, treeStages, typeStages, bufferStages, blockStages, entryStages, entriesStages, readStages, checkStages, judgeStages, translateStages, loadStages, runStages, printingStages, printStages, fixingStages, fixStages, draftStages, compareStages, countStages, TableHolds}
+use Rattle.paper.specs.Table.{Free, stage, Given, sizeStages, listStages, treeStages, typeStages, bufferStages, blockStages, entryStages, entriesStages, tableStages, readStages, checkStages, judgeStages, translateStages, loadStages, runStages, printingStages, printStages, fixingStages, fixStages, draftStages, compareStages, countStages, runAllStages, TableHolds}
 use Rattle.paper.proofs.TranslationCorrect.{passing}
 use Rattle.paper.proofs.Refusals.{parsed-is-right}
 use Rattle.paper.proofs.StagesInOrder.{Tells, test-tells, exact-tells, given-tells, Follows, follows-one, follows-as, follows-then, by-table}
 use Rattle.paper.proofs.ListFaults.{list-follows}
 use Rattle.paper.proofs.TokenFaults.{tokens-tell, old-tokens-tell}
 use Rattle.paper.proofs.TypeFaults.{types-follow}
-use Rattle.paper.proofs.EntryFaults.{entry-follows, entries-follow}
+use Rattle.paper.proofs.EntryFaults.{entry-follows, entries-follow, table-follows}
 use Rattle.paper.proofs.CodeFaults.{blocks-follow, load-follows}
 use Rattle.paper.proofs.LendingFaults.{lending-tells}
 use Rattle.paper.proofs.DraftFaults.{draft-follows}
@@ -207,6 +208,17 @@ count-follows text list entries =
     (follows-as (entriesStages list entries) (fewEntries (r .keys) entries) (λ _. counts r ps)
     (entries-follow list (r .keys) entries (known .listed)))))
 
+run-all-follows : (list blocks entries answers : List ℕ)
+    → Follows (runAllStages list blocks entries answers) (runAllAnswer list blocks entries answers)
+unfolding runAllAnswer ranAll
+run-all-follows list blocks entries answers =
+    let last = tableStages list entries answers in
+    follows-as (runAllStages list blocks entries answers) (ranAll list blocks entries answers) allRan
+    (follows-then (listStages list) (blockStages list blocks ++ last) (keys list) _ (list-follows list)
+    (λ ks listed.
+    follows-then (blockStages list blocks) last (loaded ks blocks) _ (blocks-follow list ks blocks listed)
+    (λ _ _. table-follows list ks entries answers (verdictsOn ks blocks entries) listed)))
+
 pub table-holds : TableHolds
 table-holds =
     record {
@@ -226,4 +238,7 @@ table-holds =
           by-table (compareStages text list blocks) (compareAnswer text list blocks) (compare-follows text list blocks);
       count = λ text list entries.
           by-table (countStages text list entries) (countAnswer text list entries) (count-follows text list entries);
+      runAll = λ list blocks entries answers.
+          by-table (runAllStages list blocks entries answers) (runAllAnswer list blocks entries answers)
+          (run-all-follows list blocks entries answers);
     }

@@ -33,6 +33,7 @@ use Rattle.paper.specs.declared.Drafting.the-variants as D
 use Rattle.paper.specs.declared.Agreement.{Agreement}
 use Rattle.paper.specs.declared.Agreement.the-variants as A
 use Rattle.paper.specs.declared.Counting.the-variants as E
+use Rattle.paper.specs.declared.RunningAll.the-variants as U
 use Rattle.paper.specs.declared.Explanation.{Explanation}
 use Rattle.paper.specs.declared.Summarizing.{Summarizing}
 use Rattle.paper.specs.declared.Summarizing.the-variants as S
@@ -62,14 +63,15 @@ use Rattle.paper.specs.Drafting.{contractTree, namesOf, draftingSays}
 use Rattle.paper.specs.Parts.{Part, parts}
 use Rattle.paper.specs.PartsDecide.{roots}
 use Rattle.paper.specs.Comparing.{Ours, agreementSays}
-use Rattle.paper.specs.Counting.{wholeIn, Counts, countsOf, mostEntries, totalsOf, countingSays}
+use Rattle.paper.specs.Counting.{wholeIn, cutIn, Counts, countsOf, mostEntries, totalsOf, countingSays}
+use Rattle.paper.specs.RunAll.{Verdicts, verdictsOn, allRan, runningAllSays}
 use Rattle.paper.specs.BlocksRoundTrip.{All}
 use Rattle.paper.specs.RecheckedRight.{Summarizes, Rechecks}
 use Rattle.paper.specs.LoadedBlocksRun.{Runs}
 use Rattle.paper.specs.CodeCorrect.{mostTranslated}
 use Rattle.paper.specs.Faults.{CutsBy, Cuts}
-use Rattle.paper.specs.Table.{lastNumber, Stage, Clear, ByTable, readStages, checkStages, judgeStages, translateStages, loadStages, runStages, printStages, fixStages, draftStages, compareStages, countStages}
-use Rattle.paper.specs.Promised.{JudgePromised, verdict, verdictIn, judgementOfRun, TranslateResult, PrintResult, FixResult, DraftResult, CountResult, Bytes, UserNumbers, PartNumbers, Programs, Kept}
+use Rattle.paper.specs.Table.{lastNumber, Stage, Clear, ByTable, readStages, checkStages, judgeStages, translateStages, loadStages, runStages, printStages, fixStages, draftStages, compareStages, countStages, runAllStages}
+use Rattle.paper.specs.Promised.{JudgePromised, verdict, verdictIn, judgementOfRun, TranslateResult, PrintResult, FixResult, DraftResult, CountResult, RunAllResult, Bytes, UserNumbers, PartNumbers, Programs, Kept}
 
 -- Demand 1. An answer is one of the enum's cases. It is a refusal exactly as the table of 01 says, with that number at that place, and
 -- passes exactly when no stage of the call has a fault. The number is one of the table's, and the place lies in an input that was lent, or
@@ -150,6 +152,11 @@ pub record CountAnswered (text list entries numbers : List ℕ) (r : CountResult
       (countingSays (r .answer))
   pub unchanged : (n : ℕ) (at : Place) → r .answer ≡ E.Refused n at → r .numbers ≡ numbers
 
+pub record RunAllAnswered (list blocks entries answers : List ℕ) (r : RunAllResult) : Type 0 where
+  pub says : Answered (lent inList list ∷ lent inBlocks blocks ∷ lent inEntry entries ∷ lent inBuffer answers ∷ [])
+      (runAllStages list blocks entries answers) (runningAllSays (r .answer))
+  pub unchanged : (n : ℕ) (at : Place) → r .answer ≡ U.Refused n at → r .bytes ≡ answers
+
 abbrev pub SummarizeAnswered : List ℕ → List ℕ → Summarizing → Type 0
 SummarizeAnswered text list r = Answered (lent inText text ∷ lent inList list ∷ []) (checkStages text list) (summarizingSays r)
 
@@ -177,6 +184,8 @@ pub record DemandOne (p : Programs) : Type 0 where
   pub compare : (text list blocks : List ℕ) → Bytes text → Bytes list → Bytes blocks → CompareAnswered text list blocks (p .compare text list blocks)
   pub count : (text list entries numbers : List ℕ) → Bytes text → Bytes list → Bytes entries → PartNumbers numbers
       → CountAnswered text list entries numbers (p .count text list entries numbers)
+  pub runAll : (list blocks entries answers : List ℕ) → Bytes list → Bytes blocks → Bytes entries → Bytes answers
+      → RunAllAnswered list blocks entries answers (p .runAll list blocks entries answers)
 
 -- Demand 2, for every call that takes a text or an entry. A text is refused exactly when it is over a limit or ill-formed, the list does
 -- not pass, or the text is ill-typed against it; an entry exactly when it does not conform to the list. Else it is accepted exactly when
@@ -347,6 +356,27 @@ pub record RanRight (list blocks entry : List ℕ) (r : Running) : Type 0 where
   pub accepts : (j : Runnable list blocks entry) (n : ℕ) → (r ≡ N.Accepted n) ↔ LeavesIn list blocks entry j true n
   pub violates : (j : Runnable list blocks entry) (n : ℕ) → (r ≡ N.Violated n) ↔ LeavesIn list blocks entry j false n
 
+-- blocks that load, entries of which none is cut, and an answer for each
+pub record AllRunnable (list blocks entries answers : List ℕ) : Type 0 where
+  pub ks : List Key
+  pub listed : keys list ≡ ok ks
+  pub count : ℕ
+  pub loads : loaded ks blocks ≡ ok count
+  pub whole : cutIn ks entries ≡ 0
+  pub room : wholeIn ks entries ≤ length answers
+
+abbrev pub verdictsIn : (list blocks entries answers : List ℕ) → AllRunnable list blocks entries answers → Verdicts
+verdictsIn list blocks entries answers j = verdictsOn (j .ks) blocks entries
+
+-- "loads once, then a byte for each entry laid end to end (accepted, violated, refused 20); later bytes of the answers stay": every other list,
+-- blocks, entries or answers are refused
+pub record RunAllRight (list blocks entries answers : List ℕ) (r : RunAllResult) : Type 0 where
+  pub refuses : ((n : ℕ) × (at : Place) × (r .answer ≡ U.Refused n at)) ↔ ¬ AllRunnable list blocks entries answers
+  pub totals : (j : AllRunnable list blocks entries answers)
+      → runningAllSays (r .answer) ≡ ok (allRan (verdictsIn list blocks entries answers j))
+  pub written : (j : AllRunnable list blocks entries answers)
+      → r .bytes ≡ over (verdictsIn list blocks entries answers j .bytes) answers
+
 -- "For a violated entry, name the first false part .."
 abbrev pub ExplainRight : List ℕ → List ℕ → List ℕ → Explanation → Type 0
 ExplainRight text list entry r = Explains text list entry (explanationSays r)
@@ -390,6 +420,8 @@ pub record DemandTwo (p : Programs) : Type 0 where
   pub agreement-means : (text list blocks : List ℕ) → Bytes text → Bytes list → Bytes blocks → AgreementMeans p text list blocks
   pub counts : (text list entries numbers : List ℕ) → Bytes text → Bytes list → Bytes entries → PartNumbers numbers
       → CountRight text list entries numbers (p .count text list entries numbers)
+  pub runs-all : (list blocks entries answers : List ℕ) → Bytes list → Bytes blocks → Bytes entries → Bytes answers
+      → RunAllRight list blocks entries answers (p .runAll list blocks entries answers)
 
 -- Demand 3. A text and a list that pass have a number of instructions, and are translated with it into every buffer that has room for
 -- its blocks; every other buffer is refused, 15 at its length. The blocks written load with that list, with the number returned, and

@@ -24,7 +24,7 @@ use Rattle.paper.specs.Sized.{levels, count}
 use Rattle.paper.specs.Pact.{mostIndices, Comparator, Conjunction, Clause, conjoins, wrong, opcodeOf, comparatorByte, conjunctionByte, contractBytes, AllIndexed}
 use Rattle.paper.specs.Contract.{Front, closedAll, indexFits}
 use Rattle.paper.specs.LoadedBlocksRun.{typesThrough}
-use Rattle.paper.specs.Counting.{entrySize, wholeIn, mostEntries}
+use Rattle.paper.specs.Counting.{entrySize, wholeIn, cutIn, mostEntries}
 
 -- a number, and an offset in the input of its stage
 abbrev pub Faults : Type 1
@@ -170,6 +170,14 @@ pub data EntryRules (ks : List Key) (entry : List ℕ) : ℕ → ℕ → Type 0 
 -- 25: "Beyond 1,000,000 whole entries"; the first byte of the next one
 pub data EntriesMany (ks : List Key) (entries : List ℕ) : ℕ → ℕ → Type 0 where
   entries-over : mostEntries < wholeIn ks entries → EntriesMany ks entries 25 (mostEntries * entrySize ks)
+
+-- 19, of many: "a wrong length", which is no multiple of an entry's; entries, their length
+pub data EntriesSize (ks : List Key) (entries : List ℕ) : ℕ → ℕ → Type 0 where
+  entries-cut : cutIn ks entries ≢ 0 → EntriesSize ks entries 19 (length entries)
+
+-- 15, of their answers: "too few answer bytes"; buffer, its length
+pub data AnswersSize (ks : List Key) (entries answers : List ℕ) : ℕ → ℕ → Type 0 where
+  answers-few : length answers < wholeIn ks entries → AnswersSize ks entries answers 15 (length answers)
 
 -- 24: "a table over 16 numbers"; "at table 16"
 pub data TableSize (table : List ℕ) : ℕ → ℕ → Type 0 where

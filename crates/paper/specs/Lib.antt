@@ -38,6 +38,7 @@ pub mod ExplainedRight
 pub mod RecheckedRight
 pub mod FixedRight
 pub mod Counting
+pub mod RunAll
 pub mod Promised
 pub mod Pieces
 pub mod Faults
@@ -48,6 +49,7 @@ pub mod Demands
 pub mod Comparing
 pub mod ComparedRight
 pub mod CountedRight
+pub mod RunAllRight
 pub mod Dependence
 pub mod DraftedRight
 pub mod PiecesRight

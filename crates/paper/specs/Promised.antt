@@ -18,6 +18,7 @@ use Rattle.paper.specs.declared.Fixing.{Fixing}
 use Rattle.paper.specs.declared.Drafting.{Drafting}
 use Rattle.paper.specs.declared.Agreement.{Agreement}
 use Rattle.paper.specs.declared.Counting.{Counting}
+use Rattle.paper.specs.declared.RunningAll.{RunningAll}
 use Rattle.paper.specs.declared.Explanation.{Explanation}
 use Rattle.paper.specs.declared.Summarizing.{Summarizing}
 use Rattle.paper.specs.declared.Rechecking.{Rechecking}
@@ -31,6 +32,7 @@ use Rattle.paper.specs.Fixing.{fixAnswer, fixBuffer, fixingSays}
 use Rattle.paper.specs.Drafting.{draftAnswer, draftBuffer, draftingSays}
 use Rattle.paper.specs.Comparing.{compareAnswer, agreementSays}
 use Rattle.paper.specs.Counting.{countAnswer, countNumbers, countingSays}
+use Rattle.paper.specs.RunAll.{runAllAnswer, runAllBytes, runningAllSays}
 use Rattle.paper.specs.Calls.{readAnswer, checkAnswer, judgeAnswer, translateAnswer, translateBuffer, loadAnswer, runAnswer, printAnswer, printBuffer}
 
 -- what is promised of the result of each call, for the bytes that are lent to it
@@ -98,6 +100,15 @@ pub record CountPromised (text list entries numbers : List ℕ) (r : CountResult
   pub says : countingSays (r .answer) ≡ countAnswer text list entries
   pub holds : r .numbers ≡ countNumbers text list entries numbers
 
+-- what `run_all` returns, and what the bytes that are lent to it for its answers are at its exit
+pub record RunAllResult : Type 0 where
+  pub answer : RunningAll
+  pub bytes : List ℕ
+
+pub record RunAllPromised (list blocks entries answers : List ℕ) (r : RunAllResult) : Type 0 where
+  pub says : runningAllSays (r .answer) ≡ runAllAnswer list blocks entries answers
+  pub holds : r .bytes ≡ runAllBytes list blocks entries answers
+
 -- the numbers of an explanation; its pieces, which are references, stand in Pieces
 abbrev pub ExplainPromised : List ℕ → List ℕ → List ℕ → Explanation → Type 0
 ExplainPromised text list entry r = explanationSays r ≡ explainAnswer text list entry
@@ -145,6 +156,7 @@ pub record NoSecondResult : Type 0 where
   pub draft : (contract table list buffer : List ℕ) → Sole (DraftPromised contract table list buffer)
   pub compare : (text list blocks : List ℕ) → Sole (ComparePromised text list blocks)
   pub count : (text list entries numbers : List ℕ) → Sole (CountPromised text list entries numbers)
+  pub runAll : (list blocks entries answers : List ℕ) → Sole (RunAllPromised list blocks entries answers)
 
 -- what can be lent: numbers below 256
 abbrev pub Bytes : List ℕ → Type 0
@@ -176,6 +188,7 @@ pub record Programs : Type 0 where
   pub draft : List ℕ → List ℕ → List ℕ → List ℕ → DraftResult
   pub compare : List ℕ → List ℕ → List ℕ → Agreement
   pub count : List ℕ → List ℕ → List ℕ → List ℕ → CountResult
+  pub runAll : List ℕ → List ℕ → List ℕ → List ℕ → RunAllResult
 
 abbrev pub KeepsRead : Programs → Type 0
 KeepsRead p = (text : List ℕ) → Bytes text → ReadPromised text (p .read text)
@@ -231,6 +244,11 @@ KeepsCount p =
     (text list entries numbers : List ℕ) → Bytes text → Bytes list → Bytes entries → PartNumbers numbers
     → CountPromised text list entries numbers (p .count text list entries numbers)
 
+abbrev pub KeepsRunAll : Programs → Type 0
+KeepsRunAll p =
+    (list blocks entries answers : List ℕ) → Bytes list → Bytes blocks → Bytes entries → Bytes answers
+    → RunAllPromised list blocks entries answers (p .runAll list blocks entries answers)
+
 pub record Kept (p : Programs) : Type 0 where
   pub read : KeepsRead p
   pub check : KeepsCheck p
@@ -246,6 +264,7 @@ pub record Kept (p : Programs) : Type 0 where
   pub draft : KeepsDraft p
   pub compare : KeepsCompare p
   pub count : KeepsCount p
+  pub runAll : KeepsRunAll p
 
 -- there are such programs
 abbrev pub CanBeKept : Type 0

@@ -15,7 +15,8 @@ use Rattle.paper.specs.Fixing.{oldScan, fixed, fixAnswer}
 use Rattle.paper.specs.Drafting.{nameRule, namesOf, drafted, draftAnswer}
 use Rattle.paper.specs.Comparing.{compareAnswer}
 use Rattle.paper.specs.Counting.{countAnswer}
-use Rattle.paper.specs.Faults.{Faults, TextSize, ListSize, ListRecords, Cuts, TokenFaults, TextTokens, TextGrammar, TreeTypes, RootType, BufferSize, BlocksSize, BlocksLayout, BlocksCode, EntrySize, EntryRules, EntriesMany, LendingSize, TableSize, ContractFaults, TextLimits}
+use Rattle.paper.specs.RunAll.{runAllAnswer}
+use Rattle.paper.specs.Faults.{Faults, TextSize, ListSize, ListRecords, Cuts, TokenFaults, TextTokens, TextGrammar, TreeTypes, RootType, BufferSize, BlocksSize, BlocksLayout, BlocksCode, EntrySize, EntryRules, EntriesMany, EntriesSize, AnswersSize, LendingSize, TableSize, ContractFaults, TextLimits}
 
 -- the table's numbers run from 1 to this one
 abbrev pub lastNumber : ℕ
@@ -105,6 +106,14 @@ entryStages list entry =
 abbrev pub entriesStages : List ℕ → List ℕ → List Stage
 entriesStages list entries = stage inEntry (Given (keys list) (λ ks. EntriesMany ks entries)) ∷ []
 
+-- 19, and then 15. In 01's order 15 comes before every number of blocks and entries: `translate` knows what it needs from the text. How many
+-- answers are wanted is known once no entry is cut, so that here it comes last
+abbrev pub tableStages : List ℕ → List ℕ → List ℕ → List Stage
+tableStages list entries answers =
+    stage inEntry (Given (keys list) (λ ks. EntriesSize ks entries))
+    ∷ stage inBuffer (Given (keys list) (λ ks. AnswersSize ks entries answers))
+    ∷ []
+
 -- 21
 abbrev pub printingStages : List ℕ → List ℕ → List Stage
 printingStages text buffer = stage inBuffer (Given (tree text) (λ t. LendingSize (print t) buffer)) ∷ []
@@ -158,6 +167,10 @@ compareStages text list blocks = checkStages text list ++ blockStages list block
 abbrev pub countStages : List ℕ → List ℕ → List ℕ → List Stage
 countStages text list entries = checkStages text list ++ entriesStages list entries
 
+-- "loads once, then"
+abbrev pub runAllStages : List ℕ → List ℕ → List ℕ → List ℕ → List Stage
+runAllStages list blocks entries answers = loadStages list blocks ++ tableStages list entries answers
+
 pub record TableHolds : Type 0 where
   pub read : (text : List ℕ) → ByTable (readAnswer text) (readStages text)
   pub check : (text list : List ℕ) → ByTable (checkAnswer text list) (checkStages text list)
@@ -172,6 +185,8 @@ pub record TableHolds : Type 0 where
       → ByTable (draftAnswer contract table list buffer) (draftStages contract table list buffer)
   pub compare : (text list blocks : List ℕ) → ByTable (compareAnswer text list blocks) (compareStages text list blocks)
   pub count : (text list entries : List ℕ) → ByTable (countAnswer text list entries) (countStages text list entries)
+  pub runAll : (list blocks entries answers : List ℕ)
+      → ByTable (runAllAnswer list blocks entries answers) (runAllStages list blocks entries answers)
 
 -- and a text that passes 5 to 7 and 22 is cut into its tokens
 abbrev pub TokensAreCut : Type 0

@@ -56,6 +56,12 @@ pub enum Running {
     Refused(u8, Place),
 }
 
+// Entries end to end against a restriction, from its blocks: how many entries there are, and how many instructions were carried out for all of them.
+pub enum RunningAll {
+    Ran(usize, u64),
+    Refused(u8, Place),
+}
+
 // A text in house style: how many bytes were written.
 pub enum Printing {
     Printed(usize),

@@ -7,10 +7,11 @@ ghost use Rattle.tried.specs.WrongCheckers.{WrongCheckersFail};
 ghost use Rattle.tried.specs.WrongDrafters.{WrongDraftersFail};
 ghost use Rattle.tried.specs.WrongComparers.{WrongComparersFail};
 ghost use Rattle.tried.specs.WrongCounters.{WrongCountersFail};
+ghost use Rattle.tried.specs.WrongTables.{WrongTablesFail};
 ghost use Rattle.tried.specs.WrongPrograms.{WrongProgramsExist, WrongProgramsFail, NoWrongProgram, PaddingSeen};
 
 // For all inputs one result keeps the promise of a call, and no second; of `translate`, `print`, `fix_octal` and `pact`, one answer with one
-// buffer at exit, and of `count` with the numbers of the parts at exit.
+// buffer at exit, of `count` with the numbers of the parts at exit, and of `run_all` with the answers at exit.
 pub fn no_second_result()
     ensures { λ _. ⌜ NoSecondResult ⌝ }
 {}
@@ -34,8 +35,9 @@ pub fn wrong_programs_exist()
 // the letters of the prefix, a type check that reduces numbers still, looks at right operands alone, gives 23 at the operator or takes no number
 // below zero, a translation of contracts with NOT over the last assertion only, with joins from the right, with exclusive or as "||" or with clauses
 // joined by "&&", a comparison that always agrees, always differs, matches the parts from the front of the code, lets a part be used twice or takes
-// any shape of the joins, a count of the first false part alone, of refused entries in the parts, of the cut entry, or by the tree's left spine: each
-// fails a demand, refusal 18, or the place of refusal 23.
+// any shape of the joins, a count of the first false part alone, of refused entries in the parts, of the cut entry, or by the tree's left spine, a
+// table in which every entry is judged as the first, nothing is judged after a refused one, later answers are cleared, a refused entry is told as
+// violated, the steps are those of the last, or a cut entry is taken for a whole one: each fails a demand, refusal 18, or the place of refusal 23.
 pub fn wrong_programs_fail()
     ensures { λ _. ⌜ WrongProgramsFail ⌝ }
 {}
@@ -91,4 +93,11 @@ pub fn wrong_comparers_fail()
 // fails what is asked of its output, and there is one that is right of every file that is not too long.
 pub fn wrong_counters_fail()
     ensures { λ _. ⌜ WrongCountersFail ⌝ }
+{}
+
+// A table in which every entry is judged as the first, one in which nothing is judged after a refused entry, one that clears the later answers, one that
+// tells a refused entry as violated, one that tells the steps of the last entry alone, one that takes a cut entry for a whole one: each fails what is
+// asked of it.
+pub fn wrong_tables_fail()
+    ensures { λ _. ⌜ WrongTablesFail ⌝ }
 {}

@@ -2,7 +2,7 @@
 ghost use Rattle.paper.specs.Demands.{DemandOneMet, DemandTwoMet, DemandThreeMet};
 
 // Every input gets an answer. A refusal has a number from 1 to 25 and a place in an input that was lent, or at its length; and it changes
-// no byte of the buffer and no number that was lent.
+// no byte of the buffer or of the answers and no number that was lent.
 pub fn every_input_is_answered()
     ensures { λ _. ⌜ DemandOneMet ⌝ }
 {}
@@ -16,7 +16,8 @@ pub fn every_input_is_answered()
 // exactly when the text passes with the list and they load with it; they agree exactly when they are our translation of the text's parts, each used
 // once, in some order, joined from the left; and then they say of every entry what the text says. Entries laid end to end are counted exactly when the text passes with the
 // list and no more than 1,000,000 are whole; the three totals, the bytes of a cut entry and the number of each part are then those of the definition
-// over the list of entries.
+// over the list of entries. A table is judged in one call exactly when the blocks load with the list, no entry is cut and there is an answer for each;
+// the answers and the steps are then those of the definition over the list of entries, and later answers stay.
 pub fn judged_as_the_text_means()
     ensures { λ _. ⌜ DemandTwoMet ⌝ }
 {}

@@ -21,4 +21,5 @@ mod required;
 mod rules;
 mod running;
 mod summaries;
+mod tables;
 mod translating;

@@ -24,6 +24,7 @@ ghost use Rattle.tried.specs.FixExamples.{FixExamples};
 ghost use Rattle.tried.specs.DraftExamples.{DraftExamples};
 ghost use Rattle.tried.specs.CompareExamples.{CompareExamples};
 ghost use Rattle.tried.specs.CountExamples.{CountExamples};
+ghost use Rattle.tried.specs.RunAllExamples.{RunAllExamples};
 ghost use Rattle.tried.specs.PartExamples.{PartExamples};
 ghost use Rattle.tried.specs.SummaryExamples.{SummaryExamples};
 ghost use Rattle.tried.specs.AnswerExamples.{AnswerExamples};
@@ -171,6 +172,12 @@ pub fn examples_of_comparing()
 // refused, both sides of 1,000,000 entries, and what is refused before anything is counted.
 pub fn examples_of_counting()
     ensures { λ _. ⌜ CountExamples ⌝ }
+{}
+
+// Tables with their answers and steps: entries that are accepted, violated and refused side by side, none at all, both sides of a multiple of an
+// entry's length and of the number of answers, later answers, entries of unlike steps, and the order of what is refused.
+pub fn examples_of_tables()
+    ensures { λ _. ⌜ RunAllExamples ⌝ }
 {}
 
 // Texts with their parts, both sides of each limit, and what is shown of an entry: a part, a key, or nothing.

@@ -83,6 +83,8 @@ rows =
           refl refl (λ h. apart alone-held refl refl (sym h));
       row-18-at-the-end = F.end-not-bool (int ∷ []) refl (apart anInt refl refl);
       row-19 = F.entry-wrong (apart (λ n. eqb n 3) refl refl);
+      row-19-of-many = F.entries-cut (apart (λ n. eqb n 1) refl refl);
+      row-15-of-answers = F.answers-few (lit< tt);
       row-20-priority = F.priority-broken (lit≤ tt);
       row-20 = F.match-broken 0 (aKey (bytes "e") exact 8) refl refl;
       row-21-over-the-limit = F.over-limit (lit< tt);
@@ -112,7 +114,7 @@ order =
     }
 
 inputs-in-order : InputsInOrder
-inputs-in-order = record { read = refl; check = refl; judge = refl; translate = refl; load = refl; run = refl; print = refl; count = refl }
+inputs-in-order = record { read = refl; check = refl; judge = refl; translate = refl; load = refl; run = refl; print = refl; count = refl; runAll = refl }
 
 pub faultExamples : FaultExamples
 faultExamples = record { rows = rows; order = order; inputs-in-order = inputs-in-order }

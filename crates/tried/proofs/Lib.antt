@@ -26,6 +26,7 @@ pub mod AnswerExamples
 pub mod FaultExamples
 pub mod CompareExamples
 pub mod CountExamples
+pub mod RunAllExamples
 pub mod WrongPrints
 pub mod WrongExplainers
 pub mod WrongRecheckers
@@ -37,6 +38,8 @@ pub mod WrongDrafters
 pub mod WrongComparers
 pub mod WrongComparersExist
 pub mod WrongCounters
+pub mod WrongTables
+pub mod WrongTablesExist
 pub mod WrongCountersExist
 pub mod WrongRecheckersExist
 pub mod WrongExplainersExist

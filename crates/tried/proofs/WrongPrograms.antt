@@ -1,7 +1,8 @@
 -- The wrong programs fail, each at an input: the cases 2 and 7 of the marked judgements, `true` with no keys, `true; v == 0`, for printers
 -- `a;b`, `!(a==b)`, `0x10` and `ipv4('0.0.0.16')`, for explainers the texts of WrongExplainers, for summaries and rechecks those of
 -- WrongRecheckers, for ways with skips the blocks of WrongRunners, for passes and checkers the texts of WrongFixers and WrongCheckers, for
--- translations the contracts of WrongDrafters, for comparisons the texts and blocks of WrongComparers, and for counts the files of WrongCounters.
+-- translations the contracts of WrongDrafters, for comparisons the texts and blocks of WrongComparers, for counts the files of WrongCounters, and for
+-- tables those of WrongTables.
 use Prim.Native.Nat.{ℕ, zero, suc, _+_, _*_, _≤_}
 use native.Mathlib.Omega.{arith}
 use mathlib.Core.Path.{_≡_, refl, sym, ap, subst, _∙_}
@@ -37,7 +38,7 @@ use Rattle.paper.specs.RecheckedRight.{Summarizes}
 use Rattle.tried.specs.WrongExplainers.{Right}
 use Rattle.tried.specs.WrongRecheckers.{RechecksRight, SummarizesRight}
 use Rattle.tried.specs.WrongRunners.{RunsRight}
-use Rattle.tried.specs.WrongPrograms.{RefusesAll, AcceptsAll, WritesNothing, FirstPartOnly, PassesNothing, PassesAll, WantsAllBlocks, CountsRight, Lends, CopiesText, LeavesParentheses, EnclosesAll, WritesAndForSequel, ForgetsBases, WritesAddressesInHex, explainer, NamesLastPart, FollowsLeftSpine, ShowsKeyForPriority, RechecksNever, RechecksAlways, RechecksEqual, RechecksUnranked, RechecksReadings, NamesPriority, NamesBareOnly, StepsByCode, SkipsKeepBool, LandsByHeight, FixesStrings, FixesComments, FixesWithZeros, FixesToDecimal, ChecksReduced, ChecksRightOperands, ChecksAtOperator, ChecksAboveZero, DraftsLastInverted, DraftsFromRight, DraftsInclusive, DraftsByAnd, AgreesAlways, DiffersAlways, ComparesFromFront, ComparesTwice, ComparesAnyShape, CountsFirstOnly, CountsWithRefused, CountsAlongSpine, CountsWithCut, WrongProgramsFail, NoWrongProgram, paddedText, paddedBlocks, PaddingSeen}
+use Rattle.tried.specs.WrongPrograms.{RefusesAll, AcceptsAll, WritesNothing, FirstPartOnly, PassesNothing, PassesAll, WantsAllBlocks, CountsRight, Lends, CopiesText, LeavesParentheses, EnclosesAll, WritesAndForSequel, ForgetsBases, WritesAddressesInHex, explainer, NamesLastPart, FollowsLeftSpine, ShowsKeyForPriority, RechecksNever, RechecksAlways, RechecksEqual, RechecksUnranked, RechecksReadings, NamesPriority, NamesBareOnly, StepsByCode, SkipsKeepBool, LandsByHeight, FixesStrings, FixesComments, FixesWithZeros, FixesToDecimal, ChecksReduced, ChecksRightOperands, ChecksAtOperator, ChecksAboveZero, DraftsLastInverted, DraftsFromRight, DraftsInclusive, DraftsByAnd, AgreesAlways, DiffersAlways, ComparesFromFront, ComparesTwice, ComparesAnyShape, CountsFirstOnly, CountsWithRefused, CountsAlongSpine, CountsWithCut, RunsAllAsFirst, RunsUntilRefused, RunsAndClears, RunsRefusedAsViolated, RunsForLastSteps, RunsWithCut, WrongProgramsFail, NoWrongProgram, paddedText, paddedBlocks, PaddingSeen}
 use Rattle.paper.proofs.Stages.{never-ok, ok-same}
 use Rattle.paper.proofs.LayoutPassed.{first-counted}
 use Rattle.paper.proofs.Table.{table-holds}
@@ -57,6 +58,7 @@ use Rattle.tried.proofs.WrongCheckers.{keys-bytes, wrong-checkers-fail}
 use Rattle.tried.proofs.WrongDrafters.{wrong-drafters-fail}
 use Rattle.tried.proofs.WrongComparers.{wrong-comparers-fail}
 use Rattle.tried.proofs.WrongCounters.{wrong-counters-fail}
+use Rattle.tried.proofs.WrongTables.{wrong-tables-fail}
 
 -- what demand 2 says of an entry that is judged
 by-demand-two : (p : Programs) → DemandTwo p → (text list entry : List ℕ) → Bytes text → Bytes list → Bytes entry → (b : Bool) → judgeAnswer text list entry ≡ ok b
@@ -458,6 +460,26 @@ counting-by-spine-fails p two counts = wrong-counters-fail .spine (p .count) cou
 counting-cut-fails : (p : Programs) → DemandTwo p → ¬ CountsWithCut p
 counting-cut-fails p two counts = wrong-counters-fail .cut (p .count) counts (two .counts)
 
+-- and of tables
+
+judging-first-fails : (p : Programs) → DemandTwo p → ¬ RunsAllAsFirst p
+judging-first-fails p two judges = wrong-tables-fail .first (p .runAll) judges (two .runs-all)
+
+stopping-at-refused-fails : (p : Programs) → DemandTwo p → ¬ RunsUntilRefused p
+stopping-at-refused-fails p two stops = wrong-tables-fail .stopping (p .runAll) stops (two .runs-all)
+
+clearing-later-fails : (p : Programs) → DemandTwo p → ¬ RunsAndClears p
+clearing-later-fails p two clears = wrong-tables-fail .clearing (p .runAll) clears (two .runs-all)
+
+telling-violated-fails : (p : Programs) → DemandTwo p → ¬ RunsRefusedAsViolated p
+telling-violated-fails p two tells = wrong-tables-fail .as-violated (p .runAll) tells (two .runs-all)
+
+telling-last-steps-fails : (p : Programs) → DemandTwo p → ¬ RunsForLastSteps p
+telling-last-steps-fails p two tells = wrong-tables-fail .last-steps (p .runAll) tells (two .runs-all)
+
+taking-cut-fails : (p : Programs) → DemandTwo p → ¬ RunsWithCut p
+taking-cut-fails p two takes = wrong-tables-fail .cut (p .runAll) takes (two .runs-all)
+
 pub wrong-programs-fail : WrongProgramsFail
 wrong-programs-fail p =
     record {
@@ -509,6 +531,12 @@ wrong-programs-fail p =
       counting-refused = counting-refused-fails p;
       counting-by-spine = counting-by-spine-fails p;
       counting-cut = counting-cut-fails p;
+      judging-first = judging-first-fails p;
+      stopping-at-refused = stopping-at-refused-fails p;
+      clearing-later = clearing-later-fails p;
+      telling-violated = telling-violated-fails p;
+      telling-last-steps = telling-last-steps-fails p;
+      taking-cut = taking-cut-fails p;
     }
 
 pub no-wrong-program : NoWrongProgram
@@ -564,6 +592,12 @@ no-wrong-program p kept =
       counting-refused = counting-refused-fails p two;
       counting-by-spine = counting-by-spine-fails p two;
       counting-cut = counting-cut-fails p two;
+      judging-first = judging-first-fails p two;
+      stopping-at-refused = stopping-at-refused-fails p two;
+      clearing-later = clearing-later-fails p two;
+      telling-violated = telling-violated-fails p two;
+      telling-last-steps = telling-last-steps-fails p two;
+      taking-cut = taking-cut-fails p two;
     }
 
 padded-loads : loadAnswer theKeys paddedBlocks ≡ ok 3

@@ -42,7 +42,9 @@ use Rattle.tried.specs.WrongDrafters.{Drafter, Maker, Makes, lastMade, r
 use Rattle.tried.specs.WrongComparers.{Comparer, Rule, SaysBy, agreed, differing, fromFront}
 use Rattle.tried.specs.WrongCounters as E
 use Rattle.tried.specs.WrongCounters.{Counter, NumbersBy, firstOnly, withRefused, alongSpine}
-use Rattle.tried.specs.WrongPrograms.{FirstPartOnly, WantsAllBlocks, StepsByCode, CountsRight, Lends, partOf, checking, judging, translating, loading, running, printing, explaining, summarizing, rechecking, fixing, drafting, comparing, totalling, OthersKept, ThereIs, WrongProgramsExist}
+use Rattle.tried.specs.WrongTables as Q
+use Rattle.tried.specs.WrongTables.{TableRunner, WritesBy, firstForAll, untilRefused, clearingLater, refusedAsViolated}
+use Rattle.tried.specs.WrongPrograms.{FirstPartOnly, WantsAllBlocks, StepsByCode, CountsRight, Lends, partOf, checking, judging, translating, loading, running, printing, explaining, summarizing, rechecking, fixing, drafting, comparing, totalling, tabling, OthersKept, ThereIs, WrongProgramsExist}
 use Rattle.paper.proofs.Promised.{placeAt, explanationFor, translation-same, can-be-kept}
 use Rattle.paper.proofs.ByteLists.{zero-bytes, all-bytes}
 use Rattle.paper.proofs.LoadedBlocksRun.{load-counts}
@@ -56,6 +58,7 @@ use Rattle.tried.proofs.WrongCheckers.{checker-real}
 use Rattle.tried.proofs.WrongDrafters.{drafter-real}
 use Rattle.tried.proofs.WrongComparersExist.{comparer-real, twice-real, shape-real}
 use Rattle.tried.proofs.WrongCountersExist.{counter-real, cut-real}
+use Rattle.tried.proofs.WrongTablesExist.{writer-real, stepper-real, padder-real}
 use Rattle.tried.proofs.WrongPrograms.{little, plain-written}
 
 -- a program that cuts: it translates what stands before the first ";"
@@ -87,9 +90,9 @@ plain-counts = refl
 -- each wrong program is one that keeps all promises but that of one call
 
 module _ (q : Programs) (kept : Kept q) where
-  -- with another check, or other calls of 02 l and m
-  abbrev with-checks : Checker → Comparer → Counter → Programs
-  with-checks check compare count =
+  -- with another check, or other calls of 02 l and m and since
+  abbrev with-checks : Checker → Comparer → Counter → TableRunner → Programs
+  with-checks check compare count runAll =
       record {
         read = q .read;
         check = check;
@@ -105,17 +108,18 @@ module _ (q : Programs) (kept : Kept q) where
         draft = q .draft;
         compare = compare;
         count = count;
+        runAll = runAll;
       }
 
   -- with another check
   checkers : Checker → Programs
-  checkers check = with-checks check (q .compare) (q .count)
+  checkers check = with-checks check (q .compare) (q .count) (q .runAll)
 
   others-than-check : (check : Checker) → OthersKept checking (checkers check)
   unfolding checkers
   others-than-check check = (
     (kept .read, kept .judge, kept .translate, kept .load, kept .run),
-    (kept .print, kept .explain, kept .summarize, kept .recheck, kept .fix, kept .draft, kept .compare, kept .count),
+    (kept .print, kept .explain, kept .summarize, kept .recheck, kept .fix, kept .draft, kept .compare, kept .count, kept .runAll),
   )
 
   -- one that types by a rule of its own
@@ -144,6 +148,7 @@ module _ (q : Programs) (kept : Kept q) where
         draft = q .draft;
         compare = q .compare;
         count = q .count;
+        runAll = q .runAll;
       }
 
   -- with other calls of 02 c, f, h and k
@@ -164,6 +169,7 @@ module _ (q : Programs) (kept : Kept q) where
         draft = draft;
         compare = q .compare;
         count = q .count;
+        runAll = q .runAll;
       }
 
   -- with another judge
@@ -174,7 +180,7 @@ module _ (q : Programs) (kept : Kept q) where
   unfolding judges
   others-than-judge judge = (
     (kept .read, kept .check, kept .translate, kept .load, kept .run),
-    (kept .print, kept .explain, kept .summarize, kept .recheck, kept .fix, kept .draft, kept .compare, kept .count),
+    (kept .print, kept .explain, kept .summarize, kept .recheck, kept .fix, kept .draft, kept .compare, kept .count, kept .runAll),
   )
 
   -- with another translator
@@ -185,7 +191,7 @@ module _ (q : Programs) (kept : Kept q) where
   unfolding translators
   others-than-translate translate = (
     (kept .read, kept .check, kept .judge, kept .load, kept .run),
-    (kept .print, kept .explain, kept .summarize, kept .recheck, kept .fix, kept .draft, kept .compare, kept .count),
+    (kept .print, kept .explain, kept .summarize, kept .recheck, kept .fix, kept .draft, kept .compare, kept .count, kept .runAll),
   )
 
   -- with another loader
@@ -196,7 +202,7 @@ module _ (q : Programs) (kept : Kept q) where
   unfolding loaders
   others-than-load load = (
     (kept .read, kept .check, kept .judge, kept .translate, kept .run),
-    (kept .print, kept .explain, kept .summarize, kept .recheck, kept .fix, kept .draft, kept .compare, kept .count),
+    (kept .print, kept .explain, kept .summarize, kept .recheck, kept .fix, kept .draft, kept .compare, kept .count, kept .runAll),
   )
 
   -- with another run
@@ -207,7 +213,7 @@ module _ (q : Programs) (kept : Kept q) where
   unfolding runners
   others-than-run run = (
     (kept .read, kept .check, kept .judge, kept .translate, kept .load),
-    (kept .print, kept .explain, kept .summarize, kept .recheck, kept .fix, kept .draft, kept .compare, kept .count),
+    (kept .print, kept .explain, kept .summarize, kept .recheck, kept .fix, kept .draft, kept .compare, kept .count, kept .runAll),
   )
 
   -- with another printer
@@ -218,7 +224,7 @@ module _ (q : Programs) (kept : Kept q) where
   unfolding printers
   others-than-print print = (
     (kept .read, kept .check, kept .judge, kept .translate, kept .load, kept .run),
-    (kept .explain, kept .summarize, kept .recheck, kept .fix, kept .draft, kept .compare, kept .count),
+    (kept .explain, kept .summarize, kept .recheck, kept .fix, kept .draft, kept .compare, kept .count, kept .runAll),
   )
 
   -- with another explainer
@@ -229,7 +235,7 @@ module _ (q : Programs) (kept : Kept q) where
   unfolding explainers
   others-than-explain explain = (
     (kept .read, kept .check, kept .judge, kept .translate, kept .load, kept .run),
-    (kept .print, kept .summarize, kept .recheck, kept .fix, kept .draft, kept .compare, kept .count),
+    (kept .print, kept .summarize, kept .recheck, kept .fix, kept .draft, kept .compare, kept .count, kept .runAll),
   )
 
   -- with another summary
@@ -240,7 +246,7 @@ module _ (q : Programs) (kept : Kept q) where
   unfolding summarizers
   others-than-summarize summarize = (
     (kept .read, kept .check, kept .judge, kept .translate, kept .load, kept .run),
-    (kept .print, kept .explain, kept .recheck, kept .fix, kept .draft, kept .compare, kept .count),
+    (kept .print, kept .explain, kept .recheck, kept .fix, kept .draft, kept .compare, kept .count, kept .runAll),
   )
 
   -- with another recheck
@@ -251,7 +257,7 @@ module _ (q : Programs) (kept : Kept q) where
   unfolding recheckers
   others-than-recheck recheck = (
     (kept .read, kept .check, kept .judge, kept .translate, kept .load, kept .run),
-    (kept .print, kept .explain, kept .summarize, kept .fix, kept .draft, kept .compare, kept .count),
+    (kept .print, kept .explain, kept .summarize, kept .fix, kept .draft, kept .compare, kept .count, kept .runAll),
   )
 
   -- with another pass
@@ -262,7 +268,7 @@ module _ (q : Programs) (kept : Kept q) where
   unfolding fixers
   others-than-fix fix = (
     (kept .read, kept .check, kept .judge, kept .translate, kept .load, kept .run),
-    (kept .print, kept .explain, kept .summarize, kept .recheck, kept .draft, kept .compare, kept .count),
+    (kept .print, kept .explain, kept .summarize, kept .recheck, kept .draft, kept .compare, kept .count, kept .runAll),
   )
 
   -- with another translation of contracts
@@ -273,18 +279,18 @@ module _ (q : Programs) (kept : Kept q) where
   unfolding drafters
   others-than-draft draft = (
     (kept .read, kept .check, kept .judge, kept .translate, kept .load, kept .run),
-    (kept .print, kept .explain, kept .summarize, kept .recheck, kept .fix, kept .compare, kept .count),
+    (kept .print, kept .explain, kept .summarize, kept .recheck, kept .fix, kept .compare, kept .count, kept .runAll),
   )
 
   -- with another comparison
   comparers : Comparer → Programs
-  comparers compare = with-checks (q .check) compare (q .count)
+  comparers compare = with-checks (q .check) compare (q .count) (q .runAll)
 
   others-than-compare : (compare : Comparer) → OthersKept comparing (comparers compare)
   unfolding comparers
   others-than-compare compare = (
     (kept .read, kept .check, kept .judge, kept .translate, kept .load, kept .run),
-    (kept .print, kept .explain, kept .summarize, kept .recheck, kept .fix, kept .draft, kept .count),
+    (kept .print, kept .explain, kept .summarize, kept .recheck, kept .fix, kept .draft, kept .count, kept .runAll),
   )
 
   -- one that goes by a rule of its own
@@ -296,13 +302,13 @@ module _ (q : Programs) (kept : Kept q) where
 
   -- with another count
   counters : Counter → Programs
-  counters count = with-checks (q .check) (q .compare) count
+  counters count = with-checks (q .check) (q .compare) count (q .runAll)
 
   others-than-count : (count : Counter) → OthersKept totalling (counters count)
   unfolding counters
   others-than-count count = (
     (kept .read, kept .check, kept .judge, kept .translate, kept .load, kept .run),
-    (kept .print, kept .explain, kept .summarize, kept .recheck, kept .fix, kept .draft, kept .compare),
+    (kept .print, kept .explain, kept .summarize, kept .recheck, kept .fix, kept .draft, kept .compare, kept .runAll),
   )
 
   -- one that numbers the parts by a rule of its own
@@ -311,6 +317,24 @@ module _ (q : Programs) (kept : Kept q) where
   there-counts rule =
       let (x, says) = counter-real rule (q .count) in
       (counters x, says, others-than-count x)
+
+  -- with another way with tables
+  tables : TableRunner → Programs
+  tables runAll = with-checks (q .check) (q .compare) (q .count) runAll
+
+  others-than-table : (runAll : TableRunner) → OthersKept tabling (tables runAll)
+  unfolding tables
+  others-than-table runAll = (
+    (kept .read, kept .check, kept .judge, kept .translate, kept .load, kept .run),
+    (kept .print, kept .explain, kept .summarize, kept .recheck, kept .fix, kept .draft, kept .compare, kept .count),
+  )
+
+  -- one that writes its answers by a rule of its own
+  there-writes : (rule : Q.Rule) → ThereIs (λ p. WritesBy rule (p .runAll)) tabling
+  unfolding tables
+  there-writes rule =
+      let (x, writes) = writer-real rule (q .runAll) in
+      (tables x, writes, others-than-table x)
 
   -- one that makes a tree of its own
   there-drafts : (made : Maker) → ThereIs (λ p. Makes made (p .draft)) drafting
@@ -448,7 +472,7 @@ names-worded : (n : ℕ) (r : Reason) → Names n r → Names n (explanationSays
 names-worded n r (place, s, e) = (place, s, ap (λ (x : Reason). explanationSays (explanationFor x)) e)
 
 pub wrong-programs-exist : WrongProgramsExist
-unfolding judges translators loaders runners explainers summarizers recheckers fixers comparers counters
+unfolding judges translators loaders runners explainers summarizers recheckers fixers comparers counters tables
 wrong-programs-exist =
     let (q, kept) = can-be-kept in
     let refuses : List ℕ → List ℕ → List ℕ → Judgement = λ text list entry. J.Refused 20 (P.Entry 0) in
@@ -531,4 +555,12 @@ wrong-programs-exist =
       counting-by-spine = there-counts q kept alongSpine;
       counting-cut =
           let (x, counts) = cut-real (q .count) (demand-two-met q kept .counts) in (counters q kept x, counts, others-than-count q kept x);
+      judging-first = there-writes q kept firstForAll;
+      stopping-at-refused = there-writes q kept untilRefused;
+      clearing-later = there-writes q kept clearingLater;
+      telling-violated = there-writes q kept refusedAsViolated;
+      telling-last-steps =
+          let (x, tells) = stepper-real (q .runAll) (demand-two-met q kept .runs-all) in (tables q kept x, tells, others-than-table q kept x);
+      taking-cut =
+          let (x, takes) = padder-real (q .runAll) (demand-two-met q kept .runs-all) in (tables q kept x, takes, others-than-table q kept x);
     }

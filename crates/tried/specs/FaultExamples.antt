@@ -12,8 +12,8 @@ use Rattle.paper.specs.Tokens.{plain, bytes, notSign, sequel, less}
 use Rattle.paper.specs.Keys.{keyRecord, exact, Key, layoutRule}
 use Rattle.paper.specs.Grammar.{Tree, truth, number, key, field, attribute, prefixed, joined, compared}
 use Rattle.paper.specs.Calls.{Restriction}
-use Rattle.paper.specs.Faults.{Faults, TextSize, ListSize, ListRecords, TextTokens, TreeTypes, RootType, BufferSize, BlocksSize, BlocksLayout, BlocksCode, EntrySize, EntryRules, LendingSize}
-use Rattle.paper.specs.Table.{Sooner, Wins, Stage, stage, Decided, Clear, readStages, checkStages, judgeStages, translateStages, loadStages, runStages, printStages, countStages}
+use Rattle.paper.specs.Faults.{Faults, TextSize, ListSize, ListRecords, TextTokens, TreeTypes, RootType, BufferSize, BlocksSize, BlocksLayout, BlocksCode, EntrySize, EntryRules, EntriesSize, AnswersSize, LendingSize}
+use Rattle.paper.specs.Table.{Sooner, Wins, Stage, stage, Decided, Clear, readStages, checkStages, judgeStages, translateStages, loadStages, runStages, printStages, countStages, runAllStages}
 use Rattle.tried.specs.KeyExamples.{aKey}
 use Rattle.tried.specs.BlockExamples.{row, block, alone, pushTrue, conjoin, firstBlock, lastBlock}
 use Rattle.tried.specs.AnswerExamples.{longText, shortList, repeatingList}
@@ -66,6 +66,9 @@ pub record Rows : Type 0 where
   pub row-18-over-a-join : BlocksCode [] (block 0 4 (pushTrue ++ pushTrue ++ row 13 0 1 ++ conjoin ++ replicate 420 0) 4 0) 18 44
   pub row-18-at-the-end : BlocksCode [] (block 0 1 (alone (row 5 0 0)) 1 0) 18 512
   pub row-19 : EntrySize e (bigEndian 3 0) 19 3
+  -- of a table: a byte over, and one answer for two entries
+  pub row-19-of-many : EntriesSize [] (replicate 9 0) 19 9
+  pub row-15-of-answers : AnswersSize [] (replicate 8 0) (0 ∷ []) 15 1
   pub row-20-priority : EntryRules e (bigEndian 4 (2 ^ 31)) 20 0
   pub row-20 : EntryRules e (bigEndian 4 0 ++ matchRecord 1 0 256 0) 20 4
   pub row-21-over-the-limit : LendingSize (replicate 4097 97) (replicate 5000 0) 21 5000
@@ -115,6 +118,8 @@ pub record InputsInOrder : Type 0 where
   pub print : inputs (printStages [] []) ≡ inputs (readStages []) ++ (inBuffer ∷ [])
   -- those of check, and 25
   pub count : inputs (countStages [] [] []) ≡ inputs (checkStages [] []) ++ (inEntry ∷ [])
+  -- those of load, and 19; 15
+  pub runAll : inputs (runAllStages [] [] [] []) ≡ inputs (loadStages [] []) ++ (inEntry ∷ inBuffer ∷ [])
 
 pub record FaultExamples : Type 0 where
   pub rows : Rows

@@ -27,6 +27,7 @@ pub mod FaultExamples
 pub mod DependenceExamples
 pub mod CompareExamples
 pub mod CountExamples
+pub mod RunAllExamples
 pub mod WrongPrints
 pub mod WrongExplainers
 pub mod WrongCopiers
@@ -37,4 +38,5 @@ pub mod WrongCheckers
 pub mod WrongDrafters
 pub mod WrongComparers
 pub mod WrongCounters
+pub mod WrongTables
 pub mod WrongPrograms

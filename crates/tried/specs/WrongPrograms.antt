@@ -1,6 +1,6 @@
 -- 01, "Try these against it": programs that the promises must leave no room for; and wrong printers (02 a and e), explainers (02 c),
 -- summaries and rechecks (02 f), ways with skips (02 g), passes over octal numerals (02 h), checkers of numbers that lose bits (02 j),
--- translations of contracts (02 k), comparisons (02 l), and counts (02 m). Each is refuted at an input, named in the proof.
+-- translations of contracts (02 k), comparisons (02 l), counts (02 m), and tables in one call. Each is refuted at an input, named in the proof.
 use Prim.Native.Nat.{ℕ, _+_, _*_, _≤_, _<_}
 use mathlib.Core.Path.{_≡_}
 use mathlib.Core.Bool.{true, false, cond}
@@ -24,7 +24,7 @@ use Rattle.paper.specs.Calls.{tree, Restriction, restriction, over, judgeAnswer
 use Rattle.paper.specs.TranslationCorrect.{Carries}
 use Rattle.tried.specs.MarkedJudgements.{theKeys, theEntry}
 use Rattle.paper.specs.Explained.{explanationSays}
-use Rattle.paper.specs.Promised.{judgementOfRun, Bytes, Programs, KeepsRead, KeepsCheck, KeepsJudge, KeepsTranslate, KeepsLoad, KeepsRun, KeepsPrint, KeepsExplain, KeepsSummarize, KeepsRecheck, KeepsFix, KeepsDraft, KeepsCompare, KeepsCount, Kept}
+use Rattle.paper.specs.Promised.{judgementOfRun, Bytes, Programs, KeepsRead, KeepsCheck, KeepsJudge, KeepsTranslate, KeepsLoad, KeepsRun, KeepsPrint, KeepsExplain, KeepsSummarize, KeepsRecheck, KeepsFix, KeepsDraft, KeepsCompare, KeepsCount, KeepsRunAll, Kept}
 use Rattle.tried.specs.WrongPrints.{withoutParentheses, withAllParentheses, withAndForSequel, inDecimal, addressesInHex}
 use Rattle.tried.specs.WrongExplainers.{Explainer, NamesLast, FollowsSpine, KeyForPriority}
 use Rattle.tried.specs.WrongRecheckers.{NeverReuses, AlwaysReuses, WantsEqualEntries, ForgetsPriority, ComparesReadings, CountsPriority, MissesFields}
@@ -34,6 +34,7 @@ use Rattle.tried.specs.WrongCheckers.{ReducesStill, LooksRight, PlacesAt
 use Rattle.tried.specs.WrongDrafters.{InvertsLast, JoinsRight, TakesInclusive, JoinsByAnd}
 use Rattle.tried.specs.WrongComparers.{AlwaysAgrees, AlwaysDiffers, MatchesFromFront, UsesTwice, IgnoresShape}
 use Rattle.tried.specs.WrongCounters.{CountsFirst, CountsRefused, CountsBySpine, CountsCut}
+use Rattle.tried.specs.WrongTables.{JudgesFirst, StopsAtRefused, ClearsLater, TellsViolated, TellsLastSteps, TakesCut}
 use Rattle.paper.specs.Demands.{Refuses, blocksWritten, DemandOne, DemandTwo, DemandThree}
 
 -- the bytes before the first ";"
@@ -238,18 +239,38 @@ CountsAlongSpine p = CountsBySpine (p .count)
 abbrev pub CountsWithCut : Programs → Type 0
 CountsWithCut p = CountsCut (p .count)
 
+-- those of WrongTables
+
+abbrev pub RunsAllAsFirst : Programs → Type 0
+RunsAllAsFirst p = JudgesFirst (p .runAll)
+
+abbrev pub RunsUntilRefused : Programs → Type 0
+RunsUntilRefused p = StopsAtRefused (p .runAll)
+
+abbrev pub RunsAndClears : Programs → Type 0
+RunsAndClears p = ClearsLater (p .runAll)
+
+abbrev pub RunsRefusedAsViolated : Programs → Type 0
+RunsRefusedAsViolated p = TellsViolated (p .runAll)
+
+abbrev pub RunsForLastSteps : Programs → Type 0
+RunsForLastSteps p = TellsLastSteps (p .runAll)
+
+abbrev pub RunsWithCut : Programs → Type 0
+RunsWithCut p = TakesCut (p .runAll)
+
 -- each is real: there is such a program in which every other call keeps its promise
 
 pub data Call : Type 0 where
-  checking judging translating loading running printing explaining summarizing rechecking fixing drafting comparing totalling : Call
+  checking judging translating loading running printing explaining summarizing rechecking fixing drafting comparing totalling tabling : Call
 
--- the calls of document 01, and those of 02
+-- the calls of document 01, and those since
 
 abbrev pub FirstKept : Programs → Type 0
 FirstKept p = KeepsRead p × KeepsCheck p × KeepsJudge p × KeepsTranslate p × KeepsLoad p × KeepsRun p
 
 abbrev pub LaterKept : Programs → Type 0
-LaterKept p = KeepsPrint p × KeepsExplain p × KeepsSummarize p × KeepsRecheck p × KeepsFix p × KeepsDraft p × KeepsCompare p × KeepsCount p
+LaterKept p = KeepsPrint p × KeepsExplain p × KeepsSummarize p × KeepsRecheck p × KeepsFix p × KeepsDraft p × KeepsCompare p × KeepsCount p × KeepsRunAll p
 
 abbrev pub OthersKept : Call → Programs → Type 0
 OthersKept checking p = (KeepsRead p × KeepsJudge p × KeepsTranslate p × KeepsLoad p × KeepsRun p) × LaterKept p
@@ -257,14 +278,15 @@ OthersKept judging p = (KeepsRead p × KeepsCheck p × KeepsTranslate p × Keeps
 OthersKept translating p = (KeepsRead p × KeepsCheck p × KeepsJudge p × KeepsLoad p × KeepsRun p) × LaterKept p
 OthersKept loading p = (KeepsRead p × KeepsCheck p × KeepsJudge p × KeepsTranslate p × KeepsRun p) × LaterKept p
 OthersKept running p = (KeepsRead p × KeepsCheck p × KeepsJudge p × KeepsTranslate p × KeepsLoad p) × LaterKept p
-OthersKept printing p = FirstKept p × (KeepsExplain p × KeepsSummarize p × KeepsRecheck p × KeepsFix p × KeepsDraft p × KeepsCompare p × KeepsCount p)
-OthersKept explaining p = FirstKept p × (KeepsPrint p × KeepsSummarize p × KeepsRecheck p × KeepsFix p × KeepsDraft p × KeepsCompare p × KeepsCount p)
-OthersKept summarizing p = FirstKept p × (KeepsPrint p × KeepsExplain p × KeepsRecheck p × KeepsFix p × KeepsDraft p × KeepsCompare p × KeepsCount p)
-OthersKept rechecking p = FirstKept p × (KeepsPrint p × KeepsExplain p × KeepsSummarize p × KeepsFix p × KeepsDraft p × KeepsCompare p × KeepsCount p)
-OthersKept fixing p = FirstKept p × (KeepsPrint p × KeepsExplain p × KeepsSummarize p × KeepsRecheck p × KeepsDraft p × KeepsCompare p × KeepsCount p)
-OthersKept drafting p = FirstKept p × (KeepsPrint p × KeepsExplain p × KeepsSummarize p × KeepsRecheck p × KeepsFix p × KeepsCompare p × KeepsCount p)
-OthersKept comparing p = FirstKept p × (KeepsPrint p × KeepsExplain p × KeepsSummarize p × KeepsRecheck p × KeepsFix p × KeepsDraft p × KeepsCount p)
-OthersKept totalling p = FirstKept p × (KeepsPrint p × KeepsExplain p × KeepsSummarize p × KeepsRecheck p × KeepsFix p × KeepsDraft p × KeepsCompare p)
+OthersKept printing p = FirstKept p × (KeepsExplain p × KeepsSummarize p × KeepsRecheck p × KeepsFix p × KeepsDraft p × KeepsCompare p × KeepsCount p × KeepsRunAll p)
+OthersKept explaining p = FirstKept p × (KeepsPrint p × KeepsSummarize p × KeepsRecheck p × KeepsFix p × KeepsDraft p × KeepsCompare p × KeepsCount p × KeepsRunAll p)
+OthersKept summarizing p = FirstKept p × (KeepsPrint p × KeepsExplain p × KeepsRecheck p × KeepsFix p × KeepsDraft p × KeepsCompare p × KeepsCount p × KeepsRunAll p)
+OthersKept rechecking p = FirstKept p × (KeepsPrint p × KeepsExplain p × KeepsSummarize p × KeepsFix p × KeepsDraft p × KeepsCompare p × KeepsCount p × KeepsRunAll p)
+OthersKept fixing p = FirstKept p × (KeepsPrint p × KeepsExplain p × KeepsSummarize p × KeepsRecheck p × KeepsDraft p × KeepsCompare p × KeepsCount p × KeepsRunAll p)
+OthersKept drafting p = FirstKept p × (KeepsPrint p × KeepsExplain p × KeepsSummarize p × KeepsRecheck p × KeepsFix p × KeepsCompare p × KeepsCount p × KeepsRunAll p)
+OthersKept comparing p = FirstKept p × (KeepsPrint p × KeepsExplain p × KeepsSummarize p × KeepsRecheck p × KeepsFix p × KeepsDraft p × KeepsCount p × KeepsRunAll p)
+OthersKept totalling p = FirstKept p × (KeepsPrint p × KeepsExplain p × KeepsSummarize p × KeepsRecheck p × KeepsFix p × KeepsDraft p × KeepsCompare p × KeepsRunAll p)
+OthersKept tabling p = FirstKept p × (KeepsPrint p × KeepsExplain p × KeepsSummarize p × KeepsRecheck p × KeepsFix p × KeepsDraft p × KeepsCompare p × KeepsCount p)
 
 abbrev pub ThereIs : (Programs → Type 0) → Call → Type 0
 ThereIs Wrong c = (p : Programs) × Wrong p × OthersKept c p
@@ -318,6 +340,12 @@ pub record WrongProgramsExist : Type 0 where
   pub counting-refused : ThereIs CountsWithRefused totalling
   pub counting-by-spine : ThereIs CountsAlongSpine totalling
   pub counting-cut : ThereIs CountsWithCut totalling
+  pub judging-first : ThereIs RunsAllAsFirst tabling
+  pub stopping-at-refused : ThereIs RunsUntilRefused tabling
+  pub clearing-later : ThereIs RunsAndClears tabling
+  pub telling-violated : ThereIs RunsRefusedAsViolated tabling
+  pub telling-last-steps : ThereIs RunsForLastSteps tabling
+  pub taking-cut : ThereIs RunsWithCut tabling
 
 -- what excludes each: a demand, beside the calls that it is tried with; or a promise, that of `load` by 18, or that of `check` by a place
 pub record DemandsExclude (p : Programs) : Type 0 where
@@ -369,6 +397,12 @@ pub record DemandsExclude (p : Programs) : Type 0 where
   pub counting-refused : DemandTwo p → ¬ CountsWithRefused p
   pub counting-by-spine : DemandTwo p → ¬ CountsAlongSpine p
   pub counting-cut : DemandTwo p → ¬ CountsWithCut p
+  pub judging-first : DemandTwo p → ¬ RunsAllAsFirst p
+  pub stopping-at-refused : DemandTwo p → ¬ RunsUntilRefused p
+  pub clearing-later : DemandTwo p → ¬ RunsAndClears p
+  pub telling-violated : DemandTwo p → ¬ RunsRefusedAsViolated p
+  pub telling-last-steps : DemandTwo p → ¬ RunsForLastSteps p
+  pub taking-cut : DemandTwo p → ¬ RunsWithCut p
 
 abbrev pub WrongProgramsFail : Type 0
 WrongProgramsFail = (p : Programs) → DemandsExclude p
@@ -423,6 +457,12 @@ pub record Excluded (p : Programs) : Type 0 where
   pub counting-refused : ¬ CountsWithRefused p
   pub counting-by-spine : ¬ CountsAlongSpine p
   pub counting-cut : ¬ CountsWithCut p
+  pub judging-first : ¬ RunsAllAsFirst p
+  pub stopping-at-refused : ¬ RunsUntilRefused p
+  pub clearing-later : ¬ RunsAndClears p
+  pub telling-violated : ¬ RunsRefusedAsViolated p
+  pub telling-last-steps : ¬ RunsForLastSteps p
+  pub taking-cut : ¬ RunsWithCut p
 
 abbrev pub NoWrongProgram : Type 0
 NoWrongProgram = (p : Programs) → Kept p → Excluded p

@@ -1,17 +1,15 @@
 -- Entries counted one after the other are counted together.
-use Prim.Native.Nat.{ℕ, zero, suc, _+_, _*_, _/_, _≤_, _<_}
-use native.Mathlib.Nat.{mul-le-mul-right, div-mul-le-self, add-zero, zero-add, zero-mul, suc-mul}
-use native.Mathlib.Numerals.{add-one}
+use Prim.Native.Nat.{ℕ, zero, suc, _+_, _≤_, _<_}
+use native.Mathlib.Nat.{add-zero, zero-add}
 use native.Mathlib.Omega.{arith}
 use mathlib.Core.Path.{_≡_, refl, sym, ap, _∙_}
 use mathlib.Core.Bool.{Bool, true, false, cond}
 use mathlib.Core.List.{List, [], _∷_, _++_, map}
-use lib.ListN.{length, getD, take, drop, length-map}
-use lib.Seq.{drop-drop}
+use lib.ListN.{length, getD, length-map}
 use Rattle.paper.specs.Keys.{Key}
 use Rattle.paper.specs.Grammar.{Tree}
 use Rattle.paper.specs.Parts.{Part}
-use Rattle.paper.specs.Counting.{laidOut, entriesIn, countIf, isAccepted, isViolated, isRefused, judged, falseOf, countsOf}
+use Rattle.paper.specs.Counting.{entriesIn, countIf, isAccepted, isViolated, isRefused, judged, falseOf, countsOf}
 use Rattle.paper.specs.CountedRight.{one}
 use Rattle.parts.specs.Rows.{each}
 use Rattle.parts.proofs.Stored.{each-length}
@@ -44,28 +42,6 @@ module _ {A : Type 0} (test : A → Bool) where
       go : (b : Bool) {m n : ℕ} → m ≤ n → cond b (suc m) m ≤ suc n
       go true h = omega (arith, h)
       go false h = omega (arith, h)
-
--- the entries of a stretch
-
-pub whole-inside : (k size m : ℕ) → k < m / size → k * size + size ≤ m
-whole-inside k size m h =
-    let up = mul-le-mul-right size h in
-    omega (arith, up, suc-mul k size, div-mul-le-self m size)
-
-pub laid-length : (size n : ℕ) (s : List ℕ) → length (laidOut size n s) ≡ n
-laid-length size zero s = refl
-laid-length size (suc n) s = ap suc (laid-length size n (drop size s))
-
-laid-more : (size n : ℕ) (s : List ℕ) → laidOut size (suc n) s ≡ laidOut size n s ++ (take size (drop (n * size) s) ∷ [])
-laid-more size zero s = rw (zero-mul size)
-laid-more size (suc n) s =
-    let past : size + n * size ≡ suc n * size = omega (arith, suc-mul n size) in
-    ap (λ (es : List (List ℕ)). take size s ∷ es)
-    (laid-more size n (drop size s)
-    ∙ ap (λ (r : List ℕ). laidOut size n (drop size s) ++ (take size r ∷ [])) (drop-drop (n * size) size s ∙ ap (λ (m : ℕ). drop m s) past))
-
-pub laid-next : (size k : ℕ) (s : List ℕ) → laidOut size (k + 1) s ≡ laidOut size k s ++ (take size (drop (k * size) s) ∷ [])
-laid-next size k s = ap (λ (n : ℕ). laidOut size n s) (add-one k) ∙ laid-more size k s
 
 module _ (ks : List Key) (t : Tree) (n : ℕ) (part : ℕ → Part) where
   pub adds-none : (numbers : List ℕ) (r : Totals) → (r .accepted ≡ 0) × (r .violated ≡ 0) × (r .refused ≡ 0) → Adds ks t n part [] numbers numbers r

@@ -1,15 +1,15 @@
 -- Numbers that grow: one more of them, twice in turn, and all of them as a list.
 use Prim.Native.Nat.{ℕ, zero, suc, _+_, _-_, _^_, _≤_, _<_}
 use native.Mathlib.Nat.{add-zero, eq-or-lt-of-le}
-use native.Mathlib.Numerals.{add-one}
 use native.Mathlib.Omega.{arith}
 use mathlib.Core.Path.{_≡_, refl, sym, ap, ap₂, _∙_}
 use mathlib.Core.Logic.{_⊎_, inl, inr}
 use mathlib.Core.List.{List, [], _∷_, _++_}
 use lib.ListN.{length, getD, set, take, drop, replicate, length-set, length-drop, length-replicate, replicate-append-replicate, getD-replicate, length-append, List·getD-append, take-append-drop}
-use lib.Seq.{drop-cons, set-at, append-snoc, length-take-le, drop-append-seam, getD-set-same, getD-set-other, getD-take, getD-drop, ext-getD}
+use lib.Seq.{length-take-le, drop-append-seam, getD-set-same, getD-set-other, getD-take, getD-drop, ext-getD}
 use Rattle.paper.specs.Calls.{over}
 use Rattle.paper.specs.CountedRight.{sums}
+use Rattle.paper.proofs.Overwritten.{over-next}
 use Rattle.counting.specs.Tallied.{raised, Spare, Grew}
 
 pub grew-none : (by : ℕ → ℕ) (ns : List ℕ) → Grew 0 by ns ns
@@ -146,13 +146,7 @@ zeros-spare numbers n more few =
 -- one more of them
 pub zeros-next : (numbers : List ℕ) (k : ℕ) → k < length numbers → set (over (replicate k 0) numbers) k 0 ≡ over (replicate (k + 1) 0) numbers
 zeros-next numbers k inside =
-    let zeros : List ℕ = replicate k 0 in
-    let rest = drop (suc k) numbers in
     let long = length-replicate {A = ℕ} k 0 in
-    let long-next = length-replicate {A = ℕ} (k + 1) 0 ∙ add-one k in
-    let split : zeros ++ drop (length zeros) numbers ≡ zeros ++ (getD numbers k 0 ∷ rest) =
-    ap (λ (m : ℕ). zeros ++ drop m numbers) long ∙ ap (λ (l : List ℕ). zeros ++ l) (drop-cons numbers k 0 inside) in
-    ap (λ (l : List ℕ). set l k 0) split
-    ∙ set-at zeros (getD numbers k 0) rest 0 k long
-    ∙ sym (append-snoc zeros 0 rest)
-    ∙ ap₂ (λ (l : List ℕ) (m : ℕ). l ++ drop m numbers) (replicate-append-replicate k 1 0) (sym long-next)
+    ap (λ (m : ℕ). set (over (replicate k 0) numbers) m 0) (sym long)
+    ∙ over-next (replicate k 0) numbers 0 (omega (arith, long, inside))
+    ∙ ap (λ (l : List ℕ). over l numbers) (replicate-append-replicate k 1 0)

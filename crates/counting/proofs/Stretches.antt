@@ -1,17 +1,18 @@
 -- A file counted a stretch at a time: what a stretch leaves room for, and how many it can tell of.
-use Prim.Native.Nat.{ℕ, zero, suc, _+_, _≤_, _<_}
+use Prim.Native.Nat.{ℕ, zero, suc, _+_, _≤_}
 use native.Mathlib.Omega.{arith}
-use mathlib.Core.Path.{_≡_, sym, ap, _∙_}
+use mathlib.Core.Path.{_≡_, ap, _∙_}
 use mathlib.Core.List.{List, [], _∷_, map}
 use lib.ListN.{length, getD, length-map}
 use Rattle.paper.specs.Keys.{Key}
 use Rattle.paper.specs.Grammar.{Tree}
 use Rattle.paper.specs.Parts.{Part}
 use Rattle.paper.specs.Counting.{entrySize, wholeIn, entriesIn, isAccepted, isViolated, isRefused, judged, falseOf, countsOf}
+use Rattle.paper.proofs.EntriesLaid.{laid-length}
 use Rattle.counting.specs.declared.total.Totals.{Totals}
-use Rattle.counting.specs.Tallied.{raised, Spare, Tells}
+use Rattle.counting.specs.Tallied.{Spare, Tells}
 use Rattle.counting.proofs.Growing.{raised-length, raised-at}
-use Rattle.counting.proofs.EntryByEntry.{count-most, laid-length}
+use Rattle.counting.proofs.EntryByEntry.{count-most}
 
 module _ (ks : List Key) (t : Tree) (ps : List Part) (s before after : List ℕ) (r : Totals) (told : Tells (countsOf ks t ps s) before after r) where
   abbrev es : List (List ℕ)

@@ -1,11 +1,10 @@
 // The whole entries of a stretch, one after the other.
 ghost use mathlib.Core.Path.{_≡_};
 ghost use mathlib.Core.List.{List, [], _∷_};
-ghost use Prim.Native.Nat.{ℕ, _+_, _*_, _≤_};
-ghost use lib.ListN.{length, take, drop, replicate};
-ghost use Rattle.paper.specs.Keys.{mostKeys, recordSize};
+ghost use Prim.Native.Nat.{ℕ, _≤_};
+ghost use lib.ListN.{length, replicate};
 ghost use Rattle.paper.specs.Calls.{over};
-ghost use Rattle.paper.specs.Counting.{entrySize, wholeIn, countsOf};
+ghost use Rattle.paper.specs.Counting.{wholeIn, countsOf};
 ghost use Rattle.keys.specs.Says.{keysIn};
 ghost use Rattle.trees.specs.Standing.{treeAt};
 ghost use Rattle.parts.specs.Rows.{partAt, partsOn};
@@ -13,18 +12,7 @@ ghost use Rattle.reading.specs.Parted.{PassedParts};
 ghost use Rattle.counting.specs.Tallied.{Spare, Tells, Adds};
 use crate::misses;
 use crate::total::Totals;
-use keys::Entry;
-use keys::KeyRecord;
-use keys::Matched;
 use paper::Checking;
-
-// The bytes of an entry for a key list.
-pub fn entry_size(list: &[u8]) -> usize
-    requires { ⌜ length (now list) ≤ mostKeys * recordSize ⌝ }
-    ensures { λ r. ⌜ r ≡ entrySize (keysIn (now (list .entry))) ⌝ }
-{
-    Entry::HEAD + Matched::SIZE * (list.len() / KeyRecord::SIZE)
-}
 
 // Adds one entry: to the number of each part that is false on it, if it conforms.
 fn add_entry(
@@ -47,16 +35,6 @@ fn add_entry(
             Totals::verdict(misses::add_false(list, entry, nodes, rows, n, counts))
         }
     }
-}
-
-// The entry of an index.
-fn entry_at(entries: &[u8], k: usize, size: usize) -> &[u8]
-    requires { ⌜ k * size + size ≤ length (now entries) ⌝ }
-    ensures { λ r. ⌜ now r ≡ take size (drop (k * size) (now (entries .entry))) ⌝ }
-{
-    let from = k * size;
-    let to = from + size;
-    &entries[from..to]
 }
 
 // Sets the first n numbers to 0.
@@ -85,12 +63,12 @@ pub fn tally(
     ensures { λ r. ⌜ ((text : List ℕ) (p : PassedParts text (now (list .entry)) (now (nodes .entry)) (now (rows .entry)) n)
         → Tells (countsOf (keysIn (now (list .entry))) (treeAt text (now (nodes .entry)) (p .root)) (partsOn text (now (nodes .entry)) (now (rows .entry)) n) (now (entries .entry))) (now (counts .entry)) (now (counts .exit)) r) ⌝ }
 {
-    let size = entry_size(list);
+    let size = keys::entry_size(list);
     let whole = entries.len() / size;
     let mut totals = Totals::none();
     let mut k = 0;
     while k < whole {
-        let entry = entry_at(entries, k, size);
+        let entry = keys::entry_at(entries, k, size);
         totals = totals.plus(add_entry(list, entry, nodes, rows, n, counts));
         k += 1;
     }

@@ -8,6 +8,5 @@ mod misses;
 mod total;
 
 pub use entries::clear;
-pub use entries::entry_size;
 pub use entries::tally;
 pub use total::Totals;

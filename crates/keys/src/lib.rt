@@ -5,6 +5,7 @@
 mod conform;
 mod entry;
 mod find;
+mod laid;
 mod list;
 mod record;
 mod rules;
@@ -15,6 +16,8 @@ pub use entry::Matched;
 pub use entry::same_record;
 pub use find::Found;
 pub use find::find_key;
+pub use laid::entry_at;
+pub use laid::entry_size;
 pub use list::check_list;
 pub use list::check_names;
 pub use record::KeyRecord;

@@ -1,9 +1,9 @@
 -- Numbers that stand over others. The later ones are those below, so what is stored twice is stored once, and what grows are the numbers on top.
-use Prim.Native.Nat.{ℕ, zero, suc, _+_, _-_, _≤_, _<_}
+use Prim.Native.Nat.{ℕ, zero, suc, _+_, _≤_}
 use native.Mathlib.Omega.{arith}
 use mathlib.Core.Path.{_≡_, refl, sym, ap, ap₂, _∙_}
 use mathlib.Core.List.{List, [], _∷_, _++_}
-use lib.ListN.{length, getD, drop, length-append, length-drop, List·getD-append}
+use lib.ListN.{length, getD, drop}
 use lib.Seq.{drop-append-seam}
 use Rattle.paper.specs.Calls.{over}
 use Rattle.paper.specs.BlocksRoundTrip.{All}
@@ -23,12 +23,6 @@ raised-over (c ∷ cs) (d ∷ ds) [] e h = absurd (omega arith)
 raised-over (c ∷ cs) (d ∷ ds) (b ∷ base) e h =
     let sum : d + c ≡ c + d = omega arith in
     ap₂ (λ (x : ℕ) (l : List ℕ). x ∷ l) sum (raised-over cs ds base (omega arith) (omega arith))
-
-pub over-length : (xs base : List ℕ) → length xs ≤ length base → length (over xs base) ≡ length base
-over-length xs base h = omega (arith, length-append xs (drop (length xs) base), length-drop (length xs) base)
-
-pub over-at : (xs base : List ℕ) (k : ℕ) → k < length xs → getD (over xs base) k 0 ≡ getD xs k 0
-over-at xs base k h = List·getD-append xs (drop (length xs) base) 0 k h
 
 pub each-most : (most : ℕ) (ns : List ℕ) → All (λ n. n ≤ most) ns → (k : ℕ) → getD ns k 0 ≤ most
 each-most most [] h k = omega arith

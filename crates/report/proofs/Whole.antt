@@ -18,6 +18,7 @@ use Rattle.paper.specs.Counting.{entrySize, wholeIn, cutIn, laidOut, entriesIn,
 use Rattle.paper.specs.CountedRight.{together}
 use Rattle.paper.proofs.EntriesLaid.{cut-both}
 use Rattle.paper.proofs.CountedRight.{totals-add-up, chunks-add-up, counted-there, no-part-beyond-violated}
+use Rattle.paper.proofs.Overwritten.{over-length, over-there}
 use Rattle.keys.specs.Says.{keysIn}
 use Rattle.parts.proofs.Stored.{each-length}
 use Rattle.reading.specs.Parted.{PassedParts}
@@ -26,7 +27,7 @@ use Rattle.counting.specs.Tallied.{Spare, Tells, raised}
 use Rattle.report.specs.declared.course.Course.{Course}
 use Rattle.report.specs.Reached.{Rule, ruleOf, numbersBy, Reaches}
 use Rattle.report.specs.Reports.{Reports}
-use Rattle.report.proofs.Stretches.{over-over, raised-over, over-length, over-at, each-most}
+use Rattle.report.proofs.Stretches.{over-over, raised-over, each-most}
 
 -- no part is false on any of no entries
 no-numbers : (ks : List Key) (ps : List Part) → map (falseOf ks []) ps ≡ replicate (length ps) 0
@@ -83,7 +84,7 @@ module _ (text list nodes rows : List ℕ) (n : ℕ) (p : PassedParts text list 
       record {
         there = omega (arith, long, many, r .room);
         below = λ k h.
-            let here = ap (λ (l : List ℕ). getD l k 0) (r .numbers) ∙ over-at (numbers s .parts) base k (omega (arith, numbers-many s, h)) in
+            let here = ap (λ (l : List ℕ). getD l k 0) (r .numbers) ∙ over-there (numbers s .parts) base k (omega (arith, numbers-many s, h)) in
             omega (arith, here, part-few s (omega (arith, r .whole, few)) k, r .whole, few);
       }
 

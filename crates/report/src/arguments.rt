@@ -23,7 +23,7 @@ fn count_file(list: &[u8], nodes: &[u32], rows: &[u32], n: usize, path: &[u8])
     if fd < 0 {
         return cannot_read(path);
     }
-    let want = whole_entries(counting::entry_size(list));
+    let want = whole_entries(keys::entry_size(list));
     let mut buffer = io::large_buffer();
     let mut counts = [0u64; parts::MOST_PARTS];
     let counted = count_turns(list, nodes, rows, n, fd, &mut buffer[..want], &mut counts);

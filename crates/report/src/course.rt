@@ -46,7 +46,7 @@ pub(crate) fn add_held(
         → Reaches (ruleOf text (now (list .entry)) (now (nodes .entry)) (now (rows .entry)) n p) base s before (now (counts .entry))
         → Reaches (ruleOf text (now (list .entry)) (now (nodes .entry)) (now (rows .entry)) n p) base (s ++ now (held .entry)) r (now (counts .exit))) ⌝ }
 {
-    let size = counting::entry_size(list);
+    let size = keys::entry_size(list);
     let totals = counting::tally(list, nodes, rows, n, held, counts);
     Course {
         whole: before.whole + held.len() / size,

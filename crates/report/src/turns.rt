@@ -35,7 +35,7 @@ pub(crate) fn count_turns(
     ensures { λ r. ⌜ ((file : List ℕ) × ((text : List ℕ) → PassedParts text (now (list .entry)) (now (nodes .entry)) (now (rows .entry)) n
         → Reports text (now (list .entry)) file r (now (counts .entry)) (now (counts .exit)))) ⌝ }
 {
-    let size = counting::entry_size(list);
+    let size = keys::entry_size(list);
     counting::clear(counts, n);
     let mut course = Course::none();
     let mut turns: usize = MOST_ENTRIES + 1;

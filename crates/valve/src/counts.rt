@@ -25,7 +25,7 @@ fn count_by(
     ensures { λ r. ⌜ ((text : List ℕ) → PassedParts text (now (list .entry)) (now (nodes .entry)) (now (rows .entry)) n
         → CountPromised text (now (list .entry)) (now (entries .entry)) (now (parts .entry)) (record { answer = r; numbers = now (parts .exit) })) ⌝ }
 {
-    let size = counting::entry_size(list);
+    let size = keys::entry_size(list);
     if MOST_ENTRIES < entries.len() / size {
         return Counting::Refused(refused::ENTRIES_MANY, Place::Entry(MOST_ENTRIES * size));
     }

@@ -7,16 +7,15 @@ use mathlib.Core.Path.{_≡_, refl, sym, ap, subst, _∙_}
 use mathlib.Core.List.{List, [], _∷_, _++_}
 use lib.ListN.{length}
 use borrow.Author.Needs.{needs}
-use Rattle.paper.specs.Keys.{mostKeys, recordSize}
 use Rattle.paper.specs.Counting.{wholeIn, laidOut, entriesIn}
+use Rattle.paper.proofs.EntriesLaid.{whole-inside, laid-length, laid-next}
 use Rattle.keys.specs.Says.{keysIn}
-use Rattle.keys.proofs.Checked.{most-bytes}
 use Rattle.trees.specs.Standing.{treeAt}
 use Rattle.parts.specs.Rows.{partAt}
 use Rattle.reading.specs.Parted.{PassedParts}
 use Rattle.counting.specs.declared.total.Totals.{Totals}
 use Rattle.counting.specs.Tallied.{Spare, Adds}
-use Rattle.counting.proofs.EntryByEntry.{whole-inside, laid-length, laid-next, adds-none, adds-more, adds-few, adds-spare, adds-tells}
+use Rattle.counting.proofs.EntryByEntry.{adds-none, adds-more, adds-few, adds-spare, adds-tells}
 use Rattle.counting.proofs.entries.tally.Statement.{statement}
 use Rattle.counting.proofs.entries.tally.Tie as tie
 
@@ -32,9 +31,6 @@ abbrev μ-loop : tie.MeasureT-loop
 
 abbrev Start : Type 0
 Start = tie.Start Inv-loop μ-loop
-
-list-short : (s : Start) → length (s .args .list .now) ≤ mostKeys * recordSize
-list-short s = most-bytes (s .args .list .now) (s .pre .0 .1 .rooted .listed)
 
 -- the size of an entry is known
 abbrev Sized : Type 0
@@ -152,7 +148,7 @@ tally-spec =
     (tie.spec
     Inv-loop
     μ-loop
-    (λ c κs. list-short (c .before .before .before .before .before))
+    (λ c κs. search needs)
     (λ c. omega (arith, c .entry-size .ensures))
     (λ c κs. search needs)
     none-yet

@@ -1,20 +1,15 @@
 -- The part of the buffer that a turn fills lies in it and holds whole entries, and there is a number for each part.
-use Prim.Native.Nat.{ℕ, _-_, _*_, _/_, _%_, _≤_}
+use Prim.Native.Nat.{ℕ, _-_, _*_, _/_, _%_}
 use native.Mathlib.Nat.{div-add-mod', mul-mod-left}
 use native.Mathlib.Omega.{arith}
 use mathlib.Core.Path.{_≡_, sym, ap, ap₂, _∙_}
 use lib.ListN.{length, take}
 use lib.Seq.{length-take-le}
 use borrow.Author.Needs.{needs}
-use Rattle.paper.specs.Keys.{mostKeys, recordSize}
 use Rattle.paper.specs.Counting.{cutIn}
 use Rattle.keys.specs.Says.{keysIn}
-use Rattle.keys.proofs.Checked.{most-bytes}
 use Rattle.report.proofs.arguments.count_file.Statement.{statement}
 use Rattle.report.proofs.arguments.count_file.Tie as tie
-
-list-short : (s : tie.Start) → length (s .args .list .now) ≤ mostKeys * recordSize
-list-short s = most-bytes (s .args .list .now) (s .pre .1 .rooted .listed)
 
 multiple : (size : ℕ) → (65536 - 65536 % size) % size ≡ 0
 multiple size =
@@ -53,7 +48,7 @@ count-file-spec =
     (λ c κs. search needs)
     (λ c κs. search needs)
     (λ c. search needs)
-    (λ c κs. list-short (c .before .before .before .before .before .before))
+    (λ c κs. search needs)
     (λ c κs. search needs)
     (λ c κs. search needs)
     (λ c. search needs)

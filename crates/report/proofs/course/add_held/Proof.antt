@@ -1,19 +1,14 @@
 -- `report::add_held` meets its contract: what is held is counted by `tally`, and added to what was counted before (`reaches-more`).
-use Prim.Native.Nat.{ℕ, _+_, _*_, _/_, _%_, _≤_}
+use Prim.Native.Nat.{ℕ, _+_, _/_, _%_}
 use native.Mathlib.Omega.{arith}
 use mathlib.Core.Path.{_≡_, ap}
 use lib.ListN.{length}
 use borrow.Author.Needs.{needs}
-use Rattle.paper.specs.Keys.{mostKeys, recordSize}
 use Rattle.paper.specs.Counting.{wholeIn, cutIn}
 use Rattle.keys.specs.Says.{keysIn}
-use Rattle.keys.proofs.Checked.{most-bytes}
 use Rattle.report.proofs.Whole.{spare, totals-few, told-few, reaches-more}
 use Rattle.report.proofs.course.add_held.Statement.{statement}
 use Rattle.report.proofs.course.add_held.Tie as tie
-
-list-short : (s : tie.Start) → length (s .args .list .now) ≤ mostKeys * recordSize
-list-short s = most-bytes (s .args .list .now) (s .pre .0 .passed .rooted .listed)
 
 -- where the size of an entry is known; and from there what the function was given
 abbrev given : tie.After-entry-size → tie.Start
@@ -67,7 +62,7 @@ pub add-held-spec : {M : Type 1} → statement M
 add-held-spec =
     tie.close
     (tie.spec
-    (λ c κs. list-short (c .before .before .before .before .before))
+    (λ c κs. search needs)
     room
     (λ c. search needs)
     whole-fits

@@ -241,7 +241,7 @@ count-turns-spec =
     (tie.spec
     Inv-loop
     μ-loop
-    (λ c κs. list-short (c .before .before .before .before .before))
+    (λ c κs. search needs)
     (λ c κs. given (c .before) .pre .1 .1)
     (λ c κs. search needs)
     (λ c. search needs)

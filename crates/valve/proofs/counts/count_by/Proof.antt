@@ -70,7 +70,7 @@ pub count-by-spec : {M : Type 1} → statement M
 count-by-spec =
     tie.close
     (tie.spec
-    (λ c κs. list-short (c .before .before .before .before))
+    (λ c κs. search needs)
     (λ c. search needs)
     (λ c. omega (arith, size-few (c .before)))
     beyond

@@ -1,12 +1,12 @@
--- `counting::entry_size` meets its contract: a list has as many keys as records (`keys-length`).
+-- `keys::entry_size` meets its contract: a list has as many keys as records (`keys-length`).
 use Prim.Native.Nat.{_/_}
 use native.Mathlib.Omega.{arith}
 use lib.ListN.{length}
 use borrow.Author.Needs.{needs}
 use Rattle.paper.specs.Keys.{recordSize}
 use Rattle.keys.proofs.Records.{keys-length}
-use Rattle.counting.proofs.entries.entry_size.Statement.{statement}
-use Rattle.counting.proofs.entries.entry_size.Tie as tie
+use Rattle.keys.proofs.laid.entry_size.Statement.{statement}
+use Rattle.keys.proofs.laid.entry_size.Tie as tie
 
 size : tie.Need-returns
 size c =

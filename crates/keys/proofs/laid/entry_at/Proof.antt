@@ -1,11 +1,11 @@
--- `counting::entry_at` meets its contract: from the entry's first byte to the next one's are as many bytes as an entry has.
+-- `keys::entry_at` meets its contract: from the entry's first byte to the next one's are as many bytes as an entry has.
 use Prim.Native.Nat.{ℕ, _+_, _-_, _*_}
 use native.Mathlib.Omega.{arith}
 use mathlib.Core.Path.{_≡_, ap}
 use lib.ListN.{take, drop}
 use borrow.Author.Needs.{needs}
-use Rattle.counting.proofs.entries.entry_at.Statement.{statement}
-use Rattle.counting.proofs.entries.entry_at.Tie as tie
+use Rattle.keys.proofs.laid.entry_at.Statement.{statement}
+use Rattle.keys.proofs.laid.entry_at.Tie as tie
 
 bytes : tie.Need-returns
 bytes c =

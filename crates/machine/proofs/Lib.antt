@@ -9,5 +9,6 @@ pub mod Packed
 pub mod Skips
 pub mod Stack
 pub mod Standing
+pub mod Tabled
 pub mod Types
 pub mod Values

@@ -12,9 +12,10 @@ use Rattle.paper.specs.declared.Printing.{Printing}
 use Rattle.paper.specs.declared.Fixing.{Fixing}
 use Rattle.paper.specs.declared.Drafting.{Drafting}
 use Rattle.paper.specs.declared.Counting.{Counting}
+use Rattle.paper.specs.declared.RunningAll.{RunningAll}
 use Rattle.paper.specs.Answers.{runningSays}
 use Rattle.paper.specs.TranslationCorrect.{judgedInSteps}
-use Rattle.paper.specs.Promised.{judgementOfRun, JudgePromised, TranslateResult, TranslatePromised, LoadPromised, RunPromised, PrintResult, FixResult, DraftResult, CountResult}
+use Rattle.paper.specs.Promised.{judgementOfRun, JudgePromised, TranslateResult, TranslatePromised, LoadPromised, RunPromised, PrintResult, FixResult, DraftResult, CountResult, RunAllResult}
 use Rattle.paper.specs.Demands.{TranslateAnswered, blocksWritten, Carried}
 use Rattle.promises.specs.declared.calls.Carrying.{Carrying}
 use Rattle.promises.specs.declared.calls.Carrying.the-variants as W
@@ -38,6 +39,10 @@ draftedTo r exit = record { answer = r; buffer = exit }
 -- an answer of `count`, and what the numbers of the parts are at its exit
 abbrev pub countedTo : Counting → List ℕ → CountResult
 countedTo r exit = record { answer = r; numbers = exit }
+
+-- an answer of `run_all`, and what the answers are at its exit
+abbrev pub ranOver : RunningAll → List ℕ → RunAllResult
+ranOver r exit = record { answer = r; bytes = exit }
 
 -- each answer keeps its call's promise; the blocks load with the number returned, and say of the entry what the text says, in the steps that
 -- are counted over its tree

@@ -1,7 +1,7 @@
 // The real calls, held to the demands. Each function calls `valve`, and its contract states for its own inputs what is demanded of what was
 // answered, in the words of `paper` (specs/Demands). It holds by the contracts of `valve` alone, so one that is weakened fails here.
-ghost use Rattle.paper.specs.Demands.{ReadAnswered, ReadRight, CheckAnswered, CheckedRight, JudgeAnswered, JudgedRight, TranslateAnswered, TranslatedRight, LoadAnswered, RunAnswered, RanRight, PrintAnswered, PrintedRight, FixAnswered, FixesRight, DraftAnswered, DraftsRight, CompareAnswered, CompareRight, CountAnswered, CountRight, ExplainAnswered, ExplainRight, SummarizeAnswered, SummarizeRight, RecheckAnswered, RecheckRight};
-ghost use Rattle.promises.specs.Held.{gave, lent, fixedTo, draftedTo, countedTo, Carries};
+ghost use Rattle.paper.specs.Demands.{ReadAnswered, ReadRight, CheckAnswered, CheckedRight, JudgeAnswered, JudgedRight, TranslateAnswered, TranslatedRight, LoadAnswered, RunAnswered, RanRight, PrintAnswered, PrintedRight, FixAnswered, FixesRight, DraftAnswered, DraftsRight, CompareAnswered, CompareRight, CountAnswered, CountRight, ExplainAnswered, ExplainRight, SummarizeAnswered, SummarizeRight, RecheckAnswered, RecheckRight, RunAllAnswered, RunAllRight};
+ghost use Rattle.promises.specs.Held.{gave, lent, fixedTo, draftedTo, countedTo, ranOver, Carries};
 use blocks::Block;
 use paper::Agreement;
 use paper::Checking;
@@ -16,6 +16,7 @@ use paper::Printing;
 use paper::Reading;
 use paper::Rechecking;
 use paper::Running;
+use paper::RunningAll;
 use paper::Summarizing;
 use paper::Translation;
 
@@ -107,6 +108,14 @@ pub fn count(text: &[u8], list: &[u8], entries: &[u8], parts: &mut [u64; MOST_PA
     ensures { λ r. ⌜ CountRight (now (text .entry)) (now (list .entry)) (now (entries .entry)) (now (parts .entry)) (countedTo r (now (parts .exit))) ⌝ }
 {
     valve::count(text, list, entries, parts)
+}
+
+// Demands 1 and 2 of `run_all`.
+pub fn run_all(list: &[u8], blocks: &[u8], entries: &[u8], answers: &mut [u8]) -> RunningAll
+    ensures { λ r. ⌜ RunAllAnswered (now (list .entry)) (now (blocks .entry)) (now (entries .entry)) (now (answers .entry)) (ranOver r (now (answers .exit))) ⌝ }
+    ensures { λ r. ⌜ RunAllRight (now (list .entry)) (now (blocks .entry)) (now (entries .entry)) (now (answers .entry)) (ranOver r (now (answers .exit))) ⌝ }
+{
+    valve::run_all(list, blocks, entries, answers)
 }
 
 // Demands 1 and 2 of the numbers of an explanation. What is demanded of its pieces stands in `pieces`.

@@ -3,7 +3,7 @@
  * loaded, and held against entries. Link with target/staticlib/libpollux.a, which `./pollux lib` makes.
  *
  *   On the author's desk     pollux_check, pollux_print, pollux_translate, pollux_judge: from the restriction's text
- *   On the switch            pollux_load once for a table, then pollux_run for every entry
+ *   On the switch            pollux_load once for a table, then pollux_run for every entry, or pollux_run_all for many at a time
  *   On site                  pollux_explain, with text and entry: which part of the restriction, or which key, turned it away
  *   When entries are edited  pollux_summarize: which keys a text names; pollux_recheck: the earlier answer, where it still holds
  *   For texts on file        pollux_fix_octal: the same text with its octal numerals in hex, which the other calls refuse
@@ -16,14 +16,14 @@
  *   conform is refused with a number and a place. No alignment is asked for. Only the table of pollux_pact is a pointer to
  *   uint64_t, aligned as these are, and a count of them, and the parts of pollux_count are POLLUX_MAX_PARTS of them and no count.
  *   A pointer is never NULL. For an input of length 0 pass any other pointer; no byte there is touched.
- *   The buffer of pollux_translate, pollux_print, pollux_fix_octal or pollux_pact, and the parts of pollux_count, must not overlap another
- *   input. Inputs that are only read may overlap.
+ *   The buffer of pollux_translate, pollux_print, pollux_fix_octal or pollux_pact, the answers of pollux_run_all, and the parts of
+ *   pollux_count, must not overlap another input. Inputs that are only read may overlap.
  *
  * What a call touches
  *   A call reads no byte outside the inputs that it is given and writes none but those of the buffer that pollux_translate,
- *   pollux_print, pollux_fix_octal or pollux_pact is given, or of the parts of pollux_count. It keeps nothing: there are no globals, no heap
- *   and no system calls, and the same inputs always have the same answer. Threads may call at the same time, as long as nobody writes
- *   what another one's call has been given.
+ *   pollux_print, pollux_fix_octal or pollux_pact is given, of the answers of pollux_run_all, or of the parts of pollux_count. It keeps
+ *   nothing: there are no globals, no heap and no system calls, and the same inputs always have the same answer. Threads may call at the
+ *   same time, as long as nobody writes what another one's call has been given.
  *
  * What a call needs
  *   Stack: POLLUX_MAX_STACK bytes. This is measured and not proved: tests/c/run makes each call with the deepest texts that the
@@ -41,8 +41,15 @@
 extern "C" {
 #endif
 
-/* The version of Polluxvalve: of this interface, the archive and the programs. */
-#define POLLUX_VERSION "1.0.0"
+/*
+ * The version of Polluxvalve: of this interface, the archive and the programs. The number is major * 1,000,000 + minor * 1,000 + patch, so
+ * that a later version has a larger one.
+ */
+#define POLLUX_VERSION "2.0.0"
+#define POLLUX_VERSION_NUMBER 2000000
+
+/* The number of the archive that a program is linked with. An archive of another major version than the header's must not be called. */
+uint64_t pollux_version(void);
 
 /* What a call may take of the stack, in bytes. */
 #define POLLUX_MAX_STACK (200 * 1024)
@@ -92,7 +99,7 @@ enum pollux_says {
     POLLUX_REFUSED = 0,
     POLLUX_ACCEPTED = 1, /* the restriction is true of the entry */
     POLLUX_VIOLATED = 2, /* it is false of the entry */
-    POLLUX_DONE = 3,     /* read, passed, translated, loaded, printed, fixed, drafted or counted */
+    POLLUX_DONE = 3,     /* read, passed, translated, loaded, printed, fixed, drafted, counted, or a table that ran */
     POLLUX_AGREES = 4,   /* the blocks are the text's translation, its parts in some order */
     POLLUX_DIFFERS = 5   /* they load, and are not */
 };
@@ -102,9 +109,9 @@ enum pollux_input {
     POLLUX_NOWHERE = 0, /* no refusal */
     POLLUX_TEXT = 1,
     POLLUX_LIST = 2,
-    POLLUX_ENTRY = 3,
+    POLLUX_ENTRY = 3, /* or entries end to end */
     POLLUX_BLOCKS = 4,
-    POLLUX_BUFFER = 5,
+    POLLUX_BUFFER = 5, /* or the answers of pollux_run_all */
     POLLUX_PACT = 6, /* a contract */
     POLLUX_TABLE = 7 /* whose offset counts numbers, not bytes */
 };
@@ -126,12 +133,12 @@ enum pollux_refusal {
     POLLUX_FIELD_UNKNOWN = 12,  /* or attribute; at its name */
     POLLUX_OPERAND_TYPES = 13,  /* at the operator */
     POLLUX_NOT_BOOL = 14,       /* at the root of the text's tree */
-    POLLUX_BUFFER_SHORT = 15,   /* at the buffer's length */
+    POLLUX_BUFFER_SHORT = 15,   /* or too few bytes for answers; at the buffer's length */
     POLLUX_BLOCKS_LENGTH = 16,  /* 0, not a multiple of 512, or over 123 blocks; at the length */
     POLLUX_BLOCK_LAYOUT = 17,   /* at the block */
     POLLUX_INSTRUCTION = 18,    /* at the instruction, a skip whose landing does not fit included, or at the blocks' length if what is
                                    left at the end is not one bool */
-    POLLUX_ENTRY_LENGTH = 19,   /* at its length */
+    POLLUX_ENTRY_LENGTH = 19,   /* or that of entries end to end, the last of which is cut; at the length */
     POLLUX_ENTRY_RULE = 20,     /* at the priority (0) or at the key's record, the absence of a key that must be present included */
     POLLUX_PRINT_LONG = 21,     /* over 4,096 bytes, or what is written over the buffer; a contract's text also over 1,024 tokens or
                                    64 levels; at the buffer's length */
@@ -145,7 +152,7 @@ enum pollux_refusal {
 };
 
 /*
- * An answer of any call but pollux_explain, pollux_summarize, pollux_recheck and pollux_count, which have more to tell.
+ * An answer of any call but pollux_run_all, pollux_explain, pollux_summarize, pollux_recheck and pollux_count, which have more to tell.
  *
  *   refused               says POLLUX_REFUSED, number and input as above, value the byte offset in that input, in a table the index
  *                         of a number
@@ -194,6 +201,31 @@ struct pollux_answer pollux_load(const uint8_t *list, size_t list_length,
 struct pollux_answer pollux_run(const uint8_t *list, size_t list_length,
                                 const uint8_t *blocks, size_t blocks_length,
                                 const uint8_t *entry, size_t entry_length);
+
+/* What a run of many entries answers. */
+struct pollux_table {
+    uint64_t says;   /* enum pollux_says: refused or done */
+    uint64_t number; /* enum pollux_refusal, or 0 */
+    uint64_t input;  /* enum pollux_input */
+    uint64_t value;  /* the offset of a refusal, or how many entries there are */
+    uint64_t steps;  /* of all entries, modulo 2^64; 0 on a refusal */
+};
+
+/*
+ * Runs blocks on entries that lie end to end, each POLLUX_ENTRY_SIZE(keys) bytes for a list of so many keys. There may be none. List and
+ * blocks are checked once, so this is faster than pollux_run for each entry, and says the same.
+ *
+ * Done: value is how many entries there are, and answers[k] is what pollux_run says of the one that starts at k * POLLUX_ENTRY_SIZE(keys):
+ * POLLUX_ACCEPTED, POLLUX_VIOLATED, or POLLUX_REFUSED where it refuses it with 20; pollux_run tells where. steps is the sum of theirs, to
+ * which a refused entry adds none. Later bytes of answers stay as they were; on a refusal every byte does, and no entry was judged.
+ *
+ * It refuses the list and the blocks as pollux_load does, then with 19 in the entry a length of the entries that is no multiple of an
+ * entry's, at that length, and then with 15 in the buffer fewer answers than entries, at answers_length.
+ */
+struct pollux_table pollux_run_all(const uint8_t *list, size_t list_length,
+                                   const uint8_t *blocks, size_t blocks_length,
+                                   const uint8_t *entries, size_t entries_length,
+                                   uint8_t *answers, size_t answers_length);
 
 /*
  * Compares blocks, which another translator may have made, with a text. Agrees: they load, and they are what pollux_translate writes

@@ -9,12 +9,14 @@
 typedef struct pollux_answer answer;
 typedef const uint8_t *bytes;
 
+uint64_t raw_pollux_version(void);
 void raw_pollux_read(answer *, bytes, size_t);
 void raw_pollux_check(answer *, bytes, size_t, bytes, size_t);
 void raw_pollux_judge(answer *, bytes, size_t, bytes, size_t, bytes, size_t);
 void raw_pollux_translate(answer *, bytes, size_t, bytes, size_t, uint8_t *, size_t);
 void raw_pollux_load(answer *, bytes, size_t, bytes, size_t);
 void raw_pollux_run(answer *, bytes, size_t, bytes, size_t, bytes, size_t);
+void raw_pollux_run_all(struct pollux_table *, bytes, size_t, bytes, size_t, bytes, size_t, uint8_t *, size_t);
 void raw_pollux_print(answer *, bytes, size_t, uint8_t *, size_t);
 void raw_pollux_fix_octal(answer *, bytes, size_t, uint8_t *, size_t);
 void raw_pollux_pact(answer *, bytes, size_t, const uint64_t *, size_t, bytes, size_t, uint8_t *, size_t);
@@ -24,6 +26,11 @@ void raw_pollux_explain(struct pollux_reason *, bytes, size_t, bytes, size_t, by
 void raw_pollux_summarize(struct pollux_summary *, bytes, size_t, bytes, size_t);
 void raw_pollux_recheck(struct pollux_rechecked *, bytes, size_t, bytes, size_t, bytes, size_t, bytes, uint64_t, uint64_t, uint64_t,
                         uint64_t, size_t);
+
+uint64_t pollux_version(void)
+{
+    return raw_pollux_version();
+}
 
 answer pollux_read(bytes text, size_t text_length)
 {
@@ -64,6 +71,14 @@ answer pollux_run(bytes list, size_t list_length, bytes blocks, size_t blocks_le
 {
     answer given;
     raw_pollux_run(&given, list, list_length, blocks, blocks_length, entry, entry_length);
+    return given;
+}
+
+struct pollux_table pollux_run_all(bytes list, size_t list_length, bytes blocks, size_t blocks_length, bytes entries, size_t entries_length,
+                                   uint8_t *answers, size_t answers_length)
+{
+    struct pollux_table given;
+    raw_pollux_run_all(&given, list, list_length, blocks, blocks_length, entries, entries_length, answers, answers_length);
     return given;
 }
 

@@ -1,5 +1,5 @@
 -- An answer of the paper as four numbers: what it says (0 refused, 1 accepted, 2 violated, 3 passed, read, written, loaded, printed, fixed,
--- drafted or counted, 4 agrees, 5 differs), the refusal's number or 0, its input (0 none, 1 text, 2 list, 3 entry, 4 blocks, 5 buffer, 6 contract,
+-- drafted, counted or ran through, 4 agrees, 5 differs), the refusal's number or 0, its input (0 none, 1 text, 2 list, 3 entry, 4 blocks, 5 buffer, 6 contract,
 -- 7 table), and the offset, or the count, or the steps, or 0.
 --
 -- A reason as eight: the four of the judgement, and the number of the part that is shown, or 0; the place of its root in the text, or of the
@@ -10,6 +10,9 @@
 --
 -- A count as eight: four of which the count is that of the parts, and how many entries are accepted, violated and refused, and the bytes of a cut
 -- one; a refused one has none. The number of each part stands in the numbers that are lent.
+--
+-- A table that ran as five: four of which the count is that of its entries, and the steps of all of them; a refused one has none. The byte of each
+-- entry stands in the answers that are lent.
 use Prim.Native.Nat.{ℕ, _+_, _-_, _≤_}
 use mathlib.Core.Path.{_≡_}
 use mathlib.Core.Logic.{_≢_}
@@ -28,7 +31,8 @@ use Rattle.paper.specs.Fixing.{fixingSays}
 use Rattle.paper.specs.Drafting.{draftingSays}
 use Rattle.paper.specs.Comparing.{agreementSays}
 use Rattle.paper.specs.Counting.{Totals, countingSays}
-use Rattle.paper.specs.Promised.{ReadPromised, CheckPromised, JudgePromised, TranslateResult, TranslatePromised, LoadPromised, RunPromised, PrintPromised, FixPromised, DraftPromised, ComparePromised, CountPromised, ExplainPromised, SummarizePromised, RecheckPromised, Sole}
+use Rattle.paper.specs.RunAll.{AllRan, runningAllSays}
+use Rattle.paper.specs.Promised.{ReadPromised, CheckPromised, JudgePromised, TranslateResult, TranslatePromised, LoadPromised, RunPromised, RunAllPromised, PrintPromised, FixPromised, DraftPromised, ComparePromised, CountPromised, ExplainPromised, SummarizePromised, RecheckPromised, Sole}
 use Rattle.paper.specs.declared.Judgement.{Judgement}
 use Rattle.paper.specs.declared.Judgement.the-variants as J
 use Rattle.paper.specs.declared.Explanation.{Explanation}
@@ -37,6 +41,7 @@ use Rattle.abi.specs.declared.reason.PolluxReason.{PolluxReason}
 use Rattle.abi.specs.declared.summary.PolluxSummary.{PolluxSummary}
 use Rattle.abi.specs.declared.recheck.PolluxRechecked.{PolluxRechecked}
 use Rattle.abi.specs.declared.counts.PolluxCounts.{PolluxCounts}
+use Rattle.abi.specs.declared.table.PolluxTable.{PolluxTable}
 use Rattle.abi.specs.Heard.{noAnswer, heardAs}
 
 abbrev pub inputNo : Input → ℕ
@@ -150,6 +155,15 @@ abbrev pub tallied : Answer Totals → PolluxCounts
 tallied (ok t) = totals (done (t .parts)) (t .accepted) (t .violated) (t .refused) (t .cut)
 tallied (refused n i at) = totals (turnedAway n i at) 0 0 0 0
 
+-- the steps, beside the answer with the count of the entries
+
+abbrev pub stepping : PolluxAnswer → ℕ → PolluxTable
+stepping a steps = record { says = a .says; number = a .number; input = a .input; value = a .value; steps = steps }
+
+abbrev pub ranThrough : Answer AllRan → PolluxTable
+ranThrough (ok t) = stepping (done (t .entries)) (t .steps)
+ranThrough (refused n i at) = stepping (turnedAway n i at) 0
+
 -- What C is told by a call: numbers that stand for a result that keeps the call's promise.
 pub record Tells {R N : Type 0} (Promised : R → Type 0) (numbers : R → N) (a : N) : Type 0 where
   pub result : R
@@ -175,6 +189,11 @@ LoadTold list blocks = Tells (LoadPromised list blocks) (λ r. counted (loadingS
 
 abbrev pub RunTold : List ℕ → List ℕ → List ℕ → PolluxAnswer → Type 0
 RunTold list blocks entry = Tells (RunPromised list blocks entry) (λ r. ran (runningSays r))
+
+-- with what the answers are at exit
+abbrev pub RunAllTold : List ℕ → List ℕ → List ℕ → List ℕ → List ℕ → PolluxTable → Type 0
+RunAllTold list blocks entries answers exit =
+    Tells (λ r. RunAllPromised list blocks entries answers (record { answer = r; bytes = exit })) (λ r. ranThrough (runningAllSays r))
 
 -- with what the buffer holds at exit
 abbrev pub PrintTold : List ℕ → List ℕ → List ℕ → PolluxAnswer → Type 0
@@ -207,8 +226,8 @@ SummarizeTold text list = Tells (SummarizePromised text list) (λ r. summarized 
 abbrev pub RecheckTold : List ℕ → List ℕ → List ℕ → PolluxAnswer → List ℕ → PolluxRechecked → Type 0
 RecheckTold text list old earlier new = Tells (RecheckPromised text list old (heardAs earlier) new) (λ r. rechecked (recheckingSays r))
 
--- so for all inputs C is told one thing, and no second; of `translate`, `print`, `fix_octal` and `pact`, one answer with one buffer at exit, and of
--- `count` one with one list of numbers
+-- so for all inputs C is told one thing, and no second; of `translate`, `print`, `fix_octal` and `pact`, one answer with one buffer at exit, of
+-- `run_all` one with one list of answers, and of `count` one with one list of numbers
 pub record OneAnswerForC : Type 0 where
   pub read : (text : List ℕ) → Sole (ReadTold text)
   pub check : (text list : List ℕ) → Sole (CheckTold text list)
@@ -217,6 +236,8 @@ pub record OneAnswerForC : Type 0 where
       → TranslateTold text list buffer other b → (a ≡ b) × (exit ≡ other)
   pub load : (list blocks : List ℕ) → Sole (LoadTold list blocks)
   pub run : (list blocks entry : List ℕ) → Sole (RunTold list blocks entry)
+  pub runAll : (list blocks entries answers exit other : List ℕ) (a b : PolluxTable) → RunAllTold list blocks entries answers exit a
+      → RunAllTold list blocks entries answers other b → (a ≡ b) × (exit ≡ other)
   pub print : (text buffer exit other : List ℕ) (a b : PolluxAnswer) → PrintTold text buffer exit a → PrintTold text buffer other b
       → (a ≡ b) × (exit ≡ other)
   pub fix : (text buffer exit other : List ℕ) (a b : PolluxAnswer) → FixTold text buffer exit a → FixTold text buffer other b
@@ -278,6 +299,11 @@ heardCounts p =
     heard (λ a. record { parts = a .value; accepted = p .accepted; violated = p .violated; refused = p .refused; cut = p .cut })
     (record { says = p .says; number = p .number; input = p .input; value = p .value })
 
+abbrev pub heardTable : PolluxTable → Answer AllRan
+heardTable p =
+    heard (λ a. record { entries = a .value; steps = p .steps })
+    (record { says = p .says; number = p .number; input = p .input; value = p .value })
+
 -- a refusal's number is a byte, in the code and so in what it tells
 abbrev pub Numbered : Judgement → Type 0
 Numbered J.Accepted = Unit {0}
@@ -295,6 +321,7 @@ pub record TellsAll : Type 0 where
   pub summaries : (x : Answer Summary) → heardSummary (summarized x) ≡ x
   pub rechecks : (x : Rechecked) → heardRecheck (rechecked x) ≡ x
   pub tallies : (x : Answer Totals) → heardCounts (tallied x) ≡ x
+  pub tables : (x : Answer AllRan) → heardTable (ranThrough x) ≡ x
 
 -- an earlier judgement, handed in by its four numbers, is heard as it was told; and any other numbers as refused with 20 at entry 0
 pub record EarlierHeard : Type 0 where

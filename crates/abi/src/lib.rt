@@ -1,23 +1,36 @@
 // The calls for C: include/pollux.h says the same in its words.
 //
 // Each takes every input as a pointer and a length, the length of a table counting its numbers, and answers four numbers by value, `explain` and
-// `count` eight, `summarize` seven and `recheck` five, which stand for a result that keeps the promise of the call of `valve` below it (specs/Told);
-// `translate`, `print`, `fix_octal` and `pact` also promise what each byte of the buffer holds afterwards, and `count`, whose numbers for the parts
-// are a pointer alone, what each of these is.
+// `count` eight, `summarize` seven, `recheck` and `run_all` five, which stand for a result that keeps the promise of the call of `valve` below it
+// (specs/Told); `translate`, `print`, `fix_octal` and `pact` also promise what each byte of the buffer holds afterwards, `run_all` what each byte of
+// the answers does, and `count`, whose numbers for the parts are a pointer alone, what each of these is.
 mod answer;
 mod counts;
 mod heard;
 mod reason;
 mod recheck;
 mod summary;
+mod table;
 mod told;
+mod version;
 
-ghost use Rattle.abi.specs.Told.{ReadTold, CheckTold, JudgeTold, TranslateTold, LoadTold, RunTold, PrintTold, FixTold, DraftTold, CompareTold, CountTold, ExplainTold, SummarizeTold, RecheckTold};
+ghost use Rattle.abi.specs.Told.{ReadTold, CheckTold, JudgeTold, TranslateTold, LoadTold, RunTold, RunAllTold, PrintTold, FixTold, DraftTold, CompareTold, CountTold, ExplainTold, SummarizeTold, RecheckTold};
+ghost use mathlib.Core.Path.{_≡_};
+ghost use Rattle.abi.specs.Version.{version, versionNumber};
 use crate::answer::PolluxAnswer;
 use crate::counts::PolluxCounts;
 use crate::reason::PolluxReason;
 use crate::recheck::PolluxRechecked;
 use crate::summary::PolluxSummary;
+use crate::table::PolluxTable;
+
+// Which version of the product the archive is. A program that links with it can hold this to the number in its header.
+#[no_mangle]
+pub extern "C" fn pollux_version() -> u64
+    ensures { λ r. ⌜ r ≡ versionNumber version ⌝ }
+{
+    version::number()
+}
 
 // How many nodes the text's tree has.
 #[no_mangle]
@@ -65,6 +78,20 @@ pub extern "C" fn pollux_run(list: &[u8], blocks: &[u8], entry: &[u8]) -> Pollux
     ensures { λ r. ⌜ RunTold (now (list .entry)) (now (blocks .entry)) (now (entry .entry)) r ⌝ }
 {
     answer::of_running(valve::run(list, blocks, entry))
+}
+
+// How many entries there are, laid end to end, and how many instructions were carried out for all of them. What the blocks say of each stands in
+// its byte of the answers.
+#[no_mangle]
+pub extern "C" fn pollux_run_all(
+    list: &[u8],
+    blocks: &[u8],
+    entries: &[u8],
+    answers: &mut [u8],
+) -> PolluxTable
+    ensures { λ r. ⌜ RunAllTold (now (list .entry)) (now (blocks .entry)) (now (entries .entry)) (now (answers .entry)) (now (answers .exit)) r ⌝ }
+{
+    table::of_running_all(valve::run_all(list, blocks, entries, answers))
 }
 
 // How many bytes the text's print has, which stands in the buffer.

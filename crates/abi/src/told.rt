@@ -7,7 +7,7 @@ pub fn one_answer_for_c()
 {}
 
 // From the four numbers of a call its answer can be read back, from the eight of a reason the explanation, from the seven of a summary, the five
-// of a recheck and the eight of a count theirs; so no two are told by the same.
+// of a recheck, the eight of a count and the five of a table that ran theirs; so no two are told by the same.
 pub fn four_numbers_tell_all()
     ensures { λ _. ⌜ TellsAll ⌝ }
 {}

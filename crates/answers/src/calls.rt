@@ -5,6 +5,7 @@ ghost use Rattle.paper.specs.Fixing.{fixBuffer};
 ghost use Rattle.answers.specs.Calls.{afterCall, written};
 use crate::adler;
 use crate::changes;
+use crate::entries;
 use crate::framing;
 use crate::tables;
 use paper::Explanation;
@@ -38,6 +39,8 @@ const PACT: u8 = 12;
 const COMPARE: u8 = 13;
 
 const COUNT: u8 = 14;
+
+const RUN_ALL: u8 = 15;
 
 // The sum of some bytes, after what a call answered.
 pub(crate) fn say_sum(bytes: &[u8]) {
@@ -86,6 +89,7 @@ fn reading_call(call: u8, first: &[u8], second: &[u8], third: &[u8]) {
         RECHECK => changes::recheck(first, second, third),
         COMPARE => lines::say_agreement(valve::compare(first, second, third)),
         COUNT => count(first, second, third),
+        RUN_ALL => entries::run_all(first, second, third),
         _ => lines::say(b"unknown"),
     }
 }

@@ -1,15 +1,17 @@
 // Requests on standard input, and for each a line on standard output: for pipes, and for the comparison with the reference.
 //
 // A request is a byte for the call (1 read, 2 check, 3 judge, 4 translate, 5 load, 6 run, 7 print, 8 explain, 9 summarize, 10 recheck,
-// 11 fix_octal, 12 pact, 13 compare, 14 count) and three inputs, each a length of four bytes, big-endian, and its bytes. An input over 65,536
+// 11 fix_octal, 12 pact, 13 compare, 14 count, 15 run_all) and three inputs, each a length of four bytes, big-endian, and its bytes. An input over 65,536
 // bytes gives `too long`, and its bytes are passed over; a request that the input's end cuts gives `cut`; an unknown call gives `unknown`. Calls 7
 // and 11 have their buffer as third input, as call 4 has, and none as second. Call 12 has a contract, the names of its inputs, and a table with a
 // buffer (tables.rt). After these four stands the Adler-32 sum of the whole buffer, and after a part or a key that is shown that of the
 // piece. After a summary stands how many keys are named. A recheck has a change of an entry as third input (changes.rt). A third input that
-// is shorter than what it is made of gives `malformed`. Call 14 has entries laid end to end as third input.
+// is shorter than what it is made of gives `malformed`. Call 14 has entries laid end to end as third input, and call 15 bytes for answers before
+// them (entries.rt), whose sum as they stand after the call follows what it answers.
 mod adler;
 mod calls;
 mod changes;
+mod entries;
 mod framing;
 mod tables;
 

@@ -22,7 +22,7 @@ placeIn [] word = 0
 placeIn (w ∷ ws) word = cond (sameBytes w word) 0 (suc (placeIn ws word))
 
 abbrev pub commands : List (List ℕ)
-commands = wordsOf (bytes "text list entry old earlier table room title change show every code blocks translate print fix_octal pact read check judge explain summarize recheck compare count load run")
+commands = wordsOf (bytes "text list entry old earlier table answers room title change show every code blocks translate print fix_octal pact read check judge explain summarize recheck compare count load run run_all")
 
 -- the command of the line at an offset
 abbrev pub commandAt : List ℕ → ℕ → ℕ

@@ -1,5 +1,6 @@
 // The calls, on what is given.
 use crate::inputs::put_input;
+use crate::names::ANSWERS;
 use crate::names::CHECK;
 use crate::names::CODE;
 use crate::names::COMPARE;
@@ -16,6 +17,7 @@ use crate::names::PACT;
 use crate::names::PRINT;
 use crate::names::READ;
 use crate::names::RECHECK;
+use crate::names::RUN_ALL;
 use crate::names::SUMMARIZE;
 use crate::names::TABLE;
 use crate::names::TEXT;
@@ -52,7 +54,7 @@ fn say_translation(call: usize, translation: Translation) {
     }
 }
 
-// The longest print, fixed text, text of a contract, or piece of an input, that is shown.
+// The longest print, fixed text, text of a contract, piece of an input, or list of answers, that is shown.
 const SHOWN: usize = 100;
 
 fn show(bytes: &[u8]) {
@@ -141,6 +143,35 @@ fn count(text: &[u8], list: &[u8], entries: &[u8]) {
     lines::say_counting(counting, &numbers)
 }
 
+// The answers of many entries, two hexadecimal digits each.
+fn show_answers(answers: &[u8]) {
+    if SHOWN < answers.len() {
+        return;
+    }
+    lines::say(b":");
+    let mut i = 0;
+    while i < answers.len() {
+        lines::say(b" ");
+        lines::say_hex(answers[i]);
+        i += 1;
+    }
+}
+
+fn judge_all(list: &[u8], blocks: &[u8], entries: &[u8], answers: &mut [u8]) {
+    lines::say_running_all(valve::run_all(list, blocks, entries, answers));
+    show_answers(answers)
+}
+
+// The entries that are given end to end, by what the blocks say of each, into the bytes that are given for answers.
+fn run_all(file: &[u8], at: usize, list: &[u8], blocks: &[u8], entries: &[u8]) {
+    let mut answers = io::large_buffer();
+    let n = put_input(file, at, ANSWERS, &mut answers, 0);
+    if n <= answers.len() {
+        return judge_all(list, blocks, entries, &mut answers[..n]);
+    }
+    not_understood()
+}
+
 // The calls that write into the room.
 fn write(call: usize, text: &[u8], list: &[u8], room: &mut [u8]) {
     match call {
@@ -200,6 +231,9 @@ pub(crate) fn make(call: usize, file: &[u8], at: usize, room: &mut [u8]) {
     let entry = part(&all, l, e);
     if call == RECHECK {
         return recheck(file, at, text, list, entry);
+    }
+    if call == RUN_ALL {
+        return run_all(file, at, list, room, entry);
     }
     answer(call, text, list, entry, room)
 }

@@ -8,7 +8,7 @@ use crate::names::CHANGE;
 use crate::names::CODE;
 use crate::names::EVERY;
 use crate::names::ROOM;
-use crate::names::RUN;
+use crate::names::RUN_ALL;
 use crate::names::SHOW;
 use crate::names::TEXT;
 use crate::names::TITLE;
@@ -93,7 +93,7 @@ fn act(command: usize, file: &[u8], at: usize, room: &mut [u8])
         SHOW => show(rest_of(file, at), room),
         EVERY => every(file, at, room),
         CODE..=BLOCKS => calls::make(command, file, at, room),
-        TRANSLATE..=RUN => case(command, file, at, room),
+        TRANSLATE..=RUN_ALL => case(command, file, at, room),
         _ => unknown(file, at),
     }
 }

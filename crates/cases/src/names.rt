@@ -1,4 +1,4 @@
-// The commands, by the places of their names in a list: the first seven give what calls are lent, and the last fourteen print an answer.
+// The commands, by the places of their names in a list: the first eight give what calls are lent, and the last fifteen print an answer.
 ghost use Prim.Native.Nat.{_≤_};
 ghost use mathlib.Core.Path.{_≡_};
 ghost use lib.ListN.{length};
@@ -19,47 +19,51 @@ pub const EARLIER: usize = 4;
 
 pub const TABLE: usize = 5;
 
-pub const ROOM: usize = 6;
+pub const ANSWERS: usize = 6;
 
-pub const TITLE: usize = 7;
+pub const ROOM: usize = 7;
 
-pub const CHANGE: usize = 8;
+pub const TITLE: usize = 8;
 
-pub const SHOW: usize = 9;
+pub const CHANGE: usize = 9;
 
-pub const EVERY: usize = 10;
+pub const SHOW: usize = 10;
 
-pub const CODE: usize = 11;
+pub const EVERY: usize = 11;
 
-pub const BLOCKS: usize = 12;
+pub const CODE: usize = 12;
 
-pub const TRANSLATE: usize = 13;
+pub const BLOCKS: usize = 13;
 
-pub const PRINT: usize = 14;
+pub const TRANSLATE: usize = 14;
 
-pub const FIX_OCTAL: usize = 15;
+pub const PRINT: usize = 15;
 
-pub const PACT: usize = 16;
+pub const FIX_OCTAL: usize = 16;
 
-pub const READ: usize = 17;
+pub const PACT: usize = 17;
 
-pub const CHECK: usize = 18;
+pub const READ: usize = 18;
 
-pub const JUDGE: usize = 19;
+pub const CHECK: usize = 19;
 
-pub const EXPLAIN: usize = 20;
+pub const JUDGE: usize = 20;
 
-pub const SUMMARIZE: usize = 21;
+pub const EXPLAIN: usize = 21;
 
-pub const RECHECK: usize = 22;
+pub const SUMMARIZE: usize = 22;
 
-pub const COMPARE: usize = 23;
+pub const RECHECK: usize = 23;
 
-pub const COUNT: usize = 24;
+pub const COMPARE: usize = 24;
 
-pub const LOAD: usize = 25;
+pub const COUNT: usize = 25;
 
-pub const RUN: usize = 26;
+pub const LOAD: usize = 26;
+
+pub const RUN: usize = 27;
+
+pub const RUN_ALL: usize = 28;
 
 // Which of some words a word is, counted from 0; their count for none of them.
 fn place_in(words: &[u8], word: &[u8]) -> usize
@@ -84,7 +88,7 @@ pub(crate) fn command_at(file: &[u8], at: usize) -> usize
     ensures { λ r. ⌜ r ≡ commandAt (now (file .entry)) at ⌝ }
 {
     place_in(
-        b"text list entry old earlier table room title change show every code blocks translate print fix_octal pact read check judge explain summarize recheck compare count load run",
+        b"text list entry old earlier table answers room title change show every code blocks translate print fix_octal pact read check judge explain summarize recheck compare count load run run_all",
         part(file, at, scan(file, at, b':')),
     )
 }

@@ -2,7 +2,8 @@
 // `loaded N`, `printed N`, `fixed N`, `drafted N`, `agrees`, `differs`, or `refused NUMBER INPUT OFFSET` with INPUT one of text, list,
 // entry, blocks, buffer, contract, table. A run tells its steps too, `accepted STEPS` or `violated STEPS`. What broke for an entry is `part NUMBER at OFFSET START LENGTH`,
 // `key at OFFSET START LENGTH`, or `nothing ` and what was judged. What a text names is `summary BITS MARK`, and a recheck `reused ` or
-// `judged ` and what was judged. A count is `counted ACCEPTED VIOLATED REFUSED CUT` and a number for each part. The programs share these words.
+// `judged ` and what was judged. A count is `counted ACCEPTED VIOLATED REFUSED CUT` and a number for each part, and entries end to end that ran are
+// `ran ENTRIES STEPS`. The programs share these words.
 //
 // These only write, and a line's end is written by the caller. `start` is for programs that fill a room and use as much of it as they
 // filled, and `numbers` for those that are given a table in bytes.
@@ -25,6 +26,7 @@ use paper::Printing;
 use paper::Reading;
 use paper::Rechecking;
 use paper::Running;
+use paper::RunningAll;
 use paper::Summarizing;
 use paper::Translation;
 pub use tables::KEPT;
@@ -121,6 +123,18 @@ pub fn say_running(running: Running) {
         Running::Accepted(steps) => say_count(b"accepted ", steps),
         Running::Violated(steps) => say_count(b"violated ", steps),
         Running::Refused(number, place) => say_refused(number, place),
+    }
+}
+
+// Writes what `run_all` answered: how many entries there are, and the steps of all of them.
+pub fn say_running_all(running: RunningAll) {
+    match running {
+        RunningAll::Ran(entries, steps) => {
+            say_count(b"ran ", entries);
+            say(b" ");
+            say_number(steps)
+        }
+        RunningAll::Refused(number, place) => say_refused(number, place),
     }
 }
 

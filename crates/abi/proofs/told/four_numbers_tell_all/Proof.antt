@@ -18,10 +18,11 @@ use Rattle.paper.specs.Named.{Summary}
 use Rattle.paper.specs.Rechecking as R
 use Rattle.paper.specs.Rechecking.{Rechecked, reused}
 use Rattle.paper.specs.Counting.{Totals}
+use Rattle.paper.specs.RunAll.{AllRan}
 use Rattle.paper.specs.Promised.{ExplainPromised}
 use Rattle.paper.proofs.ExplainedRight.{explained-is-right, pieces-in-inputs}
 use Rattle.abi.specs.declared.answer.PolluxAnswer.{PolluxAnswer}
-use Rattle.abi.specs.Told.{turnedAway, told, judged, ran, compared, reasoned, summarized, rechecked, tallied, verdictAfter, agreeing, done, heard, heardJudged, ranIn, heardRan, heardCompared, heardReason, heardSummary, heardRecheck, heardCounts, TellsAll}
+use Rattle.abi.specs.Told.{turnedAway, told, judged, ran, compared, reasoned, summarized, rechecked, tallied, ranThrough, verdictAfter, agreeing, done, heard, heardJudged, ranIn, heardRan, heardCompared, heardReason, heardSummary, heardRecheck, heardCounts, heardTable, TellsAll}
 use Rattle.abi.proofs.told.four_numbers_tell_all.Statement.{statement}
 use Rattle.abi.proofs.told.four_numbers_tell_all.Tie as tie
 
@@ -106,6 +107,12 @@ counts-heard : (x : Answer Totals) → heardCounts (tallied x) ≡ x
 counts-heard (ok t) = refl
 counts-heard (refused n i at) = refusal-heard (λ a. record { parts = a .value; accepted = 0; violated = 0; refused = 0; cut = 0 }) n i at
 
+-- a table that ran
+
+table-heard : (x : Answer AllRan) → heardTable (ranThrough x) ≡ x
+table-heard (ok t) = refl
+table-heard (refused n i at) = refusal-heard (λ a. record { entries = a .value; steps = 0 }) n i at
+
 tells-all : TellsAll
 tells-all =
     record {
@@ -118,6 +125,7 @@ tells-all =
       summaries = summary-heard;
       rechecks = recheck-heard;
       tallies = counts-heard;
+      tables = table-heard;
     }
 
 pub four-numbers-tell-all-spec : {M : Type 1} → statement M

@@ -10,10 +10,11 @@ use Rattle.paper.specs.Fixing.{fixingSays}
 use Rattle.paper.specs.Drafting.{draftingSays}
 use Rattle.paper.specs.Comparing.{agreementSays}
 use Rattle.paper.specs.Counting.{countingSays}
-use Rattle.paper.specs.Promised.{TranslateResult, TranslatePromised, PrintResult, PrintPromised, FixResult, FixPromised, DraftResult, DraftPromised, CountResult, CountPromised, Sole}
+use Rattle.paper.specs.RunAll.{runningAllSays}
+use Rattle.paper.specs.Promised.{TranslateResult, TranslatePromised, PrintResult, PrintPromised, FixResult, FixPromised, DraftResult, DraftPromised, CountResult, CountPromised, RunAllResult, RunAllPromised, Sole}
 use Rattle.paper.proofs.Promised.{no-second-result}
 use Rattle.abi.specs.Heard.{heardAs}
-use Rattle.abi.specs.Told.{counted, passed, judged, ran, compared, reasoned, summarized, rechecked, tallied, Tells, OneAnswerForC}
+use Rattle.abi.specs.Told.{counted, passed, judged, ran, compared, reasoned, summarized, rechecked, tallied, ranThrough, Tells, OneAnswerForC}
 use Rattle.abi.proofs.told.one_answer_for_c.Statement.{statement}
 use Rattle.abi.proofs.told.one_answer_for_c.Tie as tie
 
@@ -25,7 +26,7 @@ told-once Promised numbers one =
       no-second = λ a t. t .same ∙ ap numbers (one .no-second (t .result) (t .promised));
     }
 
--- of an answer, and a buffer or numbers at exit, that make up a result
+-- of an answer, and a buffer, answers or numbers at exit, that make up a result
 module _ {A R N : Type 0} (whole : A → List ℕ → R) (answer : R → A) (buffer : R → List ℕ)
     (answered : (r : A) (s : List ℕ) → answer (whole r s) ≡ r) (holds : (r : A) (s : List ℕ) → buffer (whole r s) ≡ s) where
   told-with-buffer : (Promised : R → Type 0) (numbers : A → N) → Sole Promised → (exit other : List ℕ) (a b : N)
@@ -50,6 +51,9 @@ one-answer =
           (TranslatePromised text list buffer) (λ r. counted (translationSays r)) (one .translate text list buffer);
       load = λ list blocks. told-once _ (λ r. counted (loadingSays r)) (one .load list blocks);
       run = λ list blocks entry. told-once _ (λ r. ran (runningSays r)) (one .run list blocks entry);
+      runAll = λ list blocks entries answers.
+          told-with-buffer (λ r s. record { answer = r; bytes = s }) (λ (r : RunAllResult). r .answer) (λ (r : RunAllResult). r .bytes) (λ r s. refl) (λ r s. refl)
+          (RunAllPromised list blocks entries answers) (λ r. ranThrough (runningAllSays r)) (one .runAll list blocks entries answers);
       print = λ text buffer.
           told-with-buffer (λ r s. record { answer = r; buffer = s }) (λ (r : PrintResult). r .answer) (λ (r : PrintResult). r .buffer) (λ r s. refl) (λ r s. refl)
           (PrintPromised text buffer) (λ r. counted (printingSays r)) (one .print text buffer);

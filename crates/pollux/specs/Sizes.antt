@@ -1,17 +1,15 @@
 -- Sizes and lengths, as the program tells them.
-use Prim.Native.Nat.{ℕ, _+_, _*_, _/_, _≤_, _<_, min}
+use Prim.Native.Nat.{ℕ, _+_, _*_, _-_, _%_, _≤_, _<_, min}
 use mathlib.Core.Path.{_≡_}
 use mathlib.Core.Bool.{cond}
 use mathlib.Core.List.{List}
-use lib.ListN.{take}
+use lib.ListN.{length, take}
 use lib.Dec.{leb}
-use Rattle.paper.specs.Keys.{recordSize}
-use Rattle.paper.specs.Entry.{headSize, matchSize}
 use Rattle.paper.specs.Blocks.{blockSize, mostBlocks}
 
--- 01: "An entry for n keys has exactly 4 + 36n bytes", of a key list's length
-abbrev pub entrySize : ℕ → ℕ
-entrySize list = headSize + matchSize * (list / recordSize)
+-- as many entries of a size as are whole, at the start of some bytes
+abbrev pub wholeOf : ℕ → List ℕ → List ℕ
+wholeOf size s = take (length s - length s % size) s
 
 -- an entry at an offset ends after its size, or with the bytes that there are; it is never empty
 pub record EndsIn (at size end r : ℕ) : Type 0 where

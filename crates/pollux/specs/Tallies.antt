@@ -1,16 +1,19 @@
--- How many entries were given each answer.
-use Prim.Native.Nat.{ℕ, _+_}
-use mathlib.Core.Bool.{Bool}
-use Rattle.paper.specs.Answers.{Answer, judgementSays}
-use Rattle.paper.specs.Explained.{explanationSays}
-use Rattle.paper.specs.ExplainedRight.{judgementOf}
-use Rattle.paper.specs.Promised.{judgementOfRun}
+-- How many entries were given each answer, and what blocks say of many.
+use Prim.Native.Nat.{ℕ, _+_, _%_, _^_}
+use mathlib.Core.Path.{_≡_}
+use mathlib.Core.Bool.{Bool, true, false, cond}
+use mathlib.Core.List.{List}
+use lib.ListN.{length}
+use lib.Dec.{eqb}
+use Rattle.paper.specs.Answers.{Answer, ok, refused}
+use Rattle.paper.specs.Counting.{entrySize}
+use Rattle.paper.specs.RunAll.{AllRan, runAllAnswer}
+use Rattle.keys.specs.Says.{keysIn}
 use Rattle.paper.specs.declared.Judgement.{Judgement}
 use Rattle.paper.specs.declared.Judgement.the-variants.{Accepted, Violated, Refused}
 use Rattle.paper.specs.declared.Rechecking.{Rechecking}
 use Rattle.paper.specs.declared.Rechecking.the-variants.{Reused, Judged}
-use Rattle.pollux.specs.declared.entries.Told.{Told}
-use Rattle.pollux.specs.declared.entries.Told.the-variants.{Why, Ran}
+use Rattle.pollux.specs.Sizes.{wholeOf}
 use Rattle.pollux.specs.declared.tally.Tally.{Tally}
 
 -- a count is held in 64 bits
@@ -25,10 +28,22 @@ counted Accepted t = record { accepted = t .accepted + 1; violated = t .violated
 counted Violated t = record { accepted = t .accepted; violated = t .violated + 1; refused = t .refused }
 counted (Refused n p) t = record { accepted = t .accepted; violated = t .violated; refused = t .refused + 1 }
 
--- the judgement of what is told of an entry: of an explanation, or of a run, its steps aside
-abbrev pub judgementTold : Told → Answer Bool
-judgementTold (Why why) = judgementOf (explanationSays why)
-judgementTold (Ran running) = judgementSays (judgementOfRun running)
+-- Entries by blocks, which are given a byte each.
+
+-- what a byte tells of an entry: 1 accepted, 2 violated, and any other what a run of it alone says
+abbrev pub verdictBy : ℕ → Answer Bool → Answer Bool
+verdictBy byte alone = cond (eqb byte 1) (ok true) (cond (eqb byte 2) (ok false) alone)
+
+-- a refusal takes no step
+abbrev pub stepsOf : Answer AllRan → ℕ
+stepsOf (ok t) = t .steps
+stepsOf (refused n i at) = 0
+
+-- the steps of all whole entries are added, of which 64 bits are kept; there is a byte for each, as no more than 65,536 bytes are held
+pub record StepsAdded (list blocks entries : List ℕ) (before after : ℕ) : Type 0 where
+  pub answers : List ℕ
+  pub room : length answers ≡ 65536
+  pub added : after ≡ (before + stepsOf (runAllAnswer list blocks (wholeOf (entrySize (keysIn list)) entries) answers)) % 2 ^ 64
 
 -- a recheck hands back one answer, reused or not
 abbrev pub answerIn : Rechecking → Judgement

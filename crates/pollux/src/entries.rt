@@ -1,23 +1,22 @@
-// Entries that stand end to end in a file: each is judged as it comes, through one buffer.
+// Entries that stand end to end in a file, through one buffer: judged one by one as they come, or run by blocks as many at a time as it holds.
 ghost use Prim.Native.Nat.{_+_, _≤_, _<_};
 ghost use mathlib.Core.Path.{_≡_};
 ghost use lib.ListN.{length};
-ghost use Rattle.paper.specs.Answers.{judgementSays};
-ghost use Rattle.pollux.specs.Tallies.{total, mostCounted, judgementTold};
+ghost use Rattle.pollux.specs.Tallies.{total, mostCounted};
 use crate::broken::judged_as;
 use crate::broken::say_judged;
-use crate::ran::judged_by;
-use crate::ran::say_ran;
+use crate::ran::run_held;
 use crate::sizes::entry_end;
-use crate::sizes::entry_size;
 use crate::tally::Tally;
+use crate::tally::Totals;
+use crate::tally::say_ran;
 use crate::tally::say_tally;
 use files::at_end;
 use files::cannot_read;
 use files::whole_entries;
+use keys::entry_size;
+use lines::start;
 use paper::Explanation;
-use paper::Judgement;
-use paper::Running;
 
 // How entries are judged: by a text, without a word of what broke or with one, or by blocks.
 pub enum Way {
@@ -26,77 +25,78 @@ pub enum Way {
     Run,
 }
 
-// What is told of an entry: by a text, with what broke if that is asked for, or by blocks, with the steps of the run.
-pub enum Told {
-    Why(Explanation),
-    Ran(Running),
-}
-
-fn answered(way: Way, rule: &[u8], list: &[u8], entry: &[u8]) -> Told {
-    match way {
-        Way::Judge => Told::Why(Explanation::Nothing(valve::judge(rule, list, entry))),
-        Way::Explain => Told::Why(valve::reason(rule, list, entry)),
-        Way::Run => Told::Ran(valve::run(list, rule, entry)),
+// What is told of an entry, with what broke if that is asked for.
+fn told(explains: bool, text: &[u8], list: &[u8], entry: &[u8]) -> Explanation {
+    if explains {
+        return valve::reason(text, list, entry);
     }
-}
-
-fn judgement_in(told: Told) -> Judgement
-    ensures { λ r. ⌜ judgementSays r ≡ judgementTold told ⌝ }
-{
-    match told {
-        Told::Why(why) => judged_as(why),
-        Told::Ran(running) => judged_by(running),
-    }
-}
-
-// Entry n, in words.
-fn say_told(n: usize, told: Told, rule: &[u8], list: &[u8]) {
-    match told {
-        Told::Why(why) => say_judged(n, why, rule, list),
-        Told::Ran(running) => say_ran(n, running),
-    }
+    Explanation::Nothing(valve::judge(text, list, entry))
 }
 
 // An entry has at least one byte, so there are no more entries than bytes.
-fn judge_held(way: Way, rule: &[u8], list: &[u8], part: &[u8], got: usize, before: Tally) -> Tally
-    requires { ⌜ got ≤ length (now part) ⌝ }
-    requires { ⌜ total before + got < mostCounted ⌝ }
-    ensures { λ r. ⌜ total r ≤ total before + got ⌝ }
+fn judge_held(explains: bool, text: &[u8], list: &[u8], entries: &[u8], before: Tally) -> Tally
+    requires { ⌜ total before + length (now entries) < mostCounted ⌝ }
+    ensures { λ r. ⌜ total r ≤ total before + length (now (entries .entry)) ⌝ }
 {
     let size = entry_size(list);
     let mut tally = before;
     let mut at = 0;
-    while at < got {
-        let to = entry_end(at, size, got);
-        let told = answered(way, rule, list, &part[at..to]);
-        tally = tally.count(judgement_in(told));
-        say_told(tally.entries(), told, rule, list);
+    while at < entries.len() {
+        let to = entry_end(at, size, entries.len());
+        let why = told(explains, text, list, &entries[at..to]);
+        tally = tally.count(judged_as(why));
+        say_judged(tally.entries(), why, text, list);
         at = to;
     }
     tally
 }
 
-// Judges what a file has left, as much at a time as the part holds. A file has fewer than 2^63 bytes, so the turns are enough.
-fn judge_turns(way: Way, rule: &[u8], list: &[u8], fd: i32, part: &mut [u8]) -> Tally
-    requires { ⌜ length (now part) ≤ 65536 ⌝ }
-    ensures { λ r. ⌜ total r ≤ mostCounted ⌝ }
+// The entries that are held, by what was asked for.
+fn judge_part(way: Way, rule: &[u8], list: &[u8], entries: &[u8], before: Totals) -> Totals
+    requires { ⌜ total (before .tally) + length (now entries) < mostCounted ⌝ }
+    ensures { λ r. ⌜ total (r .tally) ≤ total (before .tally) + length (now (entries .entry)) ⌝ }
 {
-    let mut tally = Tally {
-        accepted: 0,
-        violated: 0,
-        refused: 0,
-    };
+    let tally = before.tally;
+    match way {
+        Way::Judge => Totals {
+            tally: judge_held(false, rule, list, entries, tally),
+            steps: 0,
+        },
+        Way::Explain => Totals {
+            tally: judge_held(true, rule, list, entries, tally),
+            steps: 0,
+        },
+        Way::Run => run_held(list, rule, entries, before),
+    }
+}
+
+// Judges what a file has left, as much at a time as the part holds. A file has fewer than 2^63 bytes, so the turns are enough.
+fn judge_turns(way: Way, rule: &[u8], list: &[u8], fd: i32, part: &mut [u8]) -> Totals
+    requires { ⌜ length (now part) ≤ 65536 ⌝ }
+    ensures { λ r. ⌜ total (r .tally) ≤ mostCounted ⌝ }
+{
+    let mut totals = Totals::none();
     let mut turns: usize = 1 << 47;
     while 0 < turns {
         let got = io::read_full(fd, part);
-        tally = judge_held(way, rule, list, part, got, tally);
+        totals = judge_part(way, rule, list, start(part, got), totals);
         if (0 < got) & (got == part.len()) {
             turns -= 1;
         } else {
             turns = 0;
         }
     }
-    tally
+    totals
+}
+
+// The last line: how many entries there are, and for blocks in how many steps.
+fn say_end(way: Way, totals: Totals)
+    requires { ⌜ total (totals .tally) ≤ mostCounted ⌝ }
+{
+    match way {
+        Way::Run => say_ran(totals),
+        _ => say_tally(totals.tally),
+    }
 }
 
 // As many whole entries at a time as the buffer holds, so that none stands across two turns.
@@ -107,9 +107,9 @@ fn judge_entries(way: Way, rule: &[u8], list: &[u8], path: &[u8]) {
     } else {
         let want = whole_entries(entry_size(list));
         let mut buffer = io::large_buffer();
-        let tally = judge_turns(way, rule, list, fd, &mut buffer[..want]);
+        let totals = judge_turns(way, rule, list, fd, &mut buffer[..want]);
         if at_end(fd) {
-            say_tally(tally)
+            say_end(way, totals)
         } else {
             cannot_read(path)
         }

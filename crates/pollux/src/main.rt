@@ -3,7 +3,7 @@
 //
 // Each answer is a line on standard output whose first word is passed, translated, loaded, printed, fixed, drafted, named, agrees, differs,
 // accepted, violated, refused, cannot or usage; the script `pollux` at the root makes an exit status of it. A refusal of a text is followed by the line and a caret under
-// the place, what broke for an entry by the line and carets under the part, or by the key's name. A run tells how many steps each entry took.
+// the place, what broke for an entry by the line and carets under the part, or by the key's name. A run tells how many steps all entries took.
 // A count has the lines of the crate `report`, and a refusal there begins with refusal.
 // Files may have any length: a place that is a length is the file's true length, and entries stream through one buffer. No output file is
 // touched unless the whole call passes, and it is written whole or not at all.

@@ -7,12 +7,12 @@ ghost use Rattle.pollux.specs.Tallies.{total, mostCounted, answerIn, reu
 use crate::broken::say_judgement;
 use crate::say::say_two;
 use crate::sizes::entry_end;
-use crate::sizes::entry_size;
 use crate::tally::Tally;
 use crate::tally::say_tally;
 use files::at_end;
 use files::cannot_read;
 use files::whole_entries;
+use keys::entry_size;
 use lines::say;
 use paper::Judgement;
 use paper::Rechecking;
@@ -112,11 +112,7 @@ fn recheck_turns(text: &[u8], list: &[u8], files: Files, old: &mut [u8], new: &m
     ensures { λ r. ⌜ r .counts .reused ≤ total (r .counts .tally) ⌝ }
 {
     let mut counts = Counts {
-        tally: Tally {
-            accepted: 0,
-            violated: 0,
-            refused: 0,
-        },
+        tally: Tally::none(),
         reused: 0,
     };
     let mut a = 0;

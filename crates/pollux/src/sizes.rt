@@ -1,19 +1,8 @@
 // Sizes and lengths.
-ghost use Prim.Native.Nat.{_≤_, _<_};
+ghost use Prim.Native.Nat.{_<_};
 ghost use mathlib.Core.Path.{_≡_};
-ghost use lib.ListN.{length};
-ghost use Rattle.pollux.specs.Sizes.{entrySize, EndsIn, firstBlocks};
+ghost use Rattle.pollux.specs.Sizes.{wholeOf, EndsIn, firstBlocks};
 use blocks::Block;
-use keys::Entry;
-use keys::KeyRecord;
-use keys::Matched;
-
-// The size of an entry for a key list.
-pub(crate) fn entry_size(list: &[u8]) -> usize
-    ensures { λ r. ⌜ r ≡ entrySize (length (now (list .entry))) ⌝ }
-{
-    Entry::HEAD + Matched::SIZE * (list.len() / KeyRecord::SIZE)
-}
 
 // Where the entry at an offset ends: after its size, or where the bytes do.
 pub(crate) fn entry_end(at: usize, size: usize, end: usize) -> usize
@@ -22,6 +11,15 @@ pub(crate) fn entry_end(at: usize, size: usize, end: usize) -> usize
     ensures { λ r. ⌜ EndsIn at size end r ⌝ }
 {
     if size < end - at { at + size } else { end }
+}
+
+// The whole entries at the start of some bytes.
+pub(crate) fn whole_of(entries: &[u8], size: usize) -> &[u8]
+    requires { ⌜ 0 < size ⌝ }
+    ensures { λ r. ⌜ now r ≡ wholeOf size (now (entries .entry)) ⌝ }
+{
+    let to = entries.len() - entries.len() % size;
+    &entries[..to]
 }
 
 // The first blocks of a buffer; all of it for more blocks than there may be.

@@ -1,15 +1,16 @@
 -- Each entry takes at least a byte, so there are no more of them than bytes, and the offset ends the loop.
 use Prim.Native.Nat.{_+_, _-_, _≤_}
+use lib.ListN.{length}
 use Rattle.pollux.specs.Tallies.{total}
 use borrow.Author.Needs.{needs}
 use Rattle.pollux.proofs.entries.judge_held.Statement.{statement}
 use Rattle.pollux.proofs.entries.judge_held.Tie as tie
 
 abbrev Inv-loop : tie.InvT-loop
-Inv-loop way rule list part got size tally₀ at₀ tally at = (at ≤ got) × (total tally ≤ total tally₀ + at)
+Inv-loop explains text list entries size tally₀ at₀ tally at = (at ≤ length entries) × (total tally ≤ total tally₀ + at)
 
 abbrev μ-loop : tie.MeasureT-loop
-μ-loop way rule list part got size tally₀ at₀ tally at = got - at
+μ-loop explains text list entries size tally₀ at₀ tally at = length entries - at
 
 pub judge-held-spec : {M : Type 1} → statement M
 judge-held-spec =

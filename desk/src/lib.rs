@@ -5,6 +5,7 @@
 pub mod changes;
 pub mod commands;
 pub mod compare;
+pub mod entry_tables;
 pub mod generate;
 pub mod lists;
 pub mod pack;

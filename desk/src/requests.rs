@@ -2,18 +2,19 @@
 //!
 //! A request is one byte for the call (1 read, 2 check, 3 judge, 4 translate,
 //! 5 load, 6 run, 7 print, 8 explain, 9 summarize, 10 recheck, 11 fix_octal, 12 pact,
-//! 13 compare, 14 count) and three inputs, each a 4-byte big-endian length and its bytes.
-//! Each request gets one line. The line of a run ends in the steps that it took. For a call
-//! that is lent a buffer, the third input is what the buffer holds before, and the line
-//! ends in the sum of what it holds after. The line of an explanation ends in the sum of
-//! the piece that it shows. The third input of a recheck is a change, the earlier answer
-//! with both entries, and that of a pact is a table of numbers with a buffer; one that
-//! is too short for that is `malformed`. The third input of a count is entries laid end
-//! to end.
+//! 13 compare, 14 count, 15 run_all) and three inputs, each a 4-byte big-endian length
+//! and its bytes. Each request gets one line. The line of a run ends in the steps that it
+//! took. For a call that is lent a buffer, the third input is what the buffer holds before,
+//! and the line ends in the sum of what it holds after. The line of an explanation ends in
+//! the sum of the piece that it shows. The third input of a count is entries laid end to
+//! end. That of a recheck is a change, the earlier answer with both entries, that of a pact
+//! is a table of numbers with a buffer, and that of a run of all entries is the answers
+//! with them, whose sum ends the line; one that is too short for that is `malformed`.
 
 use std::io::{self, Read, Write};
 
 use crate::changes::Change;
+use crate::entry_tables::AnswersAndEntries;
 use crate::reference::entries::Entry;
 use crate::reference::keys::Key;
 use crate::reference::{self, Answer, Explanation, Input};
@@ -38,6 +39,7 @@ pub enum Call {
     Pact,
     Compare,
     Count,
+    RunAll,
 }
 
 /// What an input is to a call.
@@ -50,10 +52,12 @@ pub enum Lent {
     TableAndBuffer,
     /// Entries laid end to end.
     Entries,
+    /// The answers and entries laid end to end in one.
+    AnswersAndEntries,
 }
 
 impl Call {
-    pub const ALL: [Call; 14] = [
+    pub const ALL: [Call; 15] = [
         Call::Read,
         Call::Check,
         Call::Judge,
@@ -68,6 +72,7 @@ impl Call {
         Call::Pact,
         Call::Compare,
         Call::Count,
+        Call::RunAll,
     ];
 
     pub fn from_byte(byte: u8) -> Option<Call> {
@@ -94,6 +99,7 @@ impl Call {
             Call::Pact => "pact",
             Call::Compare => "compare",
             Call::Count => "count",
+            Call::RunAll => "run_all",
         }
     }
 
@@ -113,6 +119,7 @@ impl Call {
             Call::Pact => [one(Contract), one(List), Some(Lent::TableAndBuffer)],
             Call::Compare => [one(Text), one(List), one(Blocks)],
             Call::Count => [one(Text), one(List), Some(Lent::Entries)],
+            Call::RunAll => [one(List), one(Blocks), Some(Lent::AnswersAndEntries)],
         }
     }
 }
@@ -123,11 +130,18 @@ pub struct Request {
     pub inputs: [Vec<u8>; 3],
 }
 
-/// Where a request has entries laid end to end: the index of the input, and the size of
-/// each by the length of the key list.
+/// Where a request has entries laid end to end: the index of the input, the place in it
+/// where they begin, and the size of each by the length of the key list.
 pub struct Entries {
     pub input: usize,
+    pub start: usize,
     pub size: usize,
+}
+
+impl Entries {
+    pub fn bytes<'r>(&self, request: &'r Request) -> &'r [u8] {
+        &request.inputs[self.input][self.start..]
+    }
 }
 
 /// What stands next on an input of requests.
@@ -183,6 +197,7 @@ impl Request {
             Call::Pact => return pact_line(first, second, third),
             Call::Compare => reference::compare(first, second, third),
             Call::Count => return count_line(first, second, third),
+            Call::RunAll => return run_all_line(first, second, third),
         };
         if self.input(Input::Buffer).is_some() {
             format!("{answer} {}", adler32(&buffer))
@@ -213,12 +228,21 @@ impl Request {
         Some((index, TableAndBuffer::from_bytes(&self.inputs[index])?))
     }
 
+    /// The index of the input that is answers with entries, and both, if it is whole.
+    pub fn answers_and_entries(&self) -> Option<(usize, AnswersAndEntries)> {
+        let index = self.lent(Lent::AnswersAndEntries)?;
+        Some((index, AnswersAndEntries::from_bytes(&self.inputs[index])?))
+    }
+
     /// Where the request has entries laid end to end, whether the list is good or not.
     pub fn entries(&self) -> Option<Entries> {
-        let input = self.lent(Lent::Entries)?;
+        let (input, start) = match self.answers_and_entries() {
+            Some((input, lent)) => (input, lent.entries_start()),
+            None => (self.lent(Lent::Entries)?, 0),
+        };
         let keys = self.inputs[self.input(Input::List)?].len() / Key::SIZE;
         let size = Entry::size(keys);
-        Some(Entries { input, size })
+        Some(Entries { input, start, size })
     }
 }
 
@@ -250,6 +274,15 @@ fn count_line(text: &[u8], list: &[u8], entries: &[u8]) -> String {
         Ok(counts) => counts.to_string(),
         Err(refusal) => Answer::from(refusal).to_string(),
     }
+}
+
+fn run_all_line(list: &[u8], blocks: &[u8], third: &[u8]) -> String {
+    let Some(lent) = AnswersAndEntries::from_bytes(third) else {
+        return "malformed".to_string();
+    };
+    let mut answers = lent.answers;
+    let answer = reference::run_all(list, blocks, &lent.entries, &mut answers);
+    format!("{answer} {}", adler32(&answers))
 }
 
 /// Reads the next request.

@@ -1,6 +1,7 @@
 //! Requests in readable form.
 
 use crate::changes::Change;
+use crate::entry_tables::AnswersAndEntries;
 use crate::pack;
 use crate::reference::blocks::{check_bytes, BLOCK, INSTRUCTIONS_IN_BLOCK};
 use crate::reference::code::{Instruction, Parts};
@@ -23,6 +24,7 @@ pub fn request(request: &Request) -> String {
             Some(Lent::Change) => change(bytes, list_of(request)),
             Some(Lent::TableAndBuffer) => table_and_buffer(bytes),
             Some(Lent::Entries) => entries(bytes, list_of(request)),
+            Some(Lent::AnswersAndEntries) => answers_and_entries(bytes, list_of(request)),
             None => passed_over(bytes),
         });
     }
@@ -59,6 +61,14 @@ fn table_and_buffer(bytes: &[u8]) -> String {
     let numbers: Vec<String> = table.iter().map(u64::to_string).collect();
     let table = format!("  table, {} numbers: {}\n", table.len(), numbers.join(" "));
     [table, start_of("buffer", &buffer)].concat()
+}
+
+fn answers_and_entries(bytes: &[u8], list: &[u8]) -> String {
+    let Some(lent) = AnswersAndEntries::from_bytes(bytes) else {
+        return start_of("no answers", bytes);
+    };
+    let answers = start_of("answers", &lent.answers);
+    [answers, entries(&lent.entries, list)].concat()
 }
 
 /// A line for each opcode with what belongs to it, as far as the opcodes are good.

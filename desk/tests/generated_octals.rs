@@ -204,7 +204,8 @@ fn octal_numerals_of_every_sort() {
 #[test]
 fn refusal_22_occurs_but_stays_rare() {
     for call in Call::ALL {
-        let may_refuse = !matches!(call, Call::Load | Call::Run | Call::FixOctal | Call::Pact);
+        let without_text = matches!(call, Call::Load | Call::Run | Call::RunAll | Call::Pact);
+        let may_refuse = !without_text && call != Call::FixOctal;
         let refused = (0..3_000)
             .map(|index| generated(call, 25, index).answer_line())
             .filter(|line| line.contains("refused 22 "))

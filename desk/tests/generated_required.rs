@@ -9,17 +9,18 @@ use common::generated;
 use desk::reference::entries::{Entry, Record};
 use desk::reference::keys::{key_list, Key, Kind, Presence};
 use desk::reference::{judge, run, Answer, Input};
-use desk::requests::{Call, Entries, Request};
+use desk::requests::{Call, Request};
 
 /// The calls that take a key list and no entry.
 const WITHOUT_ENTRY: [Call; 4] = [Call::Check, Call::Translate, Call::Load, Call::Summarize];
 /// The calls that take a key list and one entry, or several.
-const WITH_ENTRY: [Call; 5] = [
+const WITH_ENTRY: [Call; 6] = [
     Call::Judge,
     Call::Run,
     Call::Explain,
     Call::Recheck,
     Call::Count,
+    Call::RunAll,
 ];
 
 /// More entries of a file are not looked at.
@@ -35,8 +36,8 @@ fn entries_of(request: &Request) -> Vec<Vec<u8>> {
     if let Some((_, change)) = request.change() {
         return vec![change.old, change.new];
     }
-    if let Some(Entries { input, size }) = request.entries() {
-        let whole = request.inputs[input].chunks_exact(size);
+    if let Some(entries) = request.entries() {
+        let whole = entries.bytes(request).chunks_exact(entries.size);
         return whole.take(FEW).map(<[u8]>::to_vec).collect();
     }
     let index = request.input(Input::Entry);

@@ -47,7 +47,7 @@ fn one_seed_gives_one_run() {
 #[test]
 fn every_compared_call_occurs_and_no_other() {
     let mut counts = BTreeMap::new();
-    for index in 0..28_000 {
+    for index in 0..30_000 {
         if let Some(call) = Call::from_byte(request(9, index).call) {
             *counts.entry(call.byte()).or_insert(0) += 1;
         }
@@ -60,7 +60,7 @@ fn every_compared_call_occurs_and_no_other() {
 
 #[test]
 fn every_refusal_occurs_often() {
-    let counts = counts((0..48_000).map(|index| request(1, index)));
+    let counts = counts((0..52_000).map(|index| request(1, index)));
     for number in 1..=24 {
         let count = counts[&format!("refused {number}")];
         assert!(count >= 60, "refusal {number} occurs {count} times");
@@ -79,6 +79,7 @@ fn every_refusal_occurs_often() {
         "drafted",
         "agrees",
         "counted",
+        "ran",
     ] {
         assert!(counts[answer] >= 1_000, "{answer}: {}", counts[answer]);
     }

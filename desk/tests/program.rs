@@ -9,7 +9,9 @@ use std::process::{Command, Output, Stdio};
 
 use common::*;
 use desk::changes::Change;
+use desk::entry_tables::AnswersAndEntries;
 use desk::requests::{adler32, Call, Request};
+use desk::show::hex;
 use desk::tables::TableAndBuffer;
 
 const DESK: &str = env!("CARGO_BIN_EXE_desk");
@@ -43,6 +45,12 @@ fn file(name: &str, contents: &[u8]) -> String {
     path.to_str().expect("a plain path").to_string()
 }
 
+/// The third input of a run of a table, with so many answers that are all 1.
+fn answers_and_entries(answers: usize, entries: &[Vec<u8>]) -> Vec<u8> {
+    let (answers, entries) = (vec![1; answers], entries.concat());
+    AnswersAndEntries { answers, entries }.to_bytes()
+}
+
 fn bytes(requests: &[Request]) -> Vec<u8> {
     let mut bytes = Vec::new();
     for request in requests {
@@ -70,6 +78,8 @@ fn answer_lines() {
         |contract: &[u8], third| Request::new(Call::Pact, contract.to_vec(), inputs(1), third);
     let compare = |of: &str, blocks| Request::new(Call::Compare, text(of), list(), blocks);
     let count = |of: &str, entries| Request::new(Call::Count, text(of), list(), entries);
+    let run_all = |third| Request::new(Call::RunAll, list(), block.clone(), third);
+    let table = answers_and_entries(3, &[entry(), entry()]);
     let requests = [
         Request::new(Call::Read, text("true && true"), none(), none()),
         Request::new(Call::Check, text("v == 1"), list(), none()),
@@ -123,6 +133,16 @@ fn answer_lines() {
         count("(false; true);", none()),
         count("true; @", vec![0; 3]),
         Request::new(Call::Count, text("true"), vec![0; 3], entry()),
+        run_all(answers_and_entries(3, &[entry(), vec![0; 184]])),
+        run_all(answers_and_entries(3, &[])),
+        run_all(vec![0; 4]),
+        run_all(table[..table.len() - 1].to_vec()),
+        run_all(answers_and_entries(3, &vec![entry(); 4])),
+        run_all(table[..6].to_vec()),
+        run_all(table[..3].to_vec()),
+        Request::new(Call::RunAll, list(), none(), table.clone()),
+        Request::new(Call::RunAll, vec![0; 3], none(), table),
+        Request::new(Call::RunAll, vec![0; 3], none(), none()),
     ];
     let output = desk(&["answer"], &bytes(&requests));
     let sum = adler32(&block);
@@ -131,6 +151,7 @@ fn answer_lines() {
     let key_sum = adler32(b"v");
     let [ones_sum, fixed_sum] = [&[1; 9], &b")0x8\x01"[..]].map(adler32);
     let draft_sum = adler32(b"i0 == 6\x01");
+    let table_sum = adler32(&[1, 0, 1]);
     let wanted = format!(
         "read 3\npassed\naccepted\nviolated\ntranslated 4 {sum}\nrefused 15 buffer 3 589828\n\
          loaded 4\naccepted 4\nviolated 2\nrefused 5 text 0\nrefused 2 list 3\nrefused 19 entry 0\n\
@@ -144,7 +165,10 @@ fn answer_lines() {
          drafted 7 {draft_sum}\nrefused 24 contract 1 589828\nrefused 21 buffer 3 589828\n\
          refused 24 table 16 589828\nrefused 21 buffer 0 1\nmalformed\nmalformed\nmalformed\n\
          agrees\ndiffers\nrefused 8 text 0\nrefused 16 blocks 0\n\
-         counted 0 2 0 3 0 2\ncounted 0 0 0 0 0\nrefused 5 text 6\nrefused 2 list 3\n"
+         counted 0 2 0 3 0 2\ncounted 0 0 0 0 0\nrefused 5 text 6\nrefused 2 list 3\n\
+         ran 2 4 {table_sum}\nran 0 0 589828\nran 0 0 1\nrefused 19 entry 367 589828\n\
+         refused 15 buffer 3 589828\nmalformed\nmalformed\n\
+         refused 16 blocks 0 589828\nrefused 2 list 3 589828\nmalformed\n"
     );
     assert_eq!(text_of(&output.stdout), wanted);
 }
@@ -191,6 +215,83 @@ fn odd_requests() {
     let lines = text_of(&desk(&["answer"], &input).stdout);
     assert_eq!(lines, format!("{wanted}cut\n"));
     assert_eq!(text_of(&desk(&["answer"], &[]).stdout), "");
+}
+
+/// The third input of a run of a table, cut at every place: malformed as long as the
+/// answers are not whole.
+#[test]
+fn tables_that_are_cut() {
+    let list = list_of("v exact 1");
+    let blocks = translated("true", &list);
+    let third = answers_and_entries(3, &[vec![0xff; 40], vec![0xff; 40]]);
+    let requests: Vec<Request> = (0..=third.len())
+        .map(|length| {
+            let third = third[..length].to_vec();
+            Request::new(Call::RunAll, list.clone(), blocks.clone(), third)
+        })
+        .collect();
+    let lines = text_of(&desk(&["answer"], &bytes(&requests)).stdout);
+    let sums = [[1, 1, 1], [0, 1, 1], [0, 0, 1]].map(|answers| adler32(&answers));
+    for (length, line) in lines.lines().enumerate() {
+        let wanted = match length.checked_sub(4 + 3) {
+            None => "malformed".to_string(),
+            Some(entries) if entries.is_multiple_of(40) => {
+                let whole = entries / 40;
+                format!("ran {whole} 0 {}", sums[whole])
+            }
+            Some(entries) => format!("refused 19 entry {entries} {}", sums[0]),
+        };
+        assert_eq!(line, wanted, "{length} bytes");
+    }
+    assert_eq!(lines.lines().count(), third.len() + 1);
+}
+
+/// Lengths of the answers on both sides of what there is, up to the largest.
+#[test]
+fn answers_that_are_too_long() {
+    let blocks = translated("true", &[]);
+    let asking = |length: u32, rest: usize| {
+        let third = [&length.to_be_bytes()[..], &vec![1; rest]].concat();
+        Request::new(Call::RunAll, Vec::new(), blocks.clone(), third)
+    };
+    let ones = adler32(&[1; 8]);
+    let four = adler32(&[1; 4]);
+    for (length, rest, wanted) in [
+        (0, 0, "ran 0 0 1".to_string()),
+        (1, 0, "malformed".to_string()),
+        (8, 7, "malformed".to_string()),
+        (8, 8, format!("ran 0 0 {ones}")),
+        (8, 9, format!("refused 19 entry 1 {ones}")),
+        (4, 8, format!("ran 1 1 {four}")),
+        (0, 4, "refused 15 buffer 0 1".to_string()),
+        (1 << 24, 8, "malformed".to_string()),
+        (1 << 31, 8, "malformed".to_string()),
+        (u32::MAX, 8, "malformed".to_string()),
+        (u32::MAX - 3, 8, "malformed".to_string()),
+    ] {
+        let output = desk(&["answer"], &bytes(&[asking(length, rest)]));
+        assert_eq!(text_of(&output.stdout), format!("{wanted}\n"));
+    }
+    // The longest input of all, and one byte more.
+    for (rest, wanted) in [(65_532, "refused 19 entry 65531"), (65_533, "too long")] {
+        let output = desk(&["answer"], &bytes(&[asking(1, rest)]));
+        assert!(text_of(&output.stdout).starts_with(wanted));
+    }
+}
+
+/// A request to run a table that is cut in its call, a length or an input.
+#[test]
+fn cut_requests_to_run_a_table() {
+    let third = answers_and_entries(1, &[vec![0; 4]]);
+    let request = Request::new(Call::RunAll, Vec::new(), translated("true", &[]), third);
+    let whole = bytes(&[request]);
+    let lines = text_of(&desk(&["answer"], &whole).stdout);
+    assert_eq!(lines, format!("ran 1 1 {}\n", adler32(&[1])));
+    let near_the_end = whole.len() - 15..whole.len();
+    for length in (1..12).chain([520, 521, 522]).chain(near_the_end) {
+        let lines = text_of(&desk(&["answer"], &whole[..length]).stdout);
+        assert_eq!(lines, "cut\n", "{length} bytes");
+    }
 }
 
 #[test]
@@ -307,6 +408,37 @@ fn show_a_file_of_entries() {
          entry, 40 bytes: \n    00000004\n    {}\n  cut entry, 5 bytes: \n    00000005\n    01\n  \
          answer: counted 1 0 1 5 0\n\n",
         "00".repeat(36)
+    );
+    assert_eq!(shown, wanted);
+}
+
+#[test]
+fn show_a_table() {
+    let keys = "v exact 1";
+    let entries = [entry_of(keys, "v 1; priority 3"), vec![0, 0, 0, 5, 1]];
+    let (list, blocks) = (list_of(keys), translated("true", &list_of(keys)));
+    let asking = |third| Request::new(Call::RunAll, list.clone(), blocks.clone(), third);
+    let requests = [
+        asking(answers_and_entries(2, &entries)),
+        asking(answers_and_entries(1, &entries[..1])),
+        asking(vec![0, 0, 0, 1]),
+    ];
+    let shown = text_of(&desk(&["show"], &bytes(&requests)).stdout);
+    let head = format!(
+        "run_all\n  key list, 80 bytes:\n    v exact 1\n  blocks, 512 bytes:\n    \
+         number 0, count 1, total 1, keys 1, check {} (good)\n      01000001 {} PushBool(true)\n",
+        hex(&blocks[508..]),
+        "00".repeat(16)
+    );
+    let entry = "  entry, 40 bytes: priority 3; v 1\n";
+    let cut = "  cut entry, 5 bytes: \n    00000005\n    01\n";
+    let [two_sum, one_sum] = [&[1, 1][..], &[1]].map(adler32);
+    let wanted = format!(
+        "{head}  answers, 2 bytes: 0101...\n  entries laid end to end, 45 bytes:\n{entry}{cut}  \
+         answer: refused 19 entry 45 {two_sum}\n\n\
+         {head}  answers, 1 bytes: 01...\n  entries laid end to end, 40 bytes:\n{entry}  \
+         answer: ran 1 1 {one_sum}\n\n\
+         {head}  no answers, 4 bytes: 00000001...\n  answer: malformed\n\n"
     );
     assert_eq!(shown, wanted);
 }
@@ -491,6 +623,46 @@ fn a_wrong_count_is_made_small() {
         let (_, shown) = shown.split_once(" bytes:\n").expect("a length");
         assert!(shown.starts_with(file), "{smallest}");
         let line = format!("  reference: counted {line}\n");
+        assert!(shown.contains(&line), "{smallest}");
+    }
+}
+
+/// Key list, code, entries and answers become small together, and so does a cut entry.
+#[test]
+fn a_wrong_table_is_made_small() {
+    let ran = "  entry, 4 bytes: priority 0\n";
+    for (pattern, keys, answers, entries, line) in [
+        ("^ran", 0, 0, String::new(), "ran 0 0"),
+        ("^ran [0-9]* [1-9]", 0, 1, ran.to_string(), "ran 1 1"),
+        ("^ran [2-9] [1-9]", 0, 2, ran.repeat(2), "ran 2 2"),
+        // One that is refused for its key, which stays with it.
+        (
+            "^ran [1-9][0-9]* 0",
+            1,
+            1,
+            "  entry, 40 bytes: \n".to_string(),
+            "ran 1 0",
+        ),
+        // Of the calls with a 19, this one alone tells a sum behind it.
+        (
+            "^refused 19 entry [0-9]* [0-9]",
+            0,
+            0,
+            "  cut entry, 1 bytes: \n    00\n".to_string(),
+            "refused 19 entry 1",
+        ),
+    ] {
+        let found = compare_with_sed(&format!("s/{pattern}/&9/"));
+        let (_, smallest) = found.split_once("the smallest found:\n").expect("one");
+        let list = format!("run_all\n  key list, {} bytes:\n", 80 * keys);
+        assert!(smallest.starts_with(&list), "{smallest}");
+        let blocks = format!("  blocks, 512 bytes:\n    number 0, count 1, total 1, keys {keys}, ");
+        assert!(smallest.contains(&blocks), "{smallest}");
+        let lent = format!("  answers, {answers} bytes: ");
+        let (_, shown) = smallest.split_once(&lent).expect(smallest);
+        let (_, shown) = shown.split_once(" bytes:\n").expect("a length");
+        assert!(shown.starts_with(&entries), "{smallest}");
+        let line = format!("  reference: {line} ");
         assert!(shown.contains(&line), "{smallest}");
     }
 }

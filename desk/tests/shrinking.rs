@@ -5,6 +5,7 @@ mod common;
 use common::code::*;
 use common::{entry_of, list, list_of, translated};
 use desk::compare::pieces::{Deed, Division};
+use desk::entry_tables::AnswersAndEntries;
 use desk::reference::blocks::{all_parts, blocks_of};
 use desk::reference::code::Parts;
 use desk::requests::{Call, Request};
@@ -127,6 +128,78 @@ fn smaller_files_keep_whole_entries() {
     let judgement = Request::new(Call::Judge, b"true; true".to_vec(), Vec::new(), vec![0; 9]);
     for division in [Division::Entries, Division::Cut, Division::Parts] {
         assert_eq!(division.count(&judgement), 0);
+    }
+}
+
+/// A table loses whole entries with their answers or without, answers by themselves, the
+/// records of keys, or what is cut; the length of the answers is told rightly each time.
+#[test]
+fn smaller_tables_keep_their_answers() {
+    let keys = "v exact 1\nd ternary 8\nr range 16";
+    let [one, two] = ["v 1; priority 1", "v 0; priority 2"].map(|entry| entry_of(keys, entry));
+    let lent = |answers: &[u8], entries: &[&[u8]]| {
+        let (answers, entries) = (answers.to_vec(), entries.concat());
+        AnswersAndEntries { answers, entries }.to_bytes()
+    };
+    let asking = |third| {
+        let list = list_of(keys);
+        let blocks = translated("v == 1", &list);
+        Request::new(Call::RunAll, list, blocks, third)
+    };
+    let request = asking(lent(&[7, 8, 9, 6], &[&one, &two, &one, &two[..50]]));
+    assert!(request.answer_line().starts_with("refused 19 entry 386 "));
+    let count = |division: Division| division.count(&request);
+    assert_eq!([Division::Entries, Division::Answered].map(count), [3, 3]);
+    assert_eq!([Division::Answers, Division::Cut].map(count), [4, 50]);
+    assert_eq!([Division::Parts, Division::Tokens].map(count), [0, 0]);
+    for (division, stretch, wanted) in [
+        (
+            Division::Answered,
+            1..2,
+            lent(&[7, 9, 6], &[&one, &one, &two[..50]]),
+        ),
+        (Division::Answered, 0..3, lent(&[6], &[&two[..50]])),
+        (
+            Division::Entries,
+            0..2,
+            lent(&[7, 8, 9, 6], &[&one, &two[..50]]),
+        ),
+        (
+            Division::Answers,
+            1..4,
+            lent(&[7], &[&one, &two, &one, &two[..50]]),
+        ),
+        (
+            Division::Cut,
+            0..50,
+            lent(&[7, 8, 9, 6], &[&one, &two, &one]),
+        ),
+        (
+            Division::Cut,
+            2..50,
+            lent(&[7, 8, 9, 6], &[&one, &two, &one, &two[..2]]),
+        ),
+    ] {
+        let smaller = division.simpler(&request, Deed::Drop, stretch);
+        assert_eq!(smaller, asking(wanted));
+    }
+    // The cut entry has ten bytes of the record of d, and loses them with it.
+    let smaller = Division::Keys.simpler(&request, Deed::Drop, 1..2);
+    let fewer = "v exact 1\nr range 16";
+    let [one, two] = ["v 1; priority 1", "v 0; priority 2"].map(|entry| entry_of(fewer, entry));
+    assert_eq!(smaller.inputs[0], list_of(fewer));
+    assert_eq!(smaller.inputs[1], translated("v == 1", &list_of(fewer)));
+    let wanted = lent(&[7, 8, 9, 6], &[&one, &two, &one, &two[..40]]);
+    assert_eq!(smaller.inputs[2], wanted);
+    // No piece is found where the answers are not whole.
+    let malformed = asking(vec![0, 0, 0, 1]);
+    for division in [
+        Division::Entries,
+        Division::Answered,
+        Division::Answers,
+        Division::Cut,
+    ] {
+        assert_eq!(division.count(&malformed), 0);
     }
 }
 

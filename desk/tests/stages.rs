@@ -158,6 +158,46 @@ fn entries_to_count_come_last() {
     assert_eq!(counting(b"true", &[], refused), "counted 0 0 2 0 0");
 }
 
+/// Whatever is wrong with list or blocks hides what is wrong with a table, and a wrong
+/// length hides that there are too few answers. None of it changes an answer, and what is
+/// wrong with an entry hides nothing.
+#[test]
+fn tables_come_after_blocks() {
+    let list = list();
+    let good = translated("true", &list);
+    let bad_code = blocks_of(&[plain(NOT)], 5);
+    let bad_check = [&good[..511], &[0xff]].concat();
+    let twice = list_of("v exact 1").repeat(2);
+    let (cut, whole) = ([0xff; 2 * 184 + 1], [0xff; 2 * 184]);
+    for (list, blocks, wanted) in [
+        (&vec![0; 3], &[][..], "2 list 3"),
+        (&vec![0; 2_640], &[0; 512], "2 list 2640"),
+        (&vec![0; 80], &[0; 512], "3 list 0"),
+        (&twice, &bad_code, "4 list 80"),
+        (&list, &[], "16 blocks 0"),
+        (&list, &good[..511], "16 blocks 511"),
+        (&list, &bad_check, "17 blocks 0"),
+        (&list, &bad_code, "18 blocks 4"),
+        (&list_of("v exact 1"), &good, "17 blocks 0"),
+    ] {
+        for entries in [&[][..], &cut[..1], &cut, &whole] {
+            for answers in [&[][..], &[0x5a; 1], &[0x5a; 9]] {
+                let said = running_all(list, blocks, entries, answers);
+                assert_eq!(said, (wanted.to_string(), answers.to_vec()));
+            }
+        }
+    }
+    for (entries, answers, wanted, after) in [
+        (&cut[..], &[][..], "19 entry 369", &[][..]),
+        (&cut[1..], &[0x5a; 1], "15 buffer 1", &[0x5a; 1]),
+        (&cut[2..], &[0x5a; 1], "19 entry 367", &[0x5a; 1]),
+        (&whole, &[0x5a; 3], "ran 2 0", &[0, 0, 0x5a]),
+    ] {
+        let said = running_all(&list, &good, entries, answers);
+        assert_eq!(said, (wanted.to_string(), after.to_vec()));
+    }
+}
+
 /// Whatever is wrong with text or list hides what is wrong with the blocks.
 #[test]
 fn blocks_to_compare_come_last() {

@@ -33,8 +33,13 @@ pub enum Division {
     Assertions,
     /// Numbers of a table.
     Numbers,
+    /// Whole entries of those laid end to end, each with its byte of the answers that are
+    /// lent for them.
+    Answered,
     /// Whole entries of those laid end to end.
     Entries,
+    /// Bytes of the answers that are lent for entries.
+    Answers,
     /// Bytes of a cut last entry, from its front.
     Cut,
     /// Bytes of one of the three inputs.
@@ -86,9 +91,11 @@ impl Deed {
 }
 
 /// All steps that are tried, coarse ones first.
-pub const STEPS: [(Division, Deed); 25] = [
+pub const STEPS: [(Division, Deed); 27] = [
     (Division::Keys, Deed::Drop),
+    (Division::Answered, Deed::Drop),
     (Division::Entries, Deed::Drop),
+    (Division::Answers, Deed::Drop),
     (Division::Cut, Deed::Drop),
     (Division::Parts, Deed::Drop),
     (Division::Parts, Deed::True),
@@ -129,12 +136,18 @@ impl Division {
             Division::Numbers => request
                 .table_and_buffer()
                 .map_or(0, |(_, lent)| lent.table.len()),
-            Division::Entries => request.entries().map_or(0, |entries| {
-                request.inputs[entries.input].len() / entries.size
-            }),
-            Division::Cut => request.entries().map_or(0, |entries| {
-                request.inputs[entries.input].len() % entries.size
-            }),
+            Division::Answered => Division::Answers
+                .count(request)
+                .min(Division::Entries.count(request)),
+            Division::Entries => request
+                .entries()
+                .map_or(0, |entries| entries.bytes(request).len() / entries.size),
+            Division::Answers => request
+                .answers_and_entries()
+                .map_or(0, |(_, lent)| lent.answers.len()),
+            Division::Cut => request
+                .entries()
+                .map_or(0, |entries| entries.bytes(request).len() % entries.size),
             Division::Bytes(input) => request.inputs[input].len(),
             Division::NonZeros(input) => non_zeros(&request.inputs[input]).count(),
         }
@@ -187,16 +200,17 @@ impl Division {
                     simpler.inputs[input] = lent.to_bytes();
                 }
             }
-            Division::Entries => {
-                if let Some(Entries { input, size }) = request.entries() {
-                    simpler.inputs[input].drain(stretch.start * size..stretch.end * size);
-                }
+            Division::Answered => {
+                drop_entries(&mut simpler, &stretch);
+                drop_answers(&mut simpler, stretch);
             }
+            Division::Entries => drop_entries(&mut simpler, &stretch),
+            Division::Answers => drop_answers(&mut simpler, stretch),
             Division::Cut => {
-                if let Some(Entries { input, size }) = request.entries() {
+                if let Some(Entries { input, .. }) = request.entries() {
                     let bytes = &mut simpler.inputs[input];
-                    let whole = bytes.len() - bytes.len() % size;
-                    bytes.drain(whole + stretch.start..whole + stretch.end);
+                    let cut = bytes.len() - self.count(request);
+                    bytes.drain(cut + stretch.start..cut + stretch.end);
                 }
             }
             Division::Bytes(input) => {
@@ -321,6 +335,22 @@ pub fn code(request: &Request) -> Option<(usize, Vec<Parts>, usize)> {
     Some((input, all_parts(blocks, total).collect(), keys))
 }
 
+/// Drops whole entries of those laid end to end.
+fn drop_entries(request: &mut Request, entries: &Range<usize>) {
+    if let Some(Entries { input, start, size }) = request.entries() {
+        let place = |entry: usize| start + entry * size;
+        request.inputs[input].drain(place(entries.start)..place(entries.end));
+    }
+}
+
+/// Drops bytes of the answers that are lent for entries.
+fn drop_answers(request: &mut Request, answers: Range<usize>) {
+    if let Some((input, mut lent)) = request.answers_and_entries() {
+        lent.answers.drain(answers);
+        request.inputs[input] = lent.to_bytes();
+    }
+}
+
 /// Drops key records with all that belongs to them.
 fn drop_keys(request: &mut Request, keys: Range<usize>) {
     let Some(list) = request.input(Input::List) else {
@@ -337,10 +367,11 @@ fn drop_keys(request: &mut Request, keys: Range<usize>) {
         drop_records(&mut change.new, &keys);
         request.inputs[input] = change.to_bytes();
     }
-    if let Some(Entries { input, size }) = entries {
-        let entries = request.inputs[input].chunks(size);
-        let left: Vec<Vec<u8>> = entries.map(|entry| without_records(entry, &keys)).collect();
-        request.inputs[input] = left.concat();
+    if let Some(Entries { input, start, size }) = entries {
+        let entries = request.inputs[input].split_off(start);
+        for entry in entries.chunks(size) {
+            request.inputs[input].extend(without_records(entry, &keys));
+        }
     }
     if let Some((input, mut code, count)) = blocks {
         for parts in &mut code {

@@ -2,7 +2,9 @@
 
 use super::damage;
 use super::rng::Rng;
-use crate::reference::blocks::{check_bytes, BLOCK};
+use crate::reference::blocks::{check_bytes, BLOCK, CODE_START};
+use crate::reference::code::Parts;
+use crate::reference::{load, Answer};
 
 /// Blocks with one thing wrong, or nearly so.
 pub fn damage(rng: &mut Rng, blocks: &mut Vec<u8>) {
@@ -19,6 +21,20 @@ pub fn damage(rng: &mut Rng, blocks: &mut Vec<u8>) {
         8 => wrong_check(rng, blocks),
         _ => move_blocks(rng, blocks),
     }
+}
+
+/// Good blocks with a bit of their code changed that still load, or as they are if no
+/// such bit is found.
+pub fn damaged_and_loading(rng: &mut Rng, list: &[u8], blocks: &[u8]) -> Vec<u8> {
+    for _ in 0..40 {
+        let mut damaged = blocks.to_vec();
+        flip_in_code(rng, &mut damaged);
+        repair_all(&mut damaged);
+        if matches!(load(list, &damaged), Answer::Loaded(_)) {
+            return damaged;
+        }
+    }
+    blocks.to_vec()
 }
 
 fn wrong_length(rng: &mut Rng, blocks: &mut Vec<u8>) {
@@ -39,6 +55,19 @@ fn flip_a_bit(rng: &mut Rng, blocks: &mut [u8]) {
         _ => rng.between(4, 60),
     };
     blocks[block * BLOCK + place] ^= 1 << rng.below(8);
+}
+
+/// Changes a bit of an instruction, most often a low bit of one of its parts: that is
+/// likely to give another good one.
+fn flip_in_code(rng: &mut Rng, blocks: &mut [u8]) {
+    let start = rng.below(blocks.len() / BLOCK) * BLOCK;
+    let count = usize::from(blocks[start + 3]);
+    let instruction = start + CODE_START + rng.below(count) * Parts::SIZE;
+    let place = match rng.below(4) {
+        0 => rng.below(Parts::SIZE),
+        _ => rng.pick(&[0, 1, 3, 3, Parts::SIZE - 1]),
+    };
+    blocks[instruction + place] ^= 1 << rng.below(3);
 }
 
 /// Makes the check of every block right again.

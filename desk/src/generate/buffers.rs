@@ -1,5 +1,6 @@
 //! Buffers that a call may write to: of the size that it needs, one byte less,
-//! or another; what they hold before the call is anything but zeros.
+//! or another; what they hold before the call is anything but zeros, or, where zero is
+//! what a call may write, anything at all.
 
 use super::contracts::Draft;
 use super::rng::Rng;
@@ -76,6 +77,25 @@ fn for_text(rng: &mut Rng, needed: usize) -> Vec<u8> {
         34..=37 => LONGEST_TEXT,
         _ => LONGEST_TEXT + 1,
     };
+    filled(rng, length)
+}
+
+/// Answers for so many entries, where there is room for so many bytes.
+pub fn for_answers(rng: &mut Rng, entries: usize, room: usize) -> Vec<u8> {
+    let length = match rng.below(40) {
+        0 => room,
+        1 => 0,
+        2 | 3 => rng.below(entries.max(1)),
+        4..=8 => entries.saturating_sub(1),
+        9..=25 => entries,
+        26..=29 => entries + 1,
+        30 => entries + rng.below(600),
+        _ => entries + rng.between(2, 20),
+    };
+    let length = length.min(room);
+    if rng.one_in(4) {
+        return (0..length).map(|_| rng.byte()).collect();
+    }
     filled(rng, length)
 }
 

@@ -11,21 +11,27 @@ use crate::requests::LONGEST_INPUT;
 
 /// A file of entries for these keys, of which most are like this one.
 pub fn entries(rng: &mut Rng, keys: &[NamedKey], entry: &Entry) -> Vec<u8> {
-    let size = Entry::size(keys.len());
+    let room = LONGEST_INPUT / Entry::size(keys.len());
+    let mut file = whole(rng, keys, entry, room);
+    if rng.one_in(2) {
+        file.extend(cut_entry(rng, keys, entry));
+    }
+    file.truncate(LONGEST_INPUT);
+    file
+}
+
+/// Whole entries, where there is room for so many.
+pub fn whole(rng: &mut Rng, keys: &[NamedKey], entry: &Entry, room: usize) -> Vec<u8> {
     // In so many of a hundred something is wrong.
     let wrong = rng.pick(&[0, 0, 15, 15, 50, 100]);
     let mut file = Vec::new();
-    for _ in 0..count(rng, LONGEST_INPUT / size) {
+    for _ in 0..count(rng, room) {
         let mut bytes = like(rng, keys, entry).to_bytes();
         if rng.percent(wrong) {
             break_one(rng, keys, &mut bytes);
         }
         file.extend(bytes);
     }
-    if rng.one_in(2) {
-        file.extend(cut_entry(rng, keys, entry));
-    }
-    file.truncate(LONGEST_INPUT);
     file
 }
 
@@ -72,7 +78,7 @@ fn break_one(rng: &mut Rng, keys: &[NamedKey], bytes: &mut [u8]) {
 /// The front of an entry that might have been accepted, violated or refused: cut behind
 /// its first byte or before its last, behind its priority or another record, or
 /// anywhere else.
-fn cut_entry(rng: &mut Rng, keys: &[NamedKey], entry: &Entry) -> Vec<u8> {
+pub fn cut_entry(rng: &mut Rng, keys: &[NamedKey], entry: &Entry) -> Vec<u8> {
     let mut bytes = like(rng, keys, entry).to_bytes();
     if rng.one_in(4) {
         break_one(rng, keys, &mut bytes);

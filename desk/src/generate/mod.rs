@@ -9,6 +9,7 @@ pub mod contract_limits;
 pub mod contracts;
 pub mod damage;
 pub mod entries;
+pub mod entry_tables;
 pub mod explanations;
 pub mod files;
 pub mod limits;
@@ -48,6 +49,7 @@ pub const SHARES: &[(Call, usize)] = &[
     (Call::Pact, 4),
     (Call::Compare, 4),
     (Call::Count, 4),
+    (Call::RunAll, 4),
 ];
 
 /// Request `index` of the run with this seed.

@@ -3,8 +3,8 @@
 use super::rivals::Rival;
 use super::rng::Rng;
 use super::{
-    bits, blocks, buffers, contracts, damage, entries, explanations, files, limits, lists, octals,
-    parted, prints, programs, rechecks, rivals, skips, snippets, spelling, texts,
+    bits, blocks, buffers, contracts, damage, entries, entry_tables, explanations, files, limits,
+    lists, octals, parted, prints, programs, rechecks, rivals, skips, snippets, spelling, texts,
 };
 use crate::lists::{list_bytes, NamedKey};
 use crate::reference;
@@ -80,6 +80,7 @@ impl Scene {
             Call::Pact => contracts::request(rng),
             Call::Compare => self.compare(rng),
             Call::Count => self.count(rng),
+            Call::RunAll => self.run_all(rng),
         }
     }
 
@@ -245,6 +246,62 @@ impl Scene {
         Request::new(Call::Count, text, self.list(rng), file)
     }
 
+    /// A table of entries, for these keys, for all or for none.
+    fn run_all(&self, rng: &mut Rng) -> Request {
+        match rng.below(12) {
+            0 => Scene::full(rng).run_all_here(rng),
+            1 | 2 => Scene::without_keys(rng).run_all_here(rng),
+            _ => self.run_all_here(rng),
+        }
+    }
+
+    fn run_all_here(&self, rng: &mut Rng) -> Request {
+        let table = entry_tables::table(rng, &self.keys, &self.entry);
+        let blocks = if rng.one_in(3) {
+            self.blocks(rng)
+        } else {
+            self.telling_blocks(rng, &table.entries)
+        };
+        let third = if rng.one_in(24) {
+            entry_tables::malformed(rng, &table)
+        } else {
+            table.to_bytes()
+        };
+        Request::new(Call::RunAll, self.list(rng), blocks, third)
+    }
+
+    /// Blocks that load, and that accept some of these entries and not others, if such
+    /// blocks are soon found.
+    fn telling_blocks(&self, rng: &mut Rng, entries: &[u8]) -> Vec<u8> {
+        let mut blocks = self.good_blocks(rng);
+        for _ in 0..3 {
+            if entry_tables::tell_apart(&self.keys, &blocks, entries) {
+                break;
+            }
+            blocks = self.good_blocks(rng);
+        }
+        blocks
+    }
+
+    /// Blocks of a text, as they are, as they were made before there were skips, or with
+    /// a bit changed; all of them load.
+    fn good_blocks(&self, rng: &mut Rng) -> Vec<u8> {
+        let text = match rng.below(6) {
+            0 => parted::text(rng, &self.keys, &self.entry),
+            1 => rechecks::text(rng, &self.keys, &self.entry),
+            _ => explanations::all_true(rng, &self.keys, &self.entry),
+        };
+        let mut code = self.code_of(rng, &text);
+        if rng.one_in(5) {
+            code = skips::without(&code);
+        }
+        let blocks = blocks_of(&code, self.keys.len());
+        if rng.one_in(4) {
+            return blocks::damaged_and_loading(rng, &list_bytes(&self.keys), &blocks);
+        }
+        blocks
+    }
+
     /// Most often a text in which it is the keys it names that count.
     fn naming_text(&self, rng: &mut Rng) -> Vec<u8> {
         if rng.one_in(4) {
@@ -350,8 +407,13 @@ impl Scene {
         } else {
             self.good_text(rng)
         };
+        self.code_of(rng, &text)
+    }
+
+    /// The code of this text, or a few bools where it does not translate.
+    fn code_of(&self, rng: &mut Rng, text: &[u8]) -> Vec<Parts> {
         let mut buffer = vec![0; bytes_needed(2 * text.len() + 1)];
-        match reference::translate(&text, &list_bytes(&self.keys), &mut buffer) {
+        match reference::translate(text, &list_bytes(&self.keys), &mut buffer) {
             Answer::Translated(count) => all_parts(&buffer, count).collect(),
             _ => programs::bool_chain(rng, 3),
         }

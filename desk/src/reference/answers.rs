@@ -5,6 +5,7 @@
 use std::fmt;
 
 use super::running::Outcome;
+use super::running_all::Totals;
 use super::summaries::Summary;
 
 /// The input that a refusal's place lies in.
@@ -56,6 +57,8 @@ pub enum Answer {
     /// and do not fit.
     Agrees,
     Differs,
+    /// The blocks ran on a table of so many entries, in so many steps.
+    RanAll(Totals),
     Refused {
         number: u8,
         input: Input,
@@ -125,6 +128,7 @@ impl fmt::Display for Answer {
             Answer::Drafted(length) => write!(out, "drafted {length}"),
             Answer::Agrees => out.write_str("agrees"),
             Answer::Differs => out.write_str("differs"),
+            Answer::RanAll(totals) => write!(out, "{totals}"),
             Answer::Refused {
                 number,
                 input,

@@ -14,7 +14,7 @@ use super::keys::all_zero;
 pub const BLOCK: usize = 512;
 pub const MOST_BLOCKS: usize = 123;
 pub const INSTRUCTIONS_IN_BLOCK: usize = 25;
-const CODE_START: usize = 4;
+pub const CODE_START: usize = 4;
 const CODE_END: usize = 504;
 const CHECK_START: usize = 508;
 

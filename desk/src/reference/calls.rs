@@ -4,7 +4,8 @@
 //! over 4,096 bytes, or over the lent buffer, is refused with number 21, placed
 //! in the buffer at its length here and in every later request. Bytes after a
 //! print, or after a text that a later request writes, stay." Request m: 25, and "a
-//! refused list or text comes before that".
+//! refused list or text comes before that". Beyond both: a table that is run has 19 and
+//! then 15, once its blocks are loaded.
 
 use super::agreeing::{is_in_some_order, part_codes};
 use super::answers::{Answer, Input, Refusal};
@@ -24,7 +25,8 @@ use super::pact::MOST_INDICES;
 use super::parts::typed_parts;
 use super::printing::print_of;
 use super::rechecking::{reuses, Rechecked};
-use super::running::outcome;
+use super::running::{outcome, Outcome};
+use super::running_all::{enough_answers, verdict_byte, whole_entries, Totals};
 use super::summaries::Summary;
 use super::tokens::tokens;
 use super::translating::instructions;
@@ -87,6 +89,26 @@ pub fn run(list: &[u8], blocks: &[u8], entry: &[u8]) -> Answer {
         let (code, keys) = loaded(list, blocks)?;
         let entry = Entry::from_bytes(entry, &keys)?;
         Ok(Answer::Ran(outcome(&code, &keys, &entry)))
+    };
+    running().into()
+}
+
+/// Loads blocks once and runs them on every entry of a table, with a byte for each at
+/// the front of the answers. Every later byte stays, and on a refusal every byte.
+pub fn run_all(list: &[u8], blocks: &[u8], entries: &[u8], answers: &mut [u8]) -> Answer {
+    let mut running = || {
+        let (code, keys) = loaded(list, blocks)?;
+        let entries = whole_entries(entries, keys.len())?;
+        enough_answers(answers, entries.len())?;
+        let outcomes: Vec<Option<Outcome>> = entries
+            .iter()
+            .map(|bytes| Entry::from_bytes(bytes, &keys).ok())
+            .map(|entry| Some(outcome(&code, &keys, &entry?)))
+            .collect();
+        for (answer, &outcome) in answers.iter_mut().zip(&outcomes) {
+            *answer = verdict_byte(outcome);
+        }
+        Ok(Answer::RanAll(Totals::of(&outcomes)))
     };
     running().into()
 }

@@ -7,7 +7,7 @@
 //! a restriction in house style", "Tell me on site what broke", "A summary beside
 //! each rule", "Stop early, and count", "Octal goes", "Numbers that lose bits", "Take
 //! in Pact contracts", "Check a contractor's translator" and "A count before I drive
-//! home".
+//! home". And beyond both, the run of a whole table.
 //!
 //! The files follow the documents' sections. Plainness comes before speed:
 //! what stands here is meant to be held against the paper, line by line.
@@ -37,6 +37,7 @@ pub mod parts;
 pub mod printing;
 pub mod rechecking;
 pub mod running;
+pub mod running_all;
 pub mod summaries;
 pub mod tokens;
 pub mod translating;
@@ -47,9 +48,10 @@ pub mod words;
 
 pub use answers::{Answer, Input};
 pub use calls::{check, compare, count, explain, fix_octal, judge, load, pact};
-pub use calls::{print, read, recheck, run, summarize, translate};
+pub use calls::{print, read, recheck, run, run_all, summarize, translate};
 pub use counting::Counts;
 pub use explaining::Explanation;
 pub use rechecking::Rechecked;
 pub use running::Outcome;
+pub use running_all::Totals;
 pub use summaries::Summary;

@@ -12,7 +12,7 @@ use desk::reference::blocks::{bytes_needed, BLOCK, MOST_BLOCKS};
 use desk::reference::calls::LONGEST_TEXT;
 use desk::reference::counting::output;
 use desk::reference::{check, compare, count, explain, fix_octal, judge, load, pact};
-use desk::reference::{print, read, recheck, run, summarize, translate};
+use desk::reference::{print, read, recheck, run, run_all, summarize, translate};
 use desk::reference::{Answer, Explanation, Input, Outcome, Rechecked};
 use desk::requests::{Call, Request};
 
@@ -99,6 +99,18 @@ pub fn loading(list: &[u8], blocks: &[u8]) -> String {
 
 pub fn running(list: &[u8], blocks: &[u8], entry: &[u8]) -> String {
     short(run(list, blocks, entry))
+}
+
+/// What a run of a whole table says, and the answers after it.
+pub fn running_all(
+    list: &[u8],
+    blocks: &[u8],
+    entries: &[u8],
+    answers: &[u8],
+) -> (String, Vec<u8>) {
+    let mut after = answers.to_vec();
+    let answer = run_all(list, blocks, entries, &mut after);
+    (short(answer), after)
 }
 
 /// The blocks of a text.

@@ -37,6 +37,11 @@ struct bytes read_file(const char *path)
     return contents;
 }
 
+struct bytes make_bytes(size_t length)
+{
+    return (struct bytes){ enlarged(NULL, length + 1, "memory"), length };
+}
+
 void write_file(const char *path, const uint8_t *at, size_t length)
 {
     FILE *file = fopen(path, "wb");

@@ -1,11 +1,11 @@
 /*
- * The switch's side: loads a table's blocks once, then judges every entry that the controller sends.
+ * The switch's side: loads a table's blocks once, then judges the entries that the controller sends, a table of them at a time.
  *
  *   switch KEYS BLOCKS ENTRIES     the key list, the blocks, and entries end to end, each a file of bytes
  *   switch                         a small table that is built in
  *
- * For each entry a line: accepted or violated with the steps of the run, or refused with the number, the input and the byte offset in it.
- * Status: 0 the entries were judged, 2 the table does not load, 3 wrong usage or a file that cannot be read.
+ * For each entry a line: accepted, violated, or refused with the number, the input and the byte offset in it; then how many there are, and the
+ * steps of all. Status: 0 the entries were judged, 2 the table does not load or the last entry is cut, 3 wrong usage or a file that cannot be read.
  */
 #include <inttypes.h>
 #include <stdio.h>
@@ -22,19 +22,10 @@ struct table {
     size_t entry_size;
 };
 
-static void print_refusal(struct pollux_answer answer)
+static void print_refusal(uint64_t number, uint64_t input, uint64_t value)
 {
     static const char *const inputs[] = { "nowhere", "text", "list", "entry", "blocks", "buffer" };
-    printf("refused %" PRIu64 " %s %" PRIu64 "\n", answer.number, inputs[answer.input], answer.value);
-}
-
-static void print_answer(struct pollux_answer answer)
-{
-    if (answer.says == POLLUX_REFUSED)
-        print_refusal(answer);
-    else
-        printf("%s in %" PRIu64 " %s\n", answer.says == POLLUX_ACCEPTED ? "accepted" : "violated", answer.value,
-               answer.value == 1 ? "step" : "steps");
+    printf("refused %" PRIu64 " %s %" PRIu64 "\n", number, inputs[input], value);
 }
 
 /* Once, when the table is set up. A table that does not load must not be used. */
@@ -47,20 +38,21 @@ static struct pollux_answer open_table(struct table *table, struct bytes list, s
     return answer;
 }
 
-/* For every entry, before it goes to the hardware. Only an accepted one may. */
-static struct pollux_answer judge_entry(const struct table *table, const uint8_t *entry, size_t length)
+/* For all entries that came, before they go to the hardware: a byte for each. Only those with POLLUX_ACCEPTED may. */
+static struct pollux_table judge_all(const struct table *table, struct bytes entries, struct bytes answers)
 {
-    return pollux_run(table->list, table->list_length, table->blocks, table->blocks_length, entry, length);
+    return pollux_run_all(table->list, table->list_length, table->blocks, table->blocks_length, entries.at, entries.length, answers.at,
+                          answers.length);
 }
 
-/* What is left at the end of a cut file is handed over as it is, and refused for its length. */
-static void judge_all(const struct table *table, struct bytes entries)
+/* A byte says that an entry is refused. Where it is wrong says a run of it alone. */
+static void print_verdict(const struct table *table, uint8_t verdict, const uint8_t *entry)
 {
-    while (entries.length > 0) {
-        size_t length = entries.length < table->entry_size ? entries.length : table->entry_size;
-        print_answer(judge_entry(table, entries.at, length));
-        entries.at += length;
-        entries.length -= length;
+    if (verdict == POLLUX_REFUSED) {
+        struct pollux_answer answer = pollux_run(table->list, table->list_length, table->blocks, table->blocks_length, entry, table->entry_size);
+        print_refusal(answer.number, answer.input, answer.value);
+    } else {
+        printf("%s\n", verdict == POLLUX_ACCEPTED ? "accepted" : "violated");
     }
 }
 
@@ -70,10 +62,18 @@ static int run_table(struct bytes list, struct bytes blocks, struct bytes entrie
     struct pollux_answer loaded = open_table(&table, list, blocks);
     if (loaded.says == POLLUX_REFUSED) {
         printf("the table does not load: ");
-        print_refusal(loaded);
+        print_refusal(loaded.number, loaded.input, loaded.value);
         return 2;
     }
-    judge_all(&table, entries);
+    struct bytes answers = make_bytes(entries.length / table.entry_size);
+    struct pollux_table ran = judge_all(&table, entries, answers);
+    if (ran.says == POLLUX_REFUSED) {
+        print_refusal(ran.number, ran.input, ran.value);
+        return 2;
+    }
+    for (size_t k = 0; k < ran.value; k++)
+        print_verdict(&table, answers.at[k], entries.at + k * table.entry_size);
+    printf("entries %" PRIu64 ", steps %" PRIu64 "\n", ran.value, ran.steps);
     return 0;
 }
 

@@ -4,8 +4,8 @@
  * outside its inputs ends this program with a message that names the case.
  *
  *   page_end vary < REQUESTS > VARIED     the requests of the incident, of an octal numeral, of a contract, of another order of
- *                                         parts and of a count, and those given, each whole, and with one input a byte shorter or
- *                                         a byte longer, of a table a number; the numbers for the parts are always as many
+ *                                         parts, of a count and of many entries, and those given, each whole, and with one input a byte
+ *                                         shorter or a byte longer, of a table a number; the numbers for the parts are always as many
  *   page_end VARIED LINES                 makes the calls and holds their answers to the lines
  *
  * LINES is what `desk answer` says of VARIED. The last line is 'N passed, M failed'; the status is 0 if M is 0.
@@ -147,6 +147,20 @@ static void write_count(void)
     write_all_varied(&request);
 }
 
+/* An entry that is accepted, one that is violated and one that is refused, with a byte for each, and no byte more. */
+static void write_many(void)
+{
+    enum { ONE = POLLUX_ENTRY_SIZE(1), ENTRIES = 3 };
+    static uint8_t list[POLLUX_KEY_SIZE] = { 1, 0, 1, [POLLUX_KEY_SIZE - POLLUX_MAX_NAME] = 'k' }, text[] = "k==1", blocks[POLLUX_BLOCK_SIZE];
+    static uint8_t entries[ENTRIES * ONE] = { [4] = 1, [23] = 1, [ONE + 4] = 1 }, answers[ENTRIES] = { 0xa5, 0x5a, 0xff };
+    pollux_translate(text, sizeof text - 1, list, sizeof list, blocks, sizeof blocks);
+    struct request request = { .call = RUN_ALL, .inputs = { { list, sizeof list }, { blocks, sizeof blocks },
+                                                            { entries, sizeof entries }, { answers, sizeof answers } } };
+    write_all_varied(&request);
+    request.inputs[2].length = 0;
+    write_all_varied(&request);
+}
+
 static int vary(void)
 {
     struct request request;
@@ -155,6 +169,7 @@ static int vary(void)
     write_contract();
     write_comparison();
     write_count();
+    write_many();
     while (read_request(stdin, &request))
         write_all_varied(&request);
     return fflush(stdout) == 0 ? 0 : 3;
@@ -307,7 +322,7 @@ static size_t written_for(unsigned call, struct told answer)
     }
 }
 
-/* Only the blocks, the text or the numbers that an answer tells of may have changed, and after a refusal nothing. */
+/* Only the blocks, the text, the numbers or the answers that an answer tells of may have changed, and after a refusal nothing. */
 static bool kept_rest(const struct request *request, const struct request *lent, struct told answer)
 {
     size_t written = written_for(request->call, answer);
@@ -348,7 +363,7 @@ static bool try_placing(const struct request *request, const char *line, unsigne
             return failed("bytes around an input were written");
     }
     if (!kept_rest(request, &lent, answer))
-        return failed("bytes of the buffer, or numbers for the parts, changed that must stay");
+        return failed("bytes of the buffer or of the answers, or numbers for the parts, changed that must stay");
     return same_answer(&lent, answer, line) || failed("another answer");
 }
 

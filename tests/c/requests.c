@@ -8,7 +8,7 @@ const char *call_name(unsigned call)
 {
     static const char *const names[] = { "no call", "read",    "check",     "judge",   "translate", "load",
                                          "run",     "print",   "explain",   "summarize", "recheck", "fix_octal", "pact",
-                                         "compare", "count" };
+                                         "compare", "count",   "run_all" };
     return names[call <= LAST_CALL ? call : 0];
 }
 
@@ -29,6 +29,7 @@ const char *input_name(unsigned call, unsigned input)
         [PACT] = { "contract", "list", "buffer", [TABLE] = "table" },
         [COMPARE] = { "text", "list", "blocks", "" },
         [COUNT] = { "text", "list", "entries", [PARTS] = "parts" },
+        [RUN_ALL] = { "list", "blocks", "entries", [ANSWERS] = "answers" },
     };
     return names[call][input];
 }
@@ -45,7 +46,11 @@ bool writes(unsigned call)
 
 bool writes_to(unsigned call, unsigned input)
 {
-    return input == 2 ? writes(call) : call == COUNT && input == PARTS;
+    switch (call) {
+    case COUNT: return input == PARTS;
+    case RUN_ALL: return input == ANSWERS;
+    default: return input == 2 && writes(call);
+    }
 }
 
 static void read_exactly(FILE *file, uint8_t *into, size_t length)
@@ -56,8 +61,11 @@ static void read_exactly(FILE *file, uint8_t *into, size_t length)
     exit(3);
 }
 
-/* How many inputs a request has, and what stands before the old entry or the numbers in the third one of a recheck or a contract. */
-enum { FRAMED = 3, CHANGE_HEAD = 5, TABLE_HEAD = 2, NUMBER = sizeof(uint64_t) };
+/*
+ * How many inputs a request has, and what stands in the third one before the old entry of a recheck, the numbers of a contract, or the answers of a
+ * run of many entries.
+ */
+enum { FRAMED = 3, SIZE = 4, CHANGE_HEAD = 1 + SIZE, TABLE_HEAD = 2, ANSWERS_HEAD = SIZE, NUMBER = sizeof(uint64_t) };
 
 static size_t size_at(const uint8_t head[4])
 {
@@ -86,18 +94,26 @@ static bool read_input(FILE *file, uint8_t memory[LONGEST_INPUT], struct input *
     return fits;
 }
 
-/* Takes the third input of a recheck apart; false if it is too short. */
-static bool take_apart(struct request *request)
+/* Takes the third input apart: after a head that ends in its length an input by itself, and the rest; false if it is too short. */
+static bool take_apart(struct request *request, size_t head, struct input *first)
 {
-    struct input change = request->inputs[2];
-    if (change.length < CHANGE_HEAD)
+    struct input both = request->inputs[2];
+    if (both.length < head)
         return false;
-    size_t old = size_at(change.at + 1), room = change.length - CHANGE_HEAD;
-    if (old > room)
+    size_t length = size_at(both.at + head - SIZE), room = both.length - head;
+    if (length > room)
         return false;
-    request->earlier = change.at[0];
-    request->inputs[OLD_ENTRY] = (struct input){ change.at + CHANGE_HEAD, old };
-    request->inputs[2] = (struct input){ change.at + CHANGE_HEAD + old, room - old };
+    *first = (struct input){ both.at + head, length };
+    request->inputs[2] = (struct input){ both.at + head + length, room - length };
+    return true;
+}
+
+static bool take_change(struct request *request)
+{
+    const uint8_t *earlier = request->inputs[2].at;
+    if (!take_apart(request, CHANGE_HEAD, &request->inputs[OLD_ENTRY]))
+        return false;
+    request->earlier = *earlier;
     return true;
 }
 
@@ -135,9 +151,10 @@ static bool take_parts(struct request *request)
 static bool take_third(struct request *request)
 {
     switch (request->call) {
-    case RECHECK: return take_apart(request);
+    case RECHECK: return take_change(request);
     case PACT: return take_table(request);
     case COUNT: return take_parts(request);
+    case RUN_ALL: return take_apart(request, ANSWERS_HEAD, &request->inputs[ANSWERS]);
     default: return true;
     }
 }
@@ -164,13 +181,17 @@ static void write_size(FILE *file, size_t size)
     fwrite(head, 1, sizeof head, file);
 }
 
+static void write_input(FILE *file, const struct input *input)
+{
+    write_size(file, input->length);
+    fwrite(input->at, 1, input->length, file);
+}
+
 /* The earlier answer and the old entry, which stand before the new one in the third input of a recheck. */
 static void write_old(FILE *file, const struct request *request)
 {
-    const struct input *old = &request->inputs[OLD_ENTRY];
     fwrite(&request->earlier, 1, 1, file);
-    write_size(file, old->length);
-    fwrite(old->at, 1, old->length, file);
+    write_input(file, &request->inputs[OLD_ENTRY]);
 }
 
 /* The count and the numbers, which stand before the buffer in the third input of a contract. */
@@ -192,6 +213,7 @@ static size_t length_before(const struct request *request)
     switch (request->call) {
     case RECHECK: return CHANGE_HEAD + request->inputs[OLD_ENTRY].length;
     case PACT: return TABLE_HEAD + request->inputs[TABLE].length;
+    case RUN_ALL: return ANSWERS_HEAD + request->inputs[ANSWERS].length;
     default: return 0;
     }
 }
@@ -202,6 +224,8 @@ static void write_before(FILE *file, const struct request *request)
         write_old(file, request);
     if (request->call == PACT)
         write_table(file, request);
+    if (request->call == RUN_ALL)
+        write_input(file, &request->inputs[ANSWERS]);
 }
 
 bool can_be_read(const struct request *request)
@@ -227,7 +251,7 @@ void write_request(FILE *file, const struct request *request)
 const struct calls pollux_calls = {
     pollux_read, pollux_check, pollux_judge,   pollux_translate, pollux_load,
     pollux_run,  pollux_print, pollux_explain, pollux_summarize, pollux_recheck, pollux_fix_octal,
-    pollux_pact, pollux_compare, pollux_count,
+    pollux_pact, pollux_compare, pollux_count, pollux_run_all,
 };
 
 static struct pollux_answer make_plain_call(const struct calls *calls, const struct request *request)
@@ -287,6 +311,11 @@ static struct told tell_counts(struct pollux_counts it)
                           .accepted = it.accepted, .violated = it.violated, .refused = it.refused, .cut = it.cut };
 }
 
+static struct told tell_table(struct pollux_table it)
+{
+    return (struct told){ .says = it.says, .number = it.number, .input = it.input, .value = it.value, .steps = it.steps };
+}
+
 static uint64_t *parts_of(const struct request *request)
 {
     return (uint64_t *)request->inputs[PARTS].at;
@@ -294,7 +323,8 @@ static uint64_t *parts_of(const struct request *request)
 
 struct told make_call(const struct calls *calls, const struct request *request)
 {
-    const struct input *a = &request->inputs[0], *b = &request->inputs[1], *c = &request->inputs[2], *old = &request->inputs[OLD_ENTRY];
+    const struct input *a = &request->inputs[0], *b = &request->inputs[1], *c = &request->inputs[2], *old = &request->inputs[OLD_ENTRY],
+                       *answers = &request->inputs[ANSWERS];
     switch (request->call) {
     case COUNT: return tell_counts(calls->count(a->at, a->length, b->at, b->length, c->at, c->length, parts_of(request)));
     case EXPLAIN: return tell_reason(calls->explain(a->at, a->length, b->at, b->length, c->at, c->length));
@@ -302,6 +332,8 @@ struct told make_call(const struct calls *calls, const struct request *request)
     case RECHECK:
         return tell_recheck(calls->recheck(a->at, a->length, b->at, b->length, old->at, old->length, earlier_answer(request->earlier),
                                            c->at, c->length));
+    case RUN_ALL:
+        return tell_table(calls->run_all(a->at, a->length, b->at, b->length, c->at, c->length, answers->at, answers->length));
     default: {
         struct pollux_answer answer = make_plain_call(calls, request);
         return (struct told){ .says = answer.says, .number = answer.number, .input = answer.input, .value = answer.value };
@@ -408,6 +440,27 @@ static bool fits_totals(const struct request *request, struct told answer)
            fits_parts(parts_of(request), answer.value, answer.violated);
 }
 
+/*
+ * Only a run of many entries tells the steps of all. Each of them has a byte, which is what a run of it alone says, and the steps are the sum of
+ * theirs.
+ */
+static bool fits_table(const struct request *request, struct told answer)
+{
+    if (request->call != RUN_ALL || answer.says == POLLUX_REFUSED)
+        return answer.steps == 0;
+    const struct input *list = &request->inputs[0], *blocks = &request->inputs[1], *entries = &request->inputs[2];
+    size_t size = POLLUX_ENTRY_SIZE(list->length / POLLUX_KEY_SIZE);
+    if (answer.value * size != entries->length || answer.value > request->inputs[ANSWERS].length)
+        return false;
+    for (size_t k = 0; k < answer.value; k++) {
+        struct pollux_answer one = pollux_run(list->at, list->length, blocks->at, blocks->length, entries->at + k * size, size);
+        if (request->inputs[ANSWERS].at[k] != one.says)
+            return false;
+        answer.steps -= one.says == POLLUX_REFUSED ? 0 : one.value;
+    }
+    return answer.steps == 0;
+}
+
 /* ---- Lines. */
 
 /* Writes at the end of a line. */
@@ -426,6 +479,8 @@ static void add_answer(char line[LINE_SIZE], unsigned call, struct told answer)
     };
     if (answer.says == POLLUX_REFUSED)
         ADD(line, "refused %" PRIu64 " %s %" PRIu64, answer.number, inputs[answer.input], answer.value);
+    else if (call == RUN_ALL)
+        ADD(line, "ran %" PRIu64 " %" PRIu64, answer.value, answer.steps);
     else if (call == SUMMARIZE)
         ADD(line, "summary %" PRIu64 " %" PRIu64 " %" PRIu64, answer.keys, answer.priority, answer.count);
     else if (answer.says == POLLUX_DONE && call != CHECK)
@@ -470,7 +525,7 @@ static void add_counts(char line[LINE_SIZE], const struct request *request, stru
 static bool fits(const struct request *request, struct told answer)
 {
     return fits_call(request->call, answer) && fits_steps(request, answer) && fits_shown(request, answer) && fits_named(request, answer) &&
-           fits_totals(request, answer);
+           fits_totals(request, answer) && fits_table(request, answer);
 }
 
 static void add_odd(char line[LINE_SIZE], struct told answer)
@@ -498,4 +553,6 @@ void answer_line(char line[LINE_SIZE], const struct request *request, struct tol
     }
     if (writes(request->call))
         ADD(line, " %u", adler32(request->inputs[2]));
+    if (request->call == RUN_ALL)
+        ADD(line, " %u", adler32(request->inputs[ANSWERS]));
 }

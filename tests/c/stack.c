@@ -90,6 +90,11 @@ static void measure_blocks(const struct request *translation)
     measure(&request);
     request.call = RUN;
     measure(&request);
+    static uint8_t entries[2 * POLLUX_PRIORITY_SIZE], answers[2];
+    request.call = RUN_ALL;
+    request.inputs[2] = (struct input){ entries, sizeof entries };
+    request.inputs[ANSWERS] = (struct input){ answers, sizeof answers };
+    measure(&request);
 }
 
 /* Two entries, the second of which is cut: more of them take no more. */
@@ -143,13 +148,22 @@ static void measure_deepest(void)
     end += repeat(text + end, "false;", 1);
     measure_text(text, end);
 
-    static const char *const levels[] = { "(", "!", "-" };
-    for (int i = 0; i < 3; i++) {
-        end = repeat(text, levels[i], POLLUX_MAX_LEVELS);
-        end += repeat(text + end, i == 2 ? "ipv6('1:2:3:4:5:6:7:8')==1" : "true", 1);
-        end += repeat(text + end, ";true", (POLLUX_MAX_TOKENS - 2 * POLLUX_MAX_LEVELS) / 2 - 7);
+    /* Each level with how many tokens it takes. A parenthesis is deepest after an operator of each kind. */
+    static const struct {
+        const char *opens, *holds, *closes;
+        size_t tokens;
+    } levels[] = {
+        { "(", "true", ")", 2 },
+        { "true;true->true||true&&true==(", "true", ")", 12 },
+        { "!", "true", "", 2 },
+        { "-", "ipv6('1:2:3:4:5:6:7:8')==1", "", 2 },
+    };
+    for (size_t i = 0; i < sizeof levels / sizeof levels[0]; i++) {
+        end = repeat(text, levels[i].opens, POLLUX_MAX_LEVELS);
+        end += repeat(text + end, levels[i].holds, 1);
+        end += repeat(text + end, ";true", (POLLUX_MAX_TOKENS - levels[i].tokens * POLLUX_MAX_LEVELS) / 2 - 7);
         end += repeat(text + end, ";false", 1);
-        end += repeat(text + end, ")", i == 0 ? POLLUX_MAX_LEVELS : 0);
+        end += repeat(text + end, levels[i].closes, POLLUX_MAX_LEVELS);
         measure_text(text, end);
     }
     measure_octal(text);

@@ -4,6 +4,8 @@
 #include <string.h>
 
 #include "plain.h"
+#include "sheet.h"
+#include "timing.h"
 
 /* Zeros. */
 static uint8_t *room(size_t length)
@@ -100,4 +102,66 @@ bool make_edit(struct edit *edit, const struct table *table, bool named)
     for (size_t i = 0; i < EDITED; i++)
         add_entry(edit, i);
     return true;
+}
+
+/* ---- Each new entry rechecked, and judged. */
+
+static uint64_t recheck_all(const void *with)
+{
+    const struct edit *edit = with;
+    const struct table *table = &edit->table;
+    uint64_t sum = 0;
+    for (size_t i = 0; i < EDITED; i++) {
+        struct input old = entry_at(edit->old, table, i), new = entry_at(edit->new, table, i);
+        struct pollux_answer earlier = { .says = edit->earlier[i] };
+        sum += pollux_recheck(table->text.at, table->text.length, table->list.at, table->list.length, old.at, old.length, earlier, new.at,
+                              new.length)
+                   .says;
+    }
+    return sum;
+}
+
+static uint64_t judge_all(const void *with)
+{
+    const struct edit *edit = with;
+    const struct table *table = &edit->table;
+    uint64_t sum = 0;
+    for (size_t i = 0; i < EDITED; i++) {
+        struct input new = entry_at(edit->new, table, i);
+        sum += pollux_judge(table->text.at, table->text.length, table->list.at, table->list.length, new.at, new.length).says;
+    }
+    return sum;
+}
+
+/* Nanoseconds for an entry. */
+static double time_of(job *all, const struct edit *edit)
+{
+    return 1e9 / rate(all, edit) / EDITED;
+}
+
+static void measure_edit(const struct edit *edit, const struct column columns[])
+{
+    enum { TIMES = 5 };
+    double recheck = 0, judge = 0;
+    for (int i = 0; i < TIMES; i++) {
+        double rechecked = time_of(recheck_all, edit), judged = time_of(judge_all, edit);
+        recheck = i == 0 || rechecked < recheck ? rechecked : recheck;
+        judge = i == 0 || judged < judge ? judged : judge;
+    }
+    sheet_word(&columns[0], edit->table.name);
+    sheet_word(&columns[1], edit->named ? "named" : "not named");
+    sheet_time(&columns[2], recheck);
+    sheet_time(&columns[3], judge);
+    sheet_number(&columns[4], recheck / judge, 2);
+    sheet_end();
+}
+
+void measure_edits(const struct edit *edits, size_t count)
+{
+    static const struct column columns[] = { { "restriction", -13 }, { "the key is", -10 }, { "recheck", 10 }, { "judge", 10 }, { "ratio", 6 } };
+    printf("\nOne key of %d entries changes: nanoseconds an entry, Polluxvalve alone, and how many times longer it takes to recheck the new\n"
+           "entries than to judge them.\n", EDITED);
+    sheet_head(columns, sizeof columns / sizeof columns[0]);
+    for (size_t i = 0; i < count; i++)
+        measure_edit(&edits[i], columns);
 }

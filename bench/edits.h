@@ -6,6 +6,9 @@
 
 enum { EDITED = 10000 };
 
+/* Both edits of each table that has them. */
+enum { MOST_EDITS = 2 * TABLES };
+
 struct edit {
     struct table table;    /* with one key more than it has, which the text does not name, where there is room for one */
     bool named;            /* the key that is changed */
@@ -17,10 +20,19 @@ struct edit {
 /* False where the text names no key, or every key that there may be. */
 bool make_edit(struct edit *edit, const struct table *table, bool named);
 
+/* One of some entries that lie end to end. */
+static inline struct input entry_at(struct input entries, const struct table *table, size_t index)
+{
+    return (struct input){ entries.at + index * table->entry_size, table->entry_size };
+}
+
 /* How many entries differ among them. */
 static inline size_t different(const struct edit *edit)
 {
     return edit->table.conforming.length / edit->table.entry_size;
 }
+
+/* Prints how long it takes to recheck the new entries of each edit, and to judge them. */
+void measure_edits(const struct edit *edits, size_t count);
 
 #endif

@@ -3,6 +3,9 @@
 #include <stdlib.h>
 #include <string.h>
 
+#include "sheet.h"
+#include "timing.h"
+
 enum { HALF = POLLUX_MAX_PARTS / 2, COMPARISONS = POLLUX_MAX_TOKENS / 4, FIRST_NUMERAL = 10000 };
 
 static uint8_t list[POLLUX_KEY_SIZE] = { 1, 0, POLLUX_MAX_WIDTH, [16] = 'k' };
@@ -61,4 +64,61 @@ void make_orders(struct order orders[ORDERS])
     orders[1] = (struct order){ "the first is another", POLLUX_MAX_PARTS, plain, keys,
                                 translation(constants(other, "false;"), blocks[1]), POLLUX_DIFFERS };
     orders[2] = (struct order){ "comparisons", COMPARISONS, compared, keys, translation(compared, blocks[2]), POLLUX_AGREES };
+}
+
+/* ---- Times. */
+
+static void must_say(const struct order *order, const char *call, uint64_t said, enum pollux_says says)
+{
+    if (said == says)
+        return;
+    fprintf(stderr, "%s: %s says %d\n", order->name, call, (int)said);
+    exit(1);
+}
+
+static uint64_t compare_one(const void *with)
+{
+    const struct order *order = with;
+    struct pollux_answer answer =
+        pollux_compare(order->text.at, order->text.length, order->list.at, order->list.length, order->blocks.at, order->blocks.length);
+    must_say(order, "compare", answer.says, order->says);
+    return answer.value;
+}
+
+static uint64_t translate_one(const void *with)
+{
+    static uint8_t buffer[POLLUX_MAX_BLOCKS_SIZE];
+    const struct order *order = with;
+    struct pollux_answer answer =
+        pollux_translate(order->text.at, order->text.length, order->list.at, order->list.length, buffer, sizeof buffer);
+    must_say(order, "translate", answer.says, POLLUX_DONE);
+    return answer.value;
+}
+
+static void measure_order(const struct order *order, const struct column columns[])
+{
+    double compare = 0, translate = 0;
+    for (int round = 0; round < ROUNDS; round++) {
+        double compared = rate(compare_one, order), translated = rate(translate_one, order);
+        compare = compared > compare ? compared : compare;
+        translate = translated > translate ? translated : translate;
+    }
+    sheet_word(&columns[0], order->name);
+    sheet_number(&columns[1], (double)order->parts, 0);
+    sheet_word(&columns[2], order->says == POLLUX_AGREES ? "agrees" : "differs");
+    sheet_number(&columns[3], 1e3 / compare, 3);
+    sheet_number(&columns[4], 1e3 / translate, 3);
+    sheet_end();
+}
+
+void measure_orders(void)
+{
+    static const struct column columns[] = { { "parts", -21 }, { "number", 7 }, { "it says", -8 }, { "compare", 8 }, { "translate", 10 } };
+    static struct order orders[ORDERS];
+    make_orders(orders);
+    printf("\nBlocks are compared with a text of many parts, in the orders that take longest: milliseconds a call, Polluxvalve alone, and beside\n"
+           "it those of a translation of the text.\n");
+    sheet_head(columns, sizeof columns / sizeof columns[0]);
+    for (int i = 0; i < ORDERS; i++)
+        measure_order(&orders[i], columns);
 }

@@ -15,4 +15,7 @@ enum { ORDERS = 3 };
 
 void make_orders(struct order orders[ORDERS]);
 
+/* Prints how long it takes to compare them, and to translate their texts. */
+void measure_orders(void);
+
 #endif

@@ -29,6 +29,11 @@ struct pollux_answer plain_run(const uint8_t *list, size_t list_length,
                                const uint8_t *blocks, size_t blocks_length,
                                const uint8_t *entry, size_t entry_length);
 
+struct pollux_table plain_run_all(const uint8_t *list, size_t list_length,
+                                  const uint8_t *blocks, size_t blocks_length,
+                                  const uint8_t *entries, size_t entries_length,
+                                  uint8_t *answers, size_t answers_length);
+
 struct pollux_answer plain_print(const uint8_t *text, size_t text_length,
                                  uint8_t *buffer, size_t buffer_length);
 
@@ -52,5 +57,9 @@ struct plain_ran {
 
 /* Runs blocks that load on an entry that conforms, and checks nothing. */
 struct plain_ran plain_unchecked(const uint8_t *list, const uint8_t *blocks, size_t instructions, const uint8_t *entry);
+
+/* The same on entries that lie end to end, with a byte for each of them; gives the steps of all. */
+uint64_t plain_unchecked_all(const uint8_t *list, const uint8_t *blocks, size_t instructions,
+                             const uint8_t *entries, size_t count, size_t entry_size, uint8_t *answers);
 
 #endif

@@ -1,4 +1,4 @@
-/* The run: an interpreter that checks nothing, and the call that checks everything before it. */
+/* The run: an interpreter that checks nothing, and the calls that check everything before it. */
 #include "plain_blocks.h"
 #include "plain_values.h"
 
@@ -60,4 +60,52 @@ struct pollux_answer plain_run(const uint8_t *list, size_t list_length, const ui
         return answer;
     struct plain_ran ran = plain_unchecked(list, blocks, total, entry);
     return verdict(ran.accepted, ran.steps);
+}
+
+/* What is told of an entry that conforms, in a byte. */
+static uint8_t byte_of(struct plain_ran ran)
+{
+    return ran.accepted ? POLLUX_ACCEPTED : POLLUX_VIOLATED;
+}
+
+uint64_t plain_unchecked_all(const uint8_t *list, const uint8_t *blocks, size_t instructions, const uint8_t *entries, size_t count,
+                             size_t entry_size, uint8_t *answers)
+{
+    uint64_t steps = 0;
+    for (size_t i = 0; i < count; i++) {
+        struct plain_ran ran = plain_unchecked(list, blocks, instructions, entries + i * entry_size);
+        answers[i] = byte_of(ran);
+        steps += ran.steps;
+    }
+    return steps;
+}
+
+/* 19 and 15: the length of the entries, and room for their answers. */
+static bool check_room(size_t entry_size, size_t entries_length, size_t answers_length, struct pollux_answer *answer)
+{
+    if (entries_length % entry_size != 0)
+        return refuse(answer, POLLUX_ENTRY_LENGTH, POLLUX_ENTRY, entries_length);
+    return entries_length / entry_size <= answers_length || refuse(answer, POLLUX_BUFFER_SHORT, POLLUX_BUFFER, answers_length);
+}
+
+struct pollux_table plain_run_all(const uint8_t *list, size_t list_length, const uint8_t *blocks, size_t blocks_length,
+                                  const uint8_t *entries, size_t entries_length, uint8_t *answers, size_t answers_length)
+{
+    size_t total, size = POLLUX_ENTRY_SIZE(list_length / POLLUX_KEY_SIZE);
+    struct pollux_answer answer;
+    if (!check_blocks(list, list_length, blocks, blocks_length, &total, &answer) ||
+        !check_room(size, entries_length, answers_length, &answer))
+        return (struct pollux_table){ answer.says, answer.number, answer.input, answer.value, 0 };
+    uint64_t steps = 0;
+    size_t count = entries_length / size;
+    for (size_t i = 0; i < count; i++) {
+        const uint8_t *entry = entries + i * size;
+        answers[i] = POLLUX_REFUSED;
+        if (!check_entry(list, list_length, entry, size, &answer))
+            continue;
+        struct plain_ran ran = plain_unchecked(list, blocks, total, entry);
+        answers[i] = byte_of(ran);
+        steps += ran.steps;
+    }
+    return (struct pollux_table){ POLLUX_DONE, 0, 0, count, steps };
 }

@@ -207,6 +207,24 @@ static void add_conforming(struct table *table)
     }
 }
 
+static struct input many_of(struct input entries, size_t entry_size)
+{
+    struct input many = { entries.at, 0 };
+    if (entries.length == 0)
+        return many;
+    many.at = room(MANY * entry_size).at;
+    for (size_t i = 0; i < MANY; i++)
+        add_entry(&many, (struct input){ entries.at + i * entry_size % entries.length, entry_size });
+    return many;
+}
+
+static void add_many(struct table *table)
+{
+    table->many_conforming = many_of(table->conforming, table->entry_size);
+    table->many_accepted = many_of(table->accepted, table->entry_size);
+    table->many_violated = many_of(table->violated, table->entry_size);
+}
+
 void make_tables(struct table tables[TABLES], const char *folder)
 {
     make_small(&tables[0]);
@@ -219,5 +237,6 @@ void make_tables(struct table tables[TABLES], const char *folder)
         add_code(&tables[i]);
         add_unskipped(&tables[i]);
         add_conforming(&tables[i]);
+        add_many(&tables[i]);
     }
 }

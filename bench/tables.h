@@ -18,7 +18,10 @@ struct table {
     struct code code;                            /* its translation */
     struct code unskipped;                       /* the same without its skips: what was made before there were any */
     struct input conforming, accepted, violated; /* the entries that are not refused, end to end, and these by what is said of them */
+    struct input many_conforming, many_accepted, many_violated; /* these again and again, MANY of them, or none where there are none */
 };
+
+enum { MANY = 1000 };
 
 enum { TABLES = 6 };
 

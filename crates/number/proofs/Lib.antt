@@ -3,6 +3,7 @@ pub mod BigEndian
 pub mod Carries
 pub mod Cuts
 pub mod DigitPlaces
+pub mod EnoughDigits
 pub mod Halves
 pub mod Limbs
 pub mod Masks

@@ -31,3 +31,12 @@ pub record Holds (s : List ℕ) (r : Digits) : Type 0 where
   pub inside : r .first ≤ mostDigits
   pub size : length (r .bytes) ≡ mostDigits
   pub bytes : drop (r .first) (r .bytes) ≡ s
+
+-- a limb has no more digits in any base
+abbrev pub mostLimbDigits : ℕ
+mostLimbDigits = 32
+
+-- the bytes from an offset on are s
+pub record Lies (s written : List ℕ) (first : ℕ) : Type 0 where
+  pub inside : first ≤ length written
+  pub bytes : drop first written ≡ s

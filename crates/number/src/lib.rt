@@ -20,4 +20,6 @@ pub use bytes::word;
 pub use digits::Extended;
 pub use magnitude::Magnitude;
 pub use numeral::Digits;
+pub use numeral::MOST_LIMB_DIGITS;
+pub use numeral::put_limb_digits;
 pub use whole::Whole;

@@ -5,8 +5,11 @@ ghost use lib.ListN.{length};
 ghost use Rattle.paper.specs.Print.{digitByte, numeralIn};
 ghost use mathlib.Core.Bool.{true, false};
 ghost use Rattle.number.specs.Values.{limb, value};
-ghost use Rattle.number.specs.Numerals.{Divides, Holds, Ends, Begins};
+ghost use Rattle.number.specs.Numerals.{Divides, Holds, Lies, Ends, Begins, mostLimbDigits};
 use crate::magnitude::Magnitude;
+
+// How many digits a limb has at most: as many as bits, in base 2.
+pub const MOST_LIMB_DIGITS: usize = 32;
 
 // A number without its last digits, and those digits.
 struct Divided {
@@ -133,9 +136,18 @@ fn put_first(n: u32, base: u32, end: usize, bytes: &mut [u8]) -> usize
     put_limb(n, base, end, bytes)
 }
 
+// Writes the numeral of a limb at the end of bytes that have room for it in every base, and tells where it begins.
+pub fn put_limb_digits(n: u32, base: u32, bytes: &mut [u8]) -> usize
+    requires { ⌜ (2 ≤ base) × (base ≤ 16) ⌝ }
+    requires { ⌜ length (now bytes) ≡ mostLimbDigits ⌝ }
+    ensures { λ r. ⌜ Lies (numeralIn base n) (now (bytes .exit)) r ⌝ }
+{
+    put_first(n, base, MOST_LIMB_DIGITS, bytes)
+}
+
 impl Magnitude {
     // Whether the number has another limb than the lowest.
-    fn is_long(self) -> bool
+    pub fn is_long(self) -> bool
         ensures { λ r. ⌜ (r ≡ false → value self ≡ limb self 0) × (r ≡ true → 2 ^ 32 ≤ value self) ⌝ }
     {
         if self.limbs[1] != 0 {

@@ -3,7 +3,8 @@ ghost use Prim.Native.Nat.{_+_, _*_, _≤_};
 ghost use mathlib.Core.List.{_++_};
 ghost use lib.ListN.{length, drop};
 ghost use Rattle.paper.specs.Tokens.{bytes};
-ghost use Rattle.paper.specs.Print.{print, basePrefix, literalBytes, truthBytes};
+ghost use Rattle.paper.specs.Print.{print, basePrefix, numeralIn, literalBytes, truthBytes};
+ghost use Rattle.number.specs.Values.{value};
 ghost use Rattle.number.specs.Bases.{baseMeant, literalMeant};
 ghost use Rattle.trees.specs.Nodes.{leafAt, placeAt};
 ghost use Rattle.trees.specs.Standing.{leafOn, spelling};
@@ -34,14 +35,34 @@ fn write_base(base: Base, from: usize, out: &mut [u8]) -> usize
     }
 }
 
+// The numeral of a limb, in few bytes of its own.
+fn write_limb(n: u32, base: u32, from: usize, out: &mut [u8]) -> usize
+    requires { ⌜ (2 ≤ base) × (base ≤ 16) ⌝ }
+    ensures { λ r. ⌜ Wrote (now (out .entry)) from (numeralIn base n) (now (out .exit)) r ⌝ }
+{
+    let mut bytes = [0u8; number::MOST_LIMB_DIGITS];
+    let first = number::put_limb_digits(n, base, &mut bytes);
+    write_rest(&bytes, first, from, out)
+}
+
+// The numeral of a number. Nearly all have one limb, which is passed on by itself: the digits of several need four times the room.
+fn write_digits(number: Magnitude, base: u32, from: usize, out: &mut [u8]) -> usize
+    requires { ⌜ (2 ≤ base) × (base ≤ 16) ⌝ }
+    ensures { λ r. ⌜ Wrote (now (out .entry)) from (numeralIn base (value number)) (now (out .exit)) r ⌝ }
+{
+    if !number.is_long() {
+        return write_limb(number.limbs[0], base, from, out);
+    }
+    let digits = number.digits_in(base);
+    write_rest(&digits.bytes, digits.first, from, out)
+}
+
 fn write_number(literal: Literal, from: usize, out: &mut [u8]) -> usize
     ensures { λ r. ⌜ Wrote (now (out .entry)) from (literalBytes (literalMeant literal)) (now (out .exit)) r ⌝ }
 {
     let base = literal.base;
-    let number = literal.number;
     let announced = write_base(base, from, out);
-    let digits = number.digits_in(base.radix());
-    write_rest(&digits.bytes, digits.first, announced, out)
+    write_digits(literal.number, base.radix(), announced, out)
 }
 
 fn write_truth(truth: bool, from: usize, out: &mut [u8]) -> usize

@@ -1,0 +1,108 @@
+// A type, or a refusal in the text, as one number, so that the walk passes it up in a register.
+//
+// Types have the codes below PLACES. A refusal's code is its number and one, times PLACES, and its place under it. Every number is the code
+// of something, so that nothing is asked of one that is read.
+ghost use mathlib.Core.Path.{_≡_};
+ghost use Prim.Native.Nat.{_<_};
+ghost use Rattle.paper.specs.Answers.{ok, refused, inText, offsetOf};
+ghost use Rattle.values.specs.Typed.{tyMeant};
+ghost use Rattle.typing.specs.Says.{typedSays};
+ghost use Rattle.typing.specs.Coded.{places, tyIn, isType, codeSays, Codable};
+use crate::leaf::Typed;
+use paper::Place;
+use values::types::Type;
+
+// A place is a word of a node, of 32 bits.
+const PLACES: usize = 0x1_0000_0000;
+
+// The numbers of refusals are bytes.
+const REFUSALS: usize = 256;
+
+// The codes of types: 0 is bool, 1 int,
+const BOOL: usize = 0;
+
+const INT: usize = 1;
+
+// and from 2 on stand those of kinds, 256 for each kind, by their widths.
+const FIRST_OF: usize = 2;
+
+const WIDTHS: usize = 256;
+
+const KINDS: usize = 256;
+
+// The code of a type.
+fn type_code(a: Type) -> usize
+    ensures { λ r. ⌜ codeSays r ≡ ok (tyMeant a) ⌝ }
+{
+    match a {
+        Type::Bool => BOOL,
+        Type::Int => INT,
+        Type::Of(kind, width) => FIRST_OF + kind as usize * WIDTHS + width as usize,
+    }
+}
+
+// The code of a refusal at a place of the text.
+fn refusal_code(number: u8, at: usize) -> usize
+    requires { ⌜ at < places ⌝ }
+    ensures { λ r. ⌜ codeSays r ≡ refused number inText at ⌝ }
+{
+    (number as usize + 1) * PLACES + at
+}
+
+// The byte of a place, whichever input it lies in.
+fn offset(place: Place) -> usize
+    ensures { λ r. ⌜ r ≡ offsetOf place ⌝ }
+{
+    match place {
+        Place::Text(at) => at,
+        Place::List(at) => at,
+        Place::Entry(at) => at,
+        Place::Blocks(at) => at,
+        Place::Buffer(at) => at,
+        Place::Contract(at) => at,
+        Place::Table(at) => at,
+    }
+}
+
+// The code of a type, or of a refusal in the text.
+pub(crate) fn coded(t: Typed) -> usize
+    requires { ⌜ Codable (typedSays t) ⌝ }
+    ensures { λ r. ⌜ codeSays r ≡ typedSays t ⌝ }
+{
+    match t {
+        Typed::Is(a) => type_code(a),
+        Typed::Refused(number, place) => refusal_code(number, offset(place)),
+    }
+}
+
+// Whether a code is a type's, and not a refusal's.
+pub(crate) fn is_type(code: usize) -> bool
+    ensures { λ r. ⌜ r ≡ isType code ⌝ }
+{
+    code < PLACES
+}
+
+// The type of a type's code.
+pub(crate) fn type_in(code: usize) -> Type
+    ensures { λ r. ⌜ tyMeant r ≡ tyIn code ⌝ }
+{
+    if code == BOOL {
+        return Type::Bool;
+    }
+    if code == INT {
+        return Type::Int;
+    }
+    let of = code - FIRST_OF;
+    Type::Of((of / WIDTHS % KINDS) as u8, (of % WIDTHS) as u8)
+}
+
+// What a code stands for.
+pub(crate) fn typed_in(code: usize) -> Typed
+    ensures { λ r. ⌜ typedSays r ≡ codeSays code ⌝ }
+{
+    if is_type(code) {
+        return Typed::Is(type_in(code));
+    }
+    let number = (code / PLACES - 1) % REFUSALS;
+    Typed::Refused(number as u8, Place::Text(code % PLACES))
+}

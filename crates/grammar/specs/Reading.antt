@@ -1,10 +1,10 @@
 -- What the parser's functions ask of the tape and of the nodes, and what they say of their answers.
-use Prim.Native.Nat.{ℕ, _+_, _*_, _≤_, _<_}
+use Prim.Native.Nat.{ℕ, _+_, _*_, _-_, _≤_, _<_}
 use mathlib.Core.Path.{_≡_}
 use mathlib.Core.Bool.{Bool, cond, _&&_}
 use mathlib.Core.Logic.{_⊎_}
-use mathlib.Core.List.{List}
-use lib.ListN.{length}
+use mathlib.Core.List.{List, [], _∷_}
+use lib.ListN.{length, getD}
 use lib.Seq.{sets, slice}
 use lib.Dec.{eqb, ltb}
 use Rattle.paper.specs.declared.Place.{Place}
@@ -18,7 +18,6 @@ use Rattle.paper.specs.Grammar.{Out, got, Parser, outcome, parsed}
 use Rattle.tokens.specs.Tape.{Tape, tokensOn, rowWords, kindAt, startAt, endAt, wordNo, signNo}
 use Rattle.tokens.specs.Tokenized.{Cut}
 use Rattle.grammar.specs.Places.{onward, nodeWords, nodeAt}
-use Rattle.grammar.specs.declared.steps.Start.{Start}
 use Rattle.grammar.specs.declared.steps.Taken.{Taken}
 use Rattle.grammar.specs.declared.steps.Taken.the-variants.{Tree, Refused}
 use Rattle.grammar.specs.declared.tape.Next.{Next}
@@ -29,6 +28,28 @@ use Rattle.trees.specs.Words.{words, Spelled}
 pub record Sound (T : Tape) (n : ℕ) : Type 0 where
   pub cut : Cut T n
   pub has : n * rowWords ≤ length (T .rows)
+
+-- where a reading starts: how many tokens there are, how many levels may still be opened, the next token, and the next free node
+pub record Start : Type 0 where
+  pub count : ℕ
+  pub levels : ℕ
+  pub token : ℕ
+  pub node : ℕ
+
+-- as the four numbers that are lent
+abbrev pub startOf : List ℕ → Start
+startOf numbers = record { count = getD numbers 0 0; levels = getD numbers 1 0; token = getD numbers 2 0; node = getD numbers 3 0 }
+
+abbrev pub numbersOf : Start → List ℕ
+numbersOf from = from .count ∷ from .levels ∷ from .token ∷ from .node ∷ []
+
+-- on from another token and node, and after a token that opens a level
+
+abbrev pub movedTo : Start → ℕ → ℕ → Start
+movedTo from token node = record { count = from .count; levels = from .levels; token = token; node = node }
+
+abbrev pub within : Start → Start
+within from = record { count = from .count; levels = from .levels - 1; token = from .token + 1; node = from .node }
 
 -- to read from a start on: as many nodes are used as tokens at most
 pub record Ready (T : Tape) (room : ℕ) (from : Start) : Type 0 where

@@ -11,13 +11,19 @@ ghost use lib.Dec.{eqb};
 ghost use lib.ListN.{length};
 ghost use Rattle.tokens.specs.Tape.{tapeOf, rowWords};
 ghost use Rattle.grammar.specs.Ladder as L;
-ghost use Rattle.grammar.specs.Reading.{Ready, Reads, Continues, Finds};
+ghost use Rattle.grammar.specs.Reading.{startOf, Ready, Reads, Continues, Finds};
 use crate::leaves::close;
 use crate::leaves::leaf;
+use crate::steps::COUNT;
+use crate::steps::LEVELS_LEFT;
+use crate::steps::NODE;
 use crate::steps::Rung;
 use crate::steps::Start;
+use crate::steps::TOKEN;
 use crate::steps::Taken;
 use crate::steps::Tighter;
+use crate::steps::inside;
+use crate::steps::moved;
 use crate::store::put_joined;
 use crate::store::put_prefixed;
 use crate::tape::Next;
@@ -129,12 +135,12 @@ fn looser(rung: Rung, goal: Rung) -> Rung
 }
 
 // An operand of a rung. What opens no level is a leaf, and read as one at once.
-fn operand(text: &[u8], tape: &[u32], rung: Rung, from: Start, nodes: &mut [u32]) -> Taken
-    requires { ⌜ Ready (tapeOf (now text) (now tape)) (length (now nodes)) from ⌝ }
-    ensures { λ r. ⌜ Reads (L.operandOf rung) (tapeOf (now (text .entry)) (now (tape .entry))) from (now (nodes .entry)) (now (nodes .exit)) r ⌝ }
+fn operand(text: &[u8], tape: &[u32], rung: Rung, from: &Start, nodes: &mut [u32]) -> Taken
+    requires { ⌜ Ready (tapeOf (now text) (now tape)) (length (now nodes)) (startOf (now from)) ⌝ }
+    ensures { λ r. ⌜ Reads (L.operandOf rung) (tapeOf (now (text .entry)) (now (tape .entry))) (startOf (now (from .entry))) (now (nodes .entry)) (now (nodes .exit)) r ⌝ }
 {
     let Tighter::Rung(next) = tighter(rung) else {
-        let Next::Is(_) = next_in(tape, from.count, from.token, NOT, OPENING) else {
+        let Next::Is(_) = next_in(tape, from[COUNT], from[TOKEN], NOT, OPENING) else {
             return leaf(text, tape, from, nodes);
         };
         return prefix(text, tape, from, nodes);
@@ -144,9 +150,9 @@ fn operand(text: &[u8], tape: &[u32], rung: Rung, from: Start, nodes: &mut [u32]
 
 // Operands with operators of a rung between them, joined from the left: what the tightest rung reads first is climbed
 // from, rung after rung.
-pub(crate) fn chain(text: &[u8], tape: &[u32], rung: Rung, from: Start, nodes: &mut [u32]) -> Taken
-    requires { ⌜ Ready (tapeOf (now text) (now tape)) (length (now nodes)) from ⌝ }
-    ensures { λ r. ⌜ Reads (L.rungOf rung) (tapeOf (now (text .entry)) (now (tape .entry))) from (now (nodes .entry)) (now (nodes .exit)) r ⌝ }
+pub(crate) fn chain(text: &[u8], tape: &[u32], rung: Rung, from: &Start, nodes: &mut [u32]) -> Taken
+    requires { ⌜ Ready (tapeOf (now text) (now tape)) (length (now nodes)) (startOf (now from)) ⌝ }
+    ensures { λ r. ⌜ Reads (L.rungOf rung) (tapeOf (now (text .entry)) (now (tape .entry))) (startOf (now (from .entry))) (now (nodes .entry)) (now (nodes .exit)) r ⌝ }
 {
     let first = operand(text, tape, Rung::Comparison, from, nodes);
     let Taken::Tree(f, i) = first else {
@@ -156,8 +162,8 @@ pub(crate) fn chain(text: &[u8], tape: &[u32], rung: Rung, from: Start, nodes: &
     let mut past = f;
     let mut next = i;
     loop {
-        let onward = from.moved(next, past);
-        let more = further(text, tape, level, onward, nodes);
+        let onward = moved(from, next, past);
+        let more = further(text, tape, level, &onward, nodes);
         let Taken::Tree(end, rest) = more else {
             return more;
         };
@@ -171,22 +177,22 @@ pub(crate) fn chain(text: &[u8], tape: &[u32], rung: Rung, from: Start, nodes: &
 }
 
 // What a rung makes of its first operand, the tree before the start: it goes on while its operator is the next token.
-fn further(text: &[u8], tape: &[u32], rung: Rung, from: Start, nodes: &mut [u32]) -> Taken
-    requires { ⌜ 0 < from .node ⌝ }
-    requires { ⌜ Ready (tapeOf (now text) (now tape)) (length (now nodes)) from ⌝ }
-    ensures { λ r. ⌜ Continues (L.operandOf rung) (L.rungOf rung) (tapeOf (now (text .entry)) (now (tape .entry))) from (now (nodes .entry)) (now (nodes .exit)) r ⌝ }
+fn further(text: &[u8], tape: &[u32], rung: Rung, from: &Start, nodes: &mut [u32]) -> Taken
+    requires { ⌜ 0 < startOf (now from) .node ⌝ }
+    requires { ⌜ Ready (tapeOf (now text) (now tape)) (length (now nodes)) (startOf (now from)) ⌝ }
+    ensures { λ r. ⌜ Continues (L.operandOf rung) (L.rungOf rung) (tapeOf (now (text .entry)) (now (tape .entry))) (startOf (now (from .entry))) (now (nodes .entry)) (now (nodes .exit)) r ⌝ }
 {
-    let mut past = from.node;
-    let mut next = from.token;
+    let mut past = from[NODE];
+    let mut next = from[TOKEN];
     loop {
-        let Next::Is(sign) = operator_at(tape, rung, from.count, next) else {
+        let Next::Is(sign) = operator_at(tape, rung, from[COUNT], next) else {
             return Taken::Tree(past, next);
         };
-        if ends_after(rung, next + 1, from.count) {
+        if ends_after(rung, next + 1, from[COUNT]) {
             return Taken::Tree(past, next + 1);
         }
-        let onward = from.moved(next + 1, past);
-        let more = operand(text, tape, rung, onward, nodes);
+        let onward = moved(from, next + 1, past);
+        let more = operand(text, tape, rung, &onward, nodes);
         let Taken::Tree(end, rest) = more else {
             return more;
         };
@@ -200,19 +206,19 @@ fn further(text: &[u8], tape: &[u32], rung: Rung, from: Start, nodes: &mut [u32]
 }
 
 // An operand after any number of "!" and "-". With no level left, only a leaf.
-fn prefix(text: &[u8], tape: &[u32], from: Start, nodes: &mut [u32]) -> Taken
-    requires { ⌜ Ready (tapeOf (now text) (now tape)) (length (now nodes)) from ⌝ }
-    ensures { λ r. ⌜ Reads L.prefix (tapeOf (now (text .entry)) (now (tape .entry))) from (now (nodes .entry)) (now (nodes .exit)) r ⌝ }
+fn prefix(text: &[u8], tape: &[u32], from: &Start, nodes: &mut [u32]) -> Taken
+    requires { ⌜ Ready (tapeOf (now text) (now tape)) (length (now nodes)) (startOf (now from)) ⌝ }
+    ensures { λ r. ⌜ Reads L.prefix (tapeOf (now (text .entry)) (now (tape .entry))) (startOf (now (from .entry))) (now (nodes .entry)) (now (nodes .exit)) r ⌝ }
 {
-    if from.levels == 0 {
+    if from[LEVELS_LEFT] == 0 {
         return leaf(text, tape, from, nodes);
     }
-    let at = from.token;
-    let Next::Is(sign) = next_in(tape, from.count, at, NOT, MINUS) else {
+    let at = from[TOKEN];
+    let Next::Is(sign) = next_in(tape, from[COUNT], at, NOT, MINUS) else {
         return atom(text, tape, from, nodes);
     };
-    let inside = from.inside();
-    let operand = prefix(text, tape, inside, nodes);
+    let onward = inside(from);
+    let operand = prefix(text, tape, &onward, nodes);
     let Taken::Tree(past, next) = operand else {
         return operand;
     };
@@ -221,18 +227,18 @@ fn prefix(text: &[u8], tape: &[u32], from: Start, nodes: &mut [u32]) -> Taken
 }
 
 // A leaf, or a parenthesis.
-fn atom(text: &[u8], tape: &[u32], from: Start, nodes: &mut [u32]) -> Taken
-    requires { ⌜ 0 < from .levels ⌝ }
-    requires { ⌜ Ready (tapeOf (now text) (now tape)) (length (now nodes)) from ⌝ }
-    ensures { λ r. ⌜ Reads L.atom (tapeOf (now (text .entry)) (now (tape .entry))) from (now (nodes .entry)) (now (nodes .exit)) r ⌝ }
+fn atom(text: &[u8], tape: &[u32], from: &Start, nodes: &mut [u32]) -> Taken
+    requires { ⌜ 0 < startOf (now from) .levels ⌝ }
+    requires { ⌜ Ready (tapeOf (now text) (now tape)) (length (now nodes)) (startOf (now from)) ⌝ }
+    ensures { λ r. ⌜ Reads L.atom (tapeOf (now (text .entry)) (now (tape .entry))) (startOf (now (from .entry))) (now (nodes .entry)) (now (nodes .exit)) r ⌝ }
 {
-    let Next::Is(_) = next_in(tape, from.count, from.token, OPENING, OPENING) else {
+    let Next::Is(_) = next_in(tape, from[COUNT], from[TOKEN], OPENING, OPENING) else {
         return leaf(text, tape, from, nodes);
     };
-    let inside = from.inside();
-    let inner = chain(text, tape, Rung::Sequence, inside, nodes);
+    let onward = inside(from);
+    let inner = chain(text, tape, Rung::Sequence, &onward, nodes);
     let Taken::Tree(past, next) = inner else {
         return inner;
     };
-    close(text, tape, from.count, past, next)
+    close(text, tape, from[COUNT], past, next)
 }

@@ -11,8 +11,11 @@ ghost use Rattle.tokens.specs.Tape.{tapeOf, Has, startAt, endAt, literalAt};
 ghost use Rattle.trees.specs.Words.{leafWords, words};
 ghost use Rattle.grammar.specs.Ladder as L;
 ghost use Rattle.grammar.specs.Places.{Fits, nodeAt, placeOn, wordOn, past, onward};
-ghost use Rattle.grammar.specs.Reading.{Sound, Ready, Leads, Worded, Reads, Begins, Closes, isName};
+ghost use Rattle.grammar.specs.Reading.{startOf, Sound, Ready, Leads, Worded, Reads, Begins, Closes, isName};
+use crate::steps::COUNT;
+use crate::steps::NODE;
 use crate::steps::Start;
+use crate::steps::TOKEN;
 use crate::steps::Taken;
 use crate::store::put_attribute;
 use crate::store::put_field;
@@ -43,13 +46,13 @@ use tokens::rows::literal_at;
 use tokens::rows::start_at;
 
 // A leaf. What would open a level is refused.
-pub(crate) fn leaf(text: &[u8], tape: &[u32], from: Start, nodes: &mut [u32]) -> Taken
-    requires { ⌜ Ready (tapeOf (now text) (now tape)) (length (now nodes)) from ⌝ }
-    ensures { λ r. ⌜ Reads (λ _. L.prefix 0) (tapeOf (now (text .entry)) (now (tape .entry))) from (now (nodes .entry)) (now (nodes .exit)) r ⌝ }
+pub(crate) fn leaf(text: &[u8], tape: &[u32], from: &Start, nodes: &mut [u32]) -> Taken
+    requires { ⌜ Ready (tapeOf (now text) (now tape)) (length (now nodes)) (startOf (now from)) ⌝ }
+    ensures { λ r. ⌜ Reads (λ _. L.prefix 0) (tapeOf (now (text .entry)) (now (tape .entry))) (startOf (now (from .entry))) (now (nodes .entry)) (now (nodes .exit)) r ⌝ }
 {
-    let at = from.token;
-    let free = from.node;
-    let count = from.count;
+    let at = from[TOKEN];
+    let free = from[NODE];
+    let count = from[COUNT];
     if count <= at {
         return Taken::Refused(GRAMMAR, place_at(text, tape, count, at));
     }
@@ -131,14 +134,14 @@ fn is_name(text: &[u8], tape: &[u32], count: usize, at: usize) -> bool
 }
 
 // "::" and a name.
-fn attribute(text: &[u8], tape: &[u32], from: Start, nodes: &mut [u32]) -> Taken
-    requires { ⌜ Leads (tapeOf (now text) (now tape)) (length (now nodes)) from ⌝ }
+fn attribute(text: &[u8], tape: &[u32], from: &Start, nodes: &mut [u32]) -> Taken
+    requires { ⌜ Leads (tapeOf (now text) (now tape)) (length (now nodes)) (startOf (now from)) ⌝ }
     ensures { λ r. ⌜ Begins (λ T n at. G.named (G.attribute (placeOn T at)) (past T n at))
-        (tapeOf (now (text .entry)) (now (tape .entry))) from (now (nodes .entry)) (now (nodes .exit)) r ⌝ }
+        (tapeOf (now (text .entry)) (now (tape .entry))) (startOf (now (from .entry))) (now (nodes .entry)) (now (nodes .exit)) r ⌝ }
 {
-    let at = from.token;
-    let free = from.node;
-    let count = from.count;
+    let at = from[TOKEN];
+    let free = from[NODE];
+    let count = from[COUNT];
     if !is_name(text, tape, count, at + 1) {
         return Taken::Refused(GRAMMAR, place_at(text, tape, count, at + 1));
     }
@@ -147,13 +150,13 @@ fn attribute(text: &[u8], tape: &[u32], from: Start, nodes: &mut [u32]) -> Taken
 }
 
 // A word: a truth, or what a key begins.
-fn word(text: &[u8], tape: &[u32], from: Start, nodes: &mut [u32]) -> Taken
-    requires { ⌜ Worded (tapeOf (now text) (now tape)) (length (now nodes)) from ⌝ }
+fn word(text: &[u8], tape: &[u32], from: &Start, nodes: &mut [u32]) -> Taken
+    requires { ⌜ Worded (tapeOf (now text) (now tape)) (length (now nodes)) (startOf (now from)) ⌝ }
     ensures { λ r. ⌜ Begins (λ T n at. G.worded address (placeOn T at) (wordOn T at) (past T n at))
-        (tapeOf (now (text .entry)) (now (tape .entry))) from (now (nodes .entry)) (now (nodes .exit)) r ⌝ }
+        (tapeOf (now (text .entry)) (now (tape .entry))) (startOf (now (from .entry))) (now (nodes .entry)) (now (nodes .exit)) r ⌝ }
 {
-    let at = from.token;
-    let free = from.node;
+    let at = from[TOKEN];
+    let free = from[NODE];
     let bytes = word_at(text, tape, at);
     if same_bytes(bytes, b"true") {
         return truth_node(tape, at, free, true, nodes);
@@ -165,14 +168,14 @@ fn word(text: &[u8], tape: &[u32], from: Start, nodes: &mut [u32]) -> Taken
 }
 
 // A key, or one with "::" and its field, or an address.
-fn keyed(text: &[u8], tape: &[u32], from: Start, nodes: &mut [u32]) -> Taken
-    requires { ⌜ Worded (tapeOf (now text) (now tape)) (length (now nodes)) from ⌝ }
+fn keyed(text: &[u8], tape: &[u32], from: &Start, nodes: &mut [u32]) -> Taken
+    requires { ⌜ Worded (tapeOf (now text) (now tape)) (length (now nodes)) (startOf (now from)) ⌝ }
     ensures { λ r. ⌜ Begins (λ T n at. G.keyed address (placeOn T at) (wordOn T at) (past T n at))
-        (tapeOf (now (text .entry)) (now (tape .entry))) from (now (nodes .entry)) (now (nodes .exit)) r ⌝ }
+        (tapeOf (now (text .entry)) (now (tape .entry))) (startOf (now (from .entry))) (now (nodes .entry)) (now (nodes .exit)) r ⌝ }
 {
-    let at = from.token;
-    let free = from.node;
-    let count = from.count;
+    let at = from[TOKEN];
+    let free = from[NODE];
+    let count = from[COUNT];
     if let Next::Is(_) = next_in(tape, count, at + 1, COLONS, COLONS) {
         return field(text, tape, from, nodes);
     }
@@ -186,14 +189,14 @@ fn keyed(text: &[u8], tape: &[u32], from: Start, nodes: &mut [u32]) -> Taken
 }
 
 // The name after a key and its "::".
-fn field(text: &[u8], tape: &[u32], from: Start, nodes: &mut [u32]) -> Taken
-    requires { ⌜ Worded (tapeOf (now text) (now tape)) (length (now nodes)) from ⌝ }
+fn field(text: &[u8], tape: &[u32], from: &Start, nodes: &mut [u32]) -> Taken
+    requires { ⌜ Worded (tapeOf (now text) (now tape)) (length (now nodes)) (startOf (now from)) ⌝ }
     ensures { λ r. ⌜ Begins (λ T n at. G.named (G.field (placeOn T at) (wordOn T at)) (onward T n (at + 2)))
-        (tapeOf (now (text .entry)) (now (tape .entry))) from (now (nodes .entry)) (now (nodes .exit)) r ⌝ }
+        (tapeOf (now (text .entry)) (now (tape .entry))) (startOf (now (from .entry))) (now (nodes .entry)) (now (nodes .exit)) r ⌝ }
 {
-    let at = from.token;
-    let free = from.node;
-    let count = from.count;
+    let at = from[TOKEN];
+    let free = from[NODE];
+    let count = from[COUNT];
     if !is_name(text, tape, count, at + 2) {
         return Taken::Refused(GRAMMAR, place_at(text, tape, count, at + 2));
     }
@@ -202,14 +205,14 @@ fn field(text: &[u8], tape: &[u32], from: Start, nodes: &mut [u32]) -> Taken
 }
 
 // The string and the ")" after the word of an address and its "(".
-fn addressed(text: &[u8], tape: &[u32], scheme: Scheme, from: Start, nodes: &mut [u32]) -> Taken
-    requires { ⌜ Leads (tapeOf (now text) (now tape)) (length (now nodes)) from ⌝ }
+fn addressed(text: &[u8], tape: &[u32], scheme: Scheme, from: &Start, nodes: &mut [u32]) -> Taken
+    requires { ⌜ Leads (tapeOf (now text) (now tape)) (length (now nodes)) (startOf (now from)) ⌝ }
     ensures { λ r. ⌜ Begins (λ T n at. G.addressed address (addressed.scheme scheme) (placeOn T at) (onward T n (at + 2)))
-        (tapeOf (now (text .entry)) (now (tape .entry))) from (now (nodes .entry)) (now (nodes .exit)) r ⌝ }
+        (tapeOf (now (text .entry)) (now (tape .entry))) (startOf (now (from .entry))) (now (nodes .entry)) (now (nodes .exit)) r ⌝ }
 {
-    let at = from.token;
-    let free = from.node;
-    let count = from.count;
+    let at = from[TOKEN];
+    let free = from[NODE];
+    let count = from[COUNT];
     let quote = at + 2;
     let Next::Is(_) = next_in(tape, count, quote, STRING, STRING) else {
         return Taken::Refused(GRAMMAR, place_at(text, tape, count, quote));

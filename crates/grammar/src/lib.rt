@@ -16,7 +16,6 @@ ghost use Rattle.tokens.specs.Tape.{tapeOf};
 ghost use Rattle.grammar.specs.Places.{nodeWords};
 ghost use Rattle.grammar.specs.Reading.{Sound, Parses};
 use crate::steps::Rung;
-use crate::steps::Start;
 use crate::steps::Taken;
 use paper::Counted;
 use paper::refused;
@@ -30,13 +29,9 @@ pub fn parse(text: &[u8], tape: &[u32], count: usize, nodes: &mut [u32]) -> Coun
     requires { ⌜ count * nodeWords ≤ length (now nodes) ⌝ }
     ensures { λ r. ⌜ Parses (tapeOf (now (text .entry)) (now (tape .entry))) count (now (nodes .entry)) (now (nodes .exit)) r ⌝ }
 {
-    let from = Start {
-        count: count,
-        levels: LEVELS,
-        token: 0,
-        node: 0,
-    };
-    let all = ladder::chain(text, tape, Rung::Whole, from, nodes);
+    // at the first token and the first node
+    let from = [count, LEVELS, 0, 0];
+    let all = ladder::chain(text, tape, Rung::Whole, &from, nodes);
     match all {
         Taken::Refused(number, place) => Counted::Refused(number, place),
         Taken::Tree(free, at) => {

@@ -20,7 +20,7 @@ use Rattle.addresses.specs.Reads.{scheme}
 use Rattle.tokens.specs.Tape.{Tape, tapeOf, startAt, endAt, stringNo}
 use Rattle.trees.specs.Words.{words}
 use Rattle.grammar.specs.Places.{placeOn, nodeAt}
-use Rattle.grammar.specs.Reading.{Seen, Ready}
+use Rattle.grammar.specs.Reading.{Start, startOf, Seen, Ready}
 use Rattle.grammar.proofs.Outcomes.{found, absent, stuck-as, bad-as, same-out, has-row, in-text}
 use Rattle.grammar.proofs.Atoms.{took-leaf, addressed-here, addressed-not}
 use Rattle.grammar.proofs.Operands.{close-on}
@@ -29,19 +29,22 @@ use Rattle.grammar.proofs.leaves.addressed.Tie as tie
 
 -- where the string has been looked for; and from there what the function was given
 abbrev start : tie.After-next-in → tie.Start
-start c = c .before .before .before .before
+start c = c .before .before .before .before .before .before .before
+
+abbrev from : tie.After-next-in → Start
+from c = startOf (start c .args .from .now)
 
 abbrev T : tie.After-next-in → Tape
 T c = tapeOf (start c .args .text .now) (start c .args .tape .now)
 
 abbrev n : tie.After-next-in → ℕ
-n c = start c .args .from .count
+n c = from c .count
 
 abbrev at : tie.After-next-in → ℕ
-at c = start c .args .from .token
+at c = from c .token
 
 abbrev free : tie.After-next-in → ℕ
-free c = start c .args .from .node
+free c = from c .node
 
 abbrev quote : tie.After-next-in → ℕ
 quote c = at c + 2
@@ -49,7 +52,7 @@ quote c = at c + 2
 abbrev kind : tie.After-next-in → Scheme
 kind c = scheme (start c .args .scheme)
 
-ready : (c : tie.After-next-in) → Ready (T c) (length (start c .args .nodes .now)) (start c .args .from)
+ready : (c : tie.After-next-in) → Ready (T c) (length (start c .args .nodes .now)) (from c)
 ready c = start c .pre .ready
 
 no-string : tie.Need-returns
@@ -148,6 +151,9 @@ addressed-spec =
     tie.close
     (tie.spec
     (λ c. search needs)
+    (λ c. search needs)
+    (λ c. search needs)
+    (λ c. search needs)
     (λ c κs. search needs)
     (λ c. search needs)
     (λ c. search needs)
@@ -161,6 +167,6 @@ addressed-spec =
     (λ c κs. search needs)
     free-fits
     quote-fits
-    (λ c κs. search needs)
+    (λ c κs. ready (stored-looked c) .sound)
     (λ c. search needs)
     good)

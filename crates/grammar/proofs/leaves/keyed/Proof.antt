@@ -14,7 +14,7 @@ use Rattle.addresses.specs.Reads as reads
 use Rattle.tokens.specs.Tape.{Tape, tapeOf, signNo}
 use Rattle.tokens.specs.Tokenized.{SpansOn}
 use Rattle.grammar.specs.Places.{wordOn}
-use Rattle.grammar.specs.Reading.{Seen, Finds, Leads}
+use Rattle.grammar.specs.Reading.{Start, startOf, Seen, Finds, Leads}
 use Rattle.grammar.specs.declared.tape.Next.the-variants.{Other}
 use Rattle.grammar.proofs.Outcomes.{found, absent, took-as, same-out, has-row, in-text}
 use Rattle.grammar.proofs.Atoms.{took-key, past-two, word-is, keyed-colons, keyed-plain, keyed-address, keyed-not}
@@ -23,21 +23,24 @@ use Rattle.grammar.proofs.leaves.keyed.Tie as tie
 
 -- where "::" has been looked for; and from there what the function was given
 abbrev start : tie.After-next-in → tie.Start
-start c = c .before .before .before .before
+start c = c .before .before .before .before .before .before .before
+
+abbrev from : tie.After-next-in → Start
+from c = startOf (start c .args .from .now)
 
 abbrev T : tie.After-next-in → Tape
 T c = tapeOf (start c .args .text .now) (start c .args .tape .now)
 
 abbrev n : tie.After-next-in → ℕ
-n c = start c .args .from .count
+n c = from c .count
 
 abbrev at : tie.After-next-in → ℕ
-at c = start c .args .from .token
+at c = from c .token
 
 abbrev free : tie.After-next-in → ℕ
-free c = start c .args .from .node
+free c = from c .node
 
-leads : (c : tie.After-next-in) → Leads (T c) (length (start c .args .nodes .now)) (start c .args .from)
+leads : (c : tie.After-next-in) → Leads (T c) (length (start c .args .nodes .now)) (from c)
 leads c = start c .pre .leads
 
 own : (c : tie.After-next-in) → SpansOn (T c) (at c)
@@ -130,6 +133,9 @@ pub keyed-spec : {M : Type 1} → statement M
 keyed-spec =
     tie.close
     (tie.spec
+    (λ c. search needs)
+    (λ c. search needs)
+    (λ c. search needs)
     (λ c. search needs)
     (λ c κs. search needs)
     (λ c. search needs)

@@ -7,6 +7,7 @@ use borrow.Author.Needs.{needs}
 use Rattle.paper.specs.Grammar as G
 use Rattle.tokens.specs.Tape.{Tape, tapeOf, kindAt, literalAt}
 use Rattle.grammar.specs.Places.{placeOn}
+use Rattle.grammar.specs.Reading.{Start, startOf}
 use Rattle.grammar.proofs.Outcomes.{stuck-as, deep-as, took-as, same-out, has-row, in-text}
 use Rattle.grammar.proofs.Atoms.{took-leaf, leaf-word, leaf-numeral, leaf-deep, leaf-colons, leaf-none, leaf-end}
 use Rattle.grammar.proofs.leaves.leaf.Statement.{statement}
@@ -15,8 +16,8 @@ use Rattle.grammar.proofs.leaves.leaf.Tie as tie
 no-token : tie.Need-returns
 no-token c =
     let then = c .before in
-    let given : tie.Start = then .before .before .before .before in
-    let from = given .args .from in
+    let given : tie.Start = then .before .before .before .before .before .before .before in
+    let from = startOf (given .args .from .now) in
     stuck-as _ (from .count) (from .token) _ (c .place-at .result) (c .place-at .ensures) (leaf-end _ (from .count) (from .token) (then .if1 .taken))
 
 -- where the kind is read; and from there what the function was given
@@ -24,19 +25,22 @@ abbrev Read : Type 0
 Read = tie.After-kind-at
 
 abbrev start : Read → tie.Start
-start c = c .before .before .before .before .before
+start c = c .before .before .before .before .before .before .before .before
+
+abbrev from : Read → Start
+from c = startOf (start c .args .from .now)
 
 abbrev T : Read → Tape
 T c = tapeOf (start c .args .text .now) (start c .args .tape .now)
 
 abbrev n : Read → ℕ
-n c = start c .args .from .count
+n c = from c .count
 
 abbrev at : Read → ℕ
-at c = start c .args .from .token
+at c = from c .token
 
 abbrev free : Read → ℕ
-free c = start c .args .from .node
+free c = from c .node
 
 here : (c : Read) → at c < n c
 here c = omega (arith, c .before .if1 .left)
@@ -110,6 +114,9 @@ pub leaf-spec : {M : Type 1} → statement M
 leaf-spec =
     tie.close
     (tie.spec
+    (λ c. search needs)
+    (λ c. search needs)
+    (λ c. search needs)
     (λ c κs. search needs)
     no-token
     (λ c κs. search needs)

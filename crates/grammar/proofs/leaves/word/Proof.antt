@@ -9,6 +9,7 @@ use Rattle.paper.specs.Tokens.{bytes, sameBytes}
 use Rattle.paper.specs.Grammar as G
 use Rattle.tokens.specs.Tape.{Tape, tapeOf}
 use Rattle.grammar.specs.Places.{placeOn, wordOn}
+use Rattle.grammar.specs.Reading.{Start, startOf}
 use Rattle.grammar.proofs.Outcomes.{took-as, same-out, has-row, in-text}
 use Rattle.grammar.proofs.Atoms.{took-leaf, word-is}
 use Rattle.grammar.proofs.leaves.word.Statement.{statement}
@@ -16,19 +17,22 @@ use Rattle.grammar.proofs.leaves.word.Tie as tie
 
 -- where the word's bytes are lent; and from there what the function was given
 abbrev start : tie.After-word-at → tie.Start
-start c = c .before .before .before .before
+start c = c .before .before .before .before .before .before
+
+abbrev from : tie.After-word-at → Start
+from c = startOf (start c .args .from .now)
 
 abbrev T : tie.After-word-at → Tape
 T c = tapeOf (start c .args .text .now) (start c .args .tape .now)
 
 abbrev n : tie.After-word-at → ℕ
-n c = start c .args .from .count
+n c = from c .count
 
 abbrev at : tie.After-word-at → ℕ
-at c = start c .args .from .token
+at c = from c .token
 
 abbrev free : tie.After-word-at → ℕ
-free c = start c .args .from .node
+free c = from c .node
 
 abbrev word : tie.After-word-at → List ℕ
 word c = wordOn (T c) (at c)
@@ -38,10 +42,10 @@ word-lent c = word-is (T c) (n c) (at c) (start c .pre .word) ∙ sym (c .word-a
 
 word-stands : tie.Need-word-at-requires
 word-stands c κs =
-    let given : tie.Start = c .before .before .before in
+    let given : tie.Start = c .before .before .before .before .before in
     let p = given .pre .leads in
-    let s = in-text (p .ready .sound) (given .args .from .token) (p .some) in
-    (has-row (p .ready .sound) (given .args .from .token) (p .some), omega (arith, s .taken, s .inside))
+    let s = in-text (p .ready .sound) (startOf (given .args .from .now) .token) (p .some) in
+    (has-row (p .ready .sound) (startOf (given .args .from .now) .token) (p .some), omega (arith, s .taken, s .inside))
 
 -- whether it is "true", and whether it is "false"
 
@@ -87,6 +91,8 @@ pub word-spec : {M : Type 1} → statement M
 word-spec =
     tie.close
     (tie.spec
+    (λ c. search needs)
+    (λ c. search needs)
     word-stands
     (λ c. search needs)
     (λ c κs. search needs)

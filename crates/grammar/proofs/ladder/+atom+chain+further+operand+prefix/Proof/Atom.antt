@@ -17,10 +17,10 @@ module _ (t : ℕ) where
   Looked = lts.After-next-in (atom-calls t) (atom-at t) atom.Post
 
   abbrev start : Looked → lts.Start (atom-calls t) (atom-at t) atom.Post
-  start c = c .before .before .before .before
+  start c = c .before .before .before .before .before .before
 
   look-fits : lts.Need-next-in-requires (atom-calls t) (atom-at t) atom.Post
-  look-fits c κs = let given = c .before .before .before in given .pre .1 .1 .sound .has
+  look-fits c κs = let given = c .before .before .before .before .before in given .pre .1 .1 .sound .has
 
   leaf-ready : lts.Need-leaf-requires (atom-calls t) (atom-at t) atom.Post
   leaf-ready c κs = start (c .before .before .before) .pre .1 .1
@@ -49,19 +49,23 @@ module _ (t : ℕ) where
 
   inside-falls : lts.Need-chain-requires (atom-calls t) (atom-at t) atom.Post
   inside-falls c κs =
-      let opened : Opened = c .before .before in
+      let inside = c .before .before in
+      let opened : Opened = inside .before in
       let looked = opened-looked opened in
       let given = start looked .pre in
       let f = found (looked .next-in .ensures) (opened .enum-told .given .1) in
-      rw (c .before .inside .ensures)
+      rw (inside .inside .ensures)
       (omega (arith, f .here, given .0, given .1 .1 .here), ready-on (given .1 .1) _ _ _ _ refl (omega (arith, given .1 .1 .used)) (omega (arith, f .here)))
 
   -- where the sequence has been read
   abbrev Read : Type 0
   Read = lts.After-chain (atom-calls t) (atom-at t) atom.Post
 
+  abbrev read-inside : Read → lts.After-inside (atom-calls t) (atom-at t) atom.Post
+  read-inside c = c .before .before .before
+
   abbrev read-opened : Read → Opened
-  read-opened c = let inside = c .before .before in inside .before
+  read-opened c = read-inside c .before
 
   abbrev read-looked : Read → Looked
   read-looked c = opened-looked (read-opened c)
@@ -71,7 +75,7 @@ module _ (t : ℕ) where
       let read : Read = c .before .before .before .before in
       let f = found (read-looked read .next-in .ensures) (read-opened read .enum-told .given .1) in
       pass-up _ _ _ _ _ _ _ _ _ _ _ _ (paren-up _ _ _ _ _ _ f) (read .chain .result) (c .enum-told3 .given .1)
-      (started (L.sequence false) _ _ _ (read .chain .result) (read .before .before .inside .ensures) (read .chain .ensures))
+      (started (L.sequence false) _ _ _ (read .chain .result) (read-inside read .inside .ensures) (read .chain .ensures))
 
   -- where it is a tree
   abbrev Tree : Type 0
@@ -81,17 +85,17 @@ module _ (t : ℕ) where
   tree-read c = c .before .before .before .before .before
 
   close-fits : lts.Need-close-requires (atom-calls t) (atom-at t) atom.Post
-  close-fits c κs = start (read-looked (tree-read c)) .pre .1 .1 .sound
+  close-fits c κs = start (read-looked (tree-read (c .before))) .pre .1 .1 .sound
 
   closed-kept : lts.Need-same-length-3 (atom-calls t) (atom-at t) atom.Post
-  closed-kept c = omega (arith, tree-read (c .before) .chain .kept)
+  closed-kept c = omega (arith, tree-read (c .before .before) .chain .kept)
 
   closed : lts.Need-returns-3 (atom-calls t) (atom-at t) atom.Post
   closed c =
-      let tree : Tree = c .before in
+      let tree : Tree = c .before .before in
       let read = tree-read tree in
       let f = found (read-looked read .next-in .ensures) (read-opened read .enum-told .given .1) in
-      let h = took-on (L.sequence false) (read .before .before .inside .ensures) (read .chain .ensures) (tree .before .inner .given .1) in
+      let h = took-on (L.sequence false) (read-inside read .inside .ensures) (read .chain .ensures) (tree .before .inner .given .1) in
       paren-close _ _ _ _ _ _ f h (c .close .result) (c .close .ensures)
 
 pub atom-closed : {M : Type 1} (t : ℕ) → lts.Closed (atom-calls t) (atom-at t) atom.Post M
@@ -99,6 +103,8 @@ atom-closed t =
     lts.spec (atom-calls t)
     (atom-at t)
     atom.Post
+    (λ c. search needs)
+    (λ c. search needs)
     (look-fits t)
     (λ c. search needs)
     (λ c. search needs)
@@ -111,6 +117,7 @@ atom-closed t =
     (λ c. search needs)
     (λ c. omega (arith, c .before .before .before .before .chain .kept))
     (inside-refused t)
+    (λ c. search needs)
     (close-fits t)
     (closed-kept t)
     (closed t)

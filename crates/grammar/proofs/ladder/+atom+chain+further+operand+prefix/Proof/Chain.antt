@@ -53,19 +53,23 @@ module _ (t : ℕ) where
 
   level-falls : lts.Need-further-requires (chain-calls t) (chain-at t) chain.Post chain-Inv-loop chain-μ-loop
   level-falls c κs =
-      let turn : Turn = c .before .before in
+      let moved = c .before .before in
+      let turn : Turn = moved .before in
       let first = turn-first turn in
       let given = start first .pre in
       let h = turn .loop .inv .reads _ (took (first .operand .ensures) (turn .before .before .first .given .1)) in
-      rw (c .before .moved .ensures)
+      rw (moved .moved .ensures)
       (omega (arith, h .built, given .0, given .1 .here), (omega (arith, h .built), ready-on (given .1) _ _ _ _ (omega (arith, first .operand .kept, turn .loop .inv .kept)) (omega (arith, h .built, given .1 .used)) (h .built .inside)))
 
   -- where the level has read on
   abbrev Onward : Type 0
   Onward = lts.After-further (chain-calls t) (chain-at t) chain.Post chain-Inv-loop chain-μ-loop
 
+  abbrev onward-moved : Onward → lts.After-moved (chain-calls t) (chain-at t) chain.Post chain-Inv-loop chain-μ-loop
+  onward-moved c = c .before .before .before
+
   abbrev onward-turn : Onward → Turn
-  onward-turn c = let moved = c .before .before in moved .before
+  onward-turn c = onward-moved c .before
 
   level-refused : lts.Need-returns-2 (chain-calls t) (chain-at t) chain.Post chain-Inv-loop chain-μ-loop
   level-refused c =
@@ -74,7 +78,7 @@ module _ (t : ℕ) where
       let level = turn .loop .level in
       let h = turn .loop .inv .reads _ (took (turn-first turn .operand .ensures) (turn .before .before .first .given .1)) in
       pass-up _ _ _ _ _ _ _ _ _ _ _ _ (climbs-up _ _ _ (turn .loop .inv .within)) (onward .further .result) (c .enum-told2 .given .1)
-      (continued (L.operandOf level) (L.rungOf level) _ _ _ (onward .further .result) (onward .before .before .moved .ensures) (onward .further .ensures) _ _ _ h)
+      (continued (L.operandOf level) (L.rungOf level) _ _ _ (onward .further .result) (onward-moved onward .moved .ensures) (onward .further .ensures) _ _ _ h)
 
   refused-kept : lts.Need-same-length-2 (chain-calls t) (chain-at t) chain.Post chain-Inv-loop chain-μ-loop
   refused-kept c =
@@ -107,7 +111,7 @@ module _ (t : ℕ) where
       let level = turn .loop .level in
       let h = turn .loop .inv .reads _ (took (turn-first turn .operand .ensures) (turn .before .before .first .given .1)) in
       climbed-there (turn .loop .inv) (sym (heights .before .height .ensures) ∙ c .if1 .taken ∙ heights .height2 .ensures)
-      (took (continued (L.operandOf level) (L.rungOf level) _ _ _ (onward .further .result) (onward .before .before .moved .ensures) (onward .further .ensures) _ _ _ h) (tree .before .more .given .1))
+      (took (continued (L.operandOf level) (L.rungOf level) _ _ _ (onward .further .result) (onward-moved onward .moved .ensures) (onward .further .ensures) _ _ _ h) (tree .before .more .given .1))
 
   reached-kept : lts.Need-same-length-3 (chain-calls t) (chain-at t) chain.Post chain-Inv-loop chain-μ-loop
   reached-kept c =
@@ -135,7 +139,7 @@ module _ (t : ℕ) where
       let next = below-goal (turn .loop .inv .within) (λ e. c .before .if1 .left (heights .before .height .ensures ∙ e ∙ sym (heights .height2 .ensures))) in
       rw (c .looser .ensures)
       (climbed-on (turn .loop .inv) next (omega (arith, onward .further .kept)) λ before h.
-      took (continued (L.operandOf level) (L.rungOf level) _ _ _ (onward .further .result) (onward .before .before .moved .ensures) (onward .further .ensures) _ _ _ h) (tree .before .more .given .1))
+      took (continued (L.operandOf level) (L.rungOf level) _ _ _ (onward .further .result) (onward-moved onward .moved .ensures) (onward .further .ensures) _ _ _ h) (tree .before .more .given .1))
 
 pub chain-closed : {M : Type 1} (t : ℕ) → lts.Closed (chain-calls t) (chain-at t) chain.Post M
 chain-closed t =

@@ -1,10 +1,11 @@
 -- The measures, and what each function of the ladder is given and asks.
 use Prim.Native.Nat.{ℕ, _+_, _*_, _-_, _<_}
+use mathlib.Core.List.{List}
 use borrow.Fn.Kinds.{In}
 use borrow.Fn.PlainCycle.{Measures, is, falls, and}
 use Rattle.tokens.specs.Tape.{tapeOf}
-use Rattle.grammar.specs.declared.steps.Start.{Start}
 use Rattle.grammar.specs.Ladder as L
+use Rattle.grammar.specs.Reading.{startOf}
 use Rattle.grammar.proofs.Levels.{Turned}
 use Rattle.grammar.proofs.Climbing.{Climbed}
 use Rattle.grammar.proofs.ladder.atom.Reads as atom
@@ -30,63 +31,63 @@ use Rattle.grammar.proofs.ladder.operator_at.Reads as operator-at-reads
 use Rattle.grammar.proofs.ladder.tighter.Reads as tighter-reads
 use Rattle.grammar.proofs.leaves.close.Reads as close-reads
 use Rattle.grammar.proofs.leaves.leaf.Reads as leaf-reads
-use Rattle.grammar.proofs.steps.Start.inside.Reads as inside-reads
-use Rattle.grammar.proofs.steps.Start.moved.Reads as moved-reads
+use Rattle.grammar.proofs.steps.inside.Reads as inside-reads
+use Rattle.grammar.proofs.steps.moved.Reads as moved-reads
 use Rattle.grammar.proofs.store.put_joined.Reads as put-joined-reads
 use Rattle.grammar.proofs.store.put_prefixed.Reads as put-prefixed-reads
 use Rattle.grammar.proofs.tape.next_in.Reads as next-in-reads
 
 -- the measure: sixteen for each token that is left, and how far up the ladder a function is
 
-abbrev pub left : Start → ℕ
-left from = (from .count - from .token) * 16
+abbrev pub left : List ℕ → ℕ
+left lent = let from = startOf lent in (from .count - from .token) * 16
 
-abbrev pub μ-atom : Measures 3 atom-kinds.ps ℕ
-μ-atom κs a = left (a .1 .1 .0)
+abbrev pub μ-atom : Measures 4 atom-kinds.ps ℕ
+μ-atom κs a = left (a .1 .1 .0 .now)
 
-abbrev pub μ-prefix : Measures 3 prefix-kinds.ps ℕ
-μ-prefix κs a = left (a .1 .1 .0) + 1
+abbrev pub μ-prefix : Measures 4 prefix-kinds.ps ℕ
+μ-prefix κs a = left (a .1 .1 .0 .now) + 1
 
-abbrev pub μ-operand : Measures 3 operand-kinds.ps ℕ
-μ-operand κs a = left (a .1 .1 .1 .0) + 2 * L.height (a .1 .1 .0)
+abbrev pub μ-operand : Measures 4 operand-kinds.ps ℕ
+μ-operand κs a = left (a .1 .1 .1 .0 .now) + 2 * L.height (a .1 .1 .0)
 
-abbrev pub μ-chain : Measures 3 chain-kinds.ps ℕ
-μ-chain κs a = left (a .1 .1 .1 .0) + 2 * L.height (a .1 .1 .0) + 1
+abbrev pub μ-chain : Measures 4 chain-kinds.ps ℕ
+μ-chain κs a = left (a .1 .1 .1 .0 .now) + 2 * L.height (a .1 .1 .0) + 1
 
-abbrev pub μ-further : Measures 3 further-kinds.ps ℕ
-μ-further κs a = left (a .1 .1 .1 .0)
+abbrev pub μ-further : Measures 4 further-kinds.ps ℕ
+μ-further κs a = left (a .1 .1 .1 .0 .now)
 
 -- what is asked of a call where the measure is t, and of a call from there
 
-abbrev pub atom-at : ℕ → In 3 atom-kinds.ps
-atom-at t = and 3 atom-kinds.ps (is 3 atom-kinds.ps μ-atom t) atom.Pre
+abbrev pub atom-at : ℕ → In 4 atom-kinds.ps
+atom-at t = and 4 atom-kinds.ps (is 4 atom-kinds.ps μ-atom t) atom.Pre
 
-abbrev pub atom-below : ℕ → In 3 atom-kinds.ps
-atom-below t = and 3 atom-kinds.ps (falls 3 atom-kinds.ps _<_ μ-atom t) atom.Pre
+abbrev pub atom-below : ℕ → In 4 atom-kinds.ps
+atom-below t = and 4 atom-kinds.ps (falls 4 atom-kinds.ps _<_ μ-atom t) atom.Pre
 
-abbrev pub prefix-at : ℕ → In 3 prefix-kinds.ps
-prefix-at t = and 3 prefix-kinds.ps (is 3 prefix-kinds.ps μ-prefix t) prefix.Pre
+abbrev pub prefix-at : ℕ → In 4 prefix-kinds.ps
+prefix-at t = and 4 prefix-kinds.ps (is 4 prefix-kinds.ps μ-prefix t) prefix.Pre
 
-abbrev pub prefix-below : ℕ → In 3 prefix-kinds.ps
-prefix-below t = and 3 prefix-kinds.ps (falls 3 prefix-kinds.ps _<_ μ-prefix t) prefix.Pre
+abbrev pub prefix-below : ℕ → In 4 prefix-kinds.ps
+prefix-below t = and 4 prefix-kinds.ps (falls 4 prefix-kinds.ps _<_ μ-prefix t) prefix.Pre
 
-abbrev pub operand-at : ℕ → In 3 operand-kinds.ps
-operand-at t = and 3 operand-kinds.ps (is 3 operand-kinds.ps μ-operand t) operand.Pre
+abbrev pub operand-at : ℕ → In 4 operand-kinds.ps
+operand-at t = and 4 operand-kinds.ps (is 4 operand-kinds.ps μ-operand t) operand.Pre
 
-abbrev pub operand-below : ℕ → In 3 operand-kinds.ps
-operand-below t = and 3 operand-kinds.ps (falls 3 operand-kinds.ps _<_ μ-operand t) operand.Pre
+abbrev pub operand-below : ℕ → In 4 operand-kinds.ps
+operand-below t = and 4 operand-kinds.ps (falls 4 operand-kinds.ps _<_ μ-operand t) operand.Pre
 
-abbrev pub chain-at : ℕ → In 3 chain-kinds.ps
-chain-at t = and 3 chain-kinds.ps (is 3 chain-kinds.ps μ-chain t) chain.Pre
+abbrev pub chain-at : ℕ → In 4 chain-kinds.ps
+chain-at t = and 4 chain-kinds.ps (is 4 chain-kinds.ps μ-chain t) chain.Pre
 
-abbrev pub chain-below : ℕ → In 3 chain-kinds.ps
-chain-below t = and 3 chain-kinds.ps (falls 3 chain-kinds.ps _<_ μ-chain t) chain.Pre
+abbrev pub chain-below : ℕ → In 4 chain-kinds.ps
+chain-below t = and 4 chain-kinds.ps (falls 4 chain-kinds.ps _<_ μ-chain t) chain.Pre
 
-abbrev pub further-at : ℕ → In 3 further-kinds.ps
-further-at t = and 3 further-kinds.ps (is 3 further-kinds.ps μ-further t) further.Pre
+abbrev pub further-at : ℕ → In 4 further-kinds.ps
+further-at t = and 4 further-kinds.ps (is 4 further-kinds.ps μ-further t) further.Pre
 
-abbrev pub further-below : ℕ → In 3 further-kinds.ps
-further-below t = and 3 further-kinds.ps (falls 3 further-kinds.ps _<_ μ-further t) further.Pre
+abbrev pub further-below : ℕ → In 4 further-kinds.ps
+further-below t = and 4 further-kinds.ps (falls 4 further-kinds.ps _<_ μ-further t) further.Pre
 
 -- the contracts of the functions that each calls
 
@@ -109,7 +110,8 @@ further-calls t = (operator-at-reads.Asked, operator-at-reads.Learnt, ends-after
 
 abbrev pub chain-Inv-loop : chain-lts.InvT-loop
 chain-Inv-loop text tape rung from nodes₀ f i level₀ past₀ next₀ nodes level past next =
-    Climbed (tapeOf text tape) (from .count) (from .levels) rung (from .token) (from .node) nodes₀ past₀ next₀ nodes level past next
+    let start = startOf from in
+    Climbed (tapeOf text tape) (start .count) (start .levels) rung (start .token) (start .node) nodes₀ past₀ next₀ nodes level past next
 
 abbrev pub chain-μ-loop : chain-lts.MeasureT-loop
 chain-μ-loop text tape rung from nodes₀ f i level₀ past₀ next₀ nodes level past next = L.height rung - L.height level
@@ -118,7 +120,8 @@ chain-μ-loop text tape rung from nodes₀ f i level₀ past₀ next₀ nodes le
 
 abbrev pub further-Inv-loop : further-lts.InvT-loop
 further-Inv-loop text tape rung from nodes₀ past₀ next₀ nodes past next =
-    Turned (tapeOf text tape) (from .count) (L.atMostOnce rung) (L.mayEnd rung) (L.operators rung) (L.operandOf rung (from .levels)) nodes₀ past₀ next₀ nodes past next
+    let start = startOf from in
+    Turned (tapeOf text tape) (start .count) (L.atMostOnce rung) (L.mayEnd rung) (L.operators rung) (L.operandOf rung (start .levels)) nodes₀ past₀ next₀ nodes past next
 
 abbrev pub further-μ-loop : further-lts.MeasureT-loop
-further-μ-loop text tape rung from nodes₀ past₀ next₀ nodes past next = from .count - next
+further-μ-loop text tape rung from nodes₀ past₀ next₀ nodes past next = startOf from .count - next

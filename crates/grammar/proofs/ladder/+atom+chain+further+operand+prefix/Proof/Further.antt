@@ -9,7 +9,7 @@ use borrow.Author.Needs.{needs}
 use lib.Dec.{eqb}
 use Rattle.grammar.specs.declared.steps.Rung.{Rung}
 use Rattle.grammar.specs.Ladder as L
-use Rattle.grammar.specs.Reading.{Seen}
+use Rattle.grammar.specs.Reading.{startOf, Seen}
 use Rattle.grammar.proofs.Outcomes.{took-on, found, absent, pass-up, ready-on, started, has-row}
 use Rattle.grammar.proofs.Operators.{operating, no-operator, operators-low, operators-high}
 use Rattle.grammar.proofs.Levels.{rung-runs, going-start, going-stop, going-end, going-next, going-last, turned-start, turned-on}
@@ -21,7 +21,7 @@ use Rattle.grammar.proofs.ladder.+atom+chain+further+operand+prefix.Pro
 module _ (t : ℕ) where
   loop-begins : lts.Need-loop-holds (further-calls t) (further-at t) further.Post further-Inv-loop further-μ-loop
   loop-begins c =
-      let given = c .before .before .before in
+      let given = c .before .before .before .before .before in
       turned-start (given .pre .1 .0) (given .pre .1 .1 .used) (given .pre .1 .1 .here)
 
   -- where the loop begins a turn; and from there what the function was given
@@ -29,25 +29,28 @@ module _ (t : ℕ) where
   Turn = lts.At-loop (further-calls t) (further-at t) further.Post further-Inv-loop further-μ-loop
 
   abbrev start : Turn → lts.Start (further-calls t) (further-at t) further.Post further-Inv-loop further-μ-loop
-  start c = c .before .before .before .before
+  start c = c .before .before .before .before .before .before
+
+  abbrev count : Turn → ℕ
+  count c = startOf (start c .args .from .now) .count
 
   abbrev rung : Turn → Rung
   rung c = start c .args .rung
 
   look-fits : lts.Need-operator-at-requires (further-calls t) (further-at t) further.Post further-Inv-loop further-μ-loop
-  look-fits c κs = start c .pre .1 .1 .sound .has
+  look-fits c κs = start (c .before) .pre .1 .1 .sound .has
 
   no-operator-there : lts.Need-returns (further-calls t) (further-at t) further.Post further-Inv-loop further-μ-loop
   no-operator-there c =
       let looked = c .before .before in
-      let turn : Turn = looked .before in
+      let turn : Turn = looked .before .before in
       λ at b first h.
       let w = turn .loop .inv .going _ _ _ _ (going-start _ (rung-runs (rung turn) _ _) h) in
       going-stop w (no-operator _ _ _ (rung turn) (absent _ _ _ _ _ (looked .operator-at .ensures) (c .enum-told .given .1)))
 
   stopped-kept : lts.Need-same-length (further-calls t) (further-at t) further.Post further-Inv-loop further-μ-loop
   stopped-kept c =
-      let turn : Turn = c .before .before .before in
+      let turn : Turn = c .before .before .before .before in
       omega (arith, turn .loop .inv .kept)
 
   -- where there is an operator
@@ -55,9 +58,9 @@ module _ (t : ℕ) where
   Operator = lts.After-known-told (further-calls t) (further-at t) further.Post further-Inv-loop further-μ-loop
 
   abbrev operator-turn : Operator → Turn
-  operator-turn c = let looked = c .before .before .before in looked .before
+  operator-turn c = let looked = c .before .before .before in looked .before .before
 
-  sign-found : (c : Operator) → let turn = operator-turn c in Seen (start turn .args .tape .now) (start turn .args .from .count) (turn .loop .next) (L.lowest (rung turn)) (L.highest (rung turn)) (c .before .sign .given .0 .0)
+  sign-found : (c : Operator) → let turn = operator-turn c in Seen (start turn .args .tape .now) (count turn) (turn .loop .next) (L.lowest (rung turn)) (L.highest (rung turn)) (c .before .sign .given .0 .0)
   sign-found c = found (c .before .before .before .operator-at .ensures) (c .before .sign .given .1)
 
   next-fits : lts.Need-add-ends-after (further-calls t) (further-at t) further.Post further-Inv-loop further-μ-loop
@@ -65,20 +68,20 @@ module _ (t : ℕ) where
       let turn = operator-turn c in
       omega (arith, turn .loop .inv .inside, start turn .pre .1 .1 .sound .cut .few)
 
-  last-fits : lts.Need-add-t16 (further-calls t) (further-at t) further.Post further-Inv-loop further-μ-loop
-  last-fits c = next-fits (c .before .before)
+  last-fits : lts.Need-add-t26 (further-calls t) (further-at t) further.Post further-Inv-loop further-μ-loop
+  last-fits c = next-fits (c .before .before .before)
 
   moved-fits : lts.Need-add-moved (further-calls t) (further-at t) further.Post further-Inv-loop further-μ-loop
-  moved-fits c = next-fits (c .before .before)
+  moved-fits c = next-fits (c .before .before .before)
 
   ended-kept : lts.Need-same-length-2 (further-calls t) (further-at t) further.Post further-Inv-loop further-μ-loop
   ended-kept c =
-      let at-operator : Operator = c .before .before in
+      let at-operator : Operator = c .before .before .before in
       omega (arith, operator-turn at-operator .loop .inv .kept)
 
   ended : lts.Need-returns-2 (further-calls t) (further-at t) further.Post further-Inv-loop further-μ-loop
   ended c =
-      let at-operator : Operator = c .before .before in
+      let at-operator : Operator = c .before .before .before in
       let turn = operator-turn at-operator in
       let f = sign-found at-operator in
       λ at b first h.
@@ -90,27 +93,31 @@ module _ (t : ℕ) where
   Onward = lts.Else1 (further-calls t) (further-at t) further.Post further-Inv-loop further-μ-loop
 
   abbrev onward-operator : Onward → Operator
-  onward-operator c = c .before .before
+  onward-operator c = c .before .before .before
 
-  goes-on : (c : Onward) → let turn = operator-turn (onward-operator c) in (L.mayEnd (rung turn) && eqb (turn .loop .next + 1) (start turn .args .from .count)) ≡ false
+  goes-on : (c : Onward) → let turn = operator-turn (onward-operator c) in (L.mayEnd (rung turn) && eqb (turn .loop .next + 1) (count turn)) ≡ false
   goes-on c = sym (c .before .ends-after .ensures) ∙ c .if1 .left
 
   more-falls : lts.Need-operand-requires (further-calls t) (further-at t) further.Post further-Inv-loop further-μ-loop
   more-falls c κs =
-      let at-operator = onward-operator (c .before .before) in
+      let moved = c .before .before in
+      let at-operator = onward-operator (moved .before) in
       let turn = operator-turn at-operator in
       let given = start turn .pre in
       let v = turn .loop .inv in
       let f = sign-found at-operator in
-      rw (c .before .moved .ensures)
+      rw (moved .moved .ensures)
       (omega (arith, v .moved, f .here, given .0, most-height (rung turn)), ready-on (given .1 .1) _ _ _ _ (omega (arith, v .kept)) (omega (arith, v .used)) (omega (arith, f .here)))
 
   -- where one more operand has been read
   abbrev More : Type 0
   More = lts.After-operand (further-calls t) (further-at t) further.Post further-Inv-loop further-μ-loop
 
+  abbrev more-moved : More → lts.After-moved (further-calls t) (further-at t) further.Post further-Inv-loop further-μ-loop
+  more-moved c = c .before .before .before
+
   abbrev more-onward : More → Onward
-  more-onward c = let moved = c .before .before in moved .before
+  more-onward c = more-moved c .before
 
   more-refused : lts.Need-returns-3 (further-calls t) (further-at t) further.Post further-Inv-loop further-μ-loop
   more-refused c =
@@ -122,7 +129,7 @@ module _ (t : ℕ) where
       λ at b first h.
       let w = turn .loop .inv .going _ _ _ _ (going-start _ (rung-runs (rung turn) _ _) h) in
       pass-up _ _ _ _ _ _ _ _ _ _ _ _ (going-next w (operating _ _ _ (rung turn) f) (goes-on onward)) (more .operand .result) (c .enum-told2 .given .1)
-      (started (L.operandOf (rung turn)) _ _ _ (more .operand .result) (more .before .before .moved .ensures) (more .operand .ensures))
+      (started (L.operandOf (rung turn)) _ _ _ (more .operand .result) (more-moved more .moved .ensures) (more .operand .ensures))
 
   refused-kept : lts.Need-same-length-3 (further-calls t) (further-at t) further.Post further-Inv-loop further-μ-loop
   refused-kept c =
@@ -151,7 +158,7 @@ module _ (t : ℕ) where
       let p = start turn .pre .1 .1 in
       let v = turn .loop .inv in
       let f = sign-found at-operator in
-      let k = took-on (L.operandOf (rung turn)) (more .before .before .moved .ensures) (more .operand .ensures) (both .before .more .given .1) in
+      let k = took-on (L.operandOf (rung turn)) (more-moved more .moved .ensures) (more .operand .ensures) (both .before .more .given .1) in
       ((omega (arith, v .used, v .kept, k .built, f .here, more .operand .kept, p .haveRoom), has-row (p .sound) _ (f .here), omega (arith, v .used, p .sound .cut .few, f .here)), omega (arith, f, operators-low (rung turn), operators-high (rung turn)))
 
   -- where the node of both is stored
@@ -179,7 +186,7 @@ module _ (t : ℕ) where
       let both = joined-both c in
       let more = both-more both in
       let turn = joined-turn c in
-      let k = took-on (L.operandOf (rung turn)) (more .before .before .moved .ensures) (more .operand .ensures) (both .before .more .given .1) in
+      let k = took-on (L.operandOf (rung turn)) (more-moved more .moved .ensures) (more .operand .ensures) (both .before .more .given .1) in
       omega (arith, turn .loop .inv .used, k .built, start turn .pre .1 .1 .sound .cut .few)
 
   last-kept : lts.Need-same-length-4 (further-calls t) (further-at t) further.Post further-Inv-loop further-μ-loop
@@ -196,7 +203,7 @@ module _ (t : ℕ) where
       let at-operator = onward-operator onward in
       let turn = operator-turn at-operator in
       let f = sign-found at-operator in
-      let k = took-on (L.operandOf (rung turn)) (more .before .before .moved .ensures) (more .operand .ensures) (both .before .more .given .1) in
+      let k = took-on (L.operandOf (rung turn)) (more-moved more .moved .ensures) (more .operand .ensures) (both .before .more .given .1) in
       λ at b first h.
       let w = turn .loop .inv .going _ _ _ _ (going-start _ (rung-runs (rung turn) _ _) h) in
       going-last w (operating _ _ _ (rung turn) f) (goes-on onward) k (joined .put-joined .ensures) (sym (c .before .at-most-once .ensures) ∙ c .if2 .taken)
@@ -208,7 +215,7 @@ module _ (t : ℕ) where
       let at-operator = onward-operator (more-onward more) in
       let turn = operator-turn at-operator in
       let f = sign-found at-operator in
-      let k = took-on (L.operandOf (rung turn)) (more .before .before .moved .ensures) (more .operand .ensures) (both .before .more .given .1) in
+      let k = took-on (L.operandOf (rung turn)) (more-moved more .moved .ensures) (more .operand .ensures) (both .before .more .given .1) in
       omega (arith, k .built, f .here)
 
   turned : lts.Need-loop-again (further-calls t) (further-at t) further.Post further-Inv-loop further-μ-loop
@@ -220,7 +227,7 @@ module _ (t : ℕ) where
       let at-operator = onward-operator onward in
       let turn = operator-turn at-operator in
       let f = sign-found at-operator in
-      let k = took-on (L.operandOf (rung turn)) (more .before .before .moved .ensures) (more .operand .ensures) (both .before .more .given .1) in
+      let k = took-on (L.operandOf (rung turn)) (more-moved more .moved .ensures) (more .operand .ensures) (both .before .more .given .1) in
       turned-on (turn .loop .inv) (operating _ _ _ (rung turn) f) (goes-on onward) (sym (c .before .at-most-once .ensures) ∙ c .if2 .left) k (joined .put-joined .ensures)
 
 pub further-closed : {M : Type 1} (t : ℕ) → lts.Closed (further-calls t) (further-at t) further.Post M
@@ -230,13 +237,17 @@ further-closed t =
     further.Post
     further-Inv-loop
     further-μ-loop
+    (λ c. search needs)
+    (λ c. search needs)
     (loop-begins t)
+    (λ c. search needs)
     (look-fits t)
     (λ c. search needs)
     (λ c. search needs)
     (stopped-kept t)
     (no-operator-there t)
     (next-fits t)
+    (λ c. search needs)
     (λ c κs. search needs)
     (last-fits t)
     (ended-kept t)

@@ -26,17 +26,20 @@ module _ (t : ℕ) where
   is-tighter c x e = sym (c .tighter .ensures) ∙ e
 
   look-fits : lts.Need-next-in-requires (operand-calls t) (operand-at t) operand.Post
-  look-fits c κs = let known = c .before .before in start known .pre .1 .sound .has
+  look-fits c κs = let known = c .before .before .before .before in start known .pre .1 .sound .has
 
   -- at the tightest rung, where a token that opens a level has been looked for
   abbrev Looked : Type 0
   Looked = lts.After-next-in (operand-calls t) (operand-at t) operand.Post
 
+  abbrev looked-told : Looked → lts.After-enum-told (operand-calls t) (operand-at t) operand.Post
+  looked-told c = c .before .before .before
+
   abbrev looked-known : Looked → Known
-  looked-known c = c .before .before .before
+  looked-known c = looked-told c .before .before
 
   at-tightest : (c : Looked) → L.tighter (start (looked-known c) .args .rung) ≡ T.Prefix
-  at-tightest c = is-tighter (looked-known c) _ (c .before .enum-told .given .1)
+  at-tightest c = is-tighter (looked-known c) _ (looked-told c .enum-told .given .1)
 
   leaf-ready : lts.Need-leaf-requires (operand-calls t) (operand-at t) operand.Post
   leaf-ready c κs = let looked = c .before .before .before in start (looked-known looked) .pre .1
@@ -81,6 +84,8 @@ operand-closed t =
     (operand-at t)
     operand.Post
     (λ c κs. search needs)
+    (λ c. search needs)
+    (λ c. search needs)
     (λ c. search needs)
     (λ c. search needs)
     (look-fits t)

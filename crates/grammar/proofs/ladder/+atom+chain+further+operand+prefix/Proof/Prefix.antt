@@ -23,11 +23,14 @@ module _ (t : ℕ) where
   abbrev begin : lts.Else1 (prefix-calls t) (prefix-at t) prefix.Post → lts.Start (prefix-calls t) (prefix-at t) prefix.Post
   begin c = c .before .before .before .before .before
 
+  abbrev looked-else : Looked → lts.Else1 (prefix-calls t) (prefix-at t) prefix.Post
+  looked-else c = c .before .before .before
+
   abbrev start : Looked → lts.Start (prefix-calls t) (prefix-at t) prefix.Post
-  start c = begin (c .before)
+  start c = begin (looked-else c)
 
   look-fits : lts.Need-next-in-requires (prefix-calls t) (prefix-at t) prefix.Post
-  look-fits c κs = begin c .pre .1 .sound .has
+  look-fits c κs = begin (c .before .before) .pre .1 .sound .has
 
   -- no operator
 
@@ -35,14 +38,14 @@ module _ (t : ℕ) where
   atom-falls c κs =
       let looked : Looked = c .before .before .before in
       let given = start looked .pre in
-      (omega (arith, given .0), (omega (arith, looked .before .if1 .left), given .1))
+      (omega (arith, given .0), (omega (arith, looked-else looked .if1 .left), given .1))
 
   an-atom : lts.Need-returns-2 (prefix-calls t) (prefix-at t) prefix.Post
   an-atom c =
       let atom-at = c .before .before in
       let told = atom-at .before .before in
       let looked : Looked = told .before .before in
-      same-out _ _ _ _ _ _ _ _ (level-not _ (looked .before .if1 .left) _ _ _ (absent _ _ _ _ _ (looked .next-in .ensures) (told .enum-told .given .1)))
+      same-out _ _ _ _ _ _ _ _ (level-not _ (looked-else looked .if1 .left) _ _ _ (absent _ _ _ _ _ (looked .next-in .ensures) (told .enum-told .given .1)))
       (atom-at .atom .result) (atom-at .atom .ensures)
 
   -- an operator
@@ -57,23 +60,27 @@ module _ (t : ℕ) where
   level-left c κs =
       let looked = operator-looked c in
       let f = found (looked .next-in .ensures) (c .before .sign .given .1) in
-      omega (arith, looked .before .if1 .left, f .here, start looked .pre .1 .sound .cut .few)
+      omega (arith, looked-else looked .if1 .left, f .here, start looked .pre .1 .sound .cut .few)
 
   operand-falls : lts.Need-prefix-requires (prefix-calls t) (prefix-at t) prefix.Post
   operand-falls c κs =
-      let at-operator : Operator = c .before .before in
+      let inside = c .before .before in
+      let at-operator : Operator = inside .before in
       let looked = operator-looked at-operator in
       let given = start looked .pre in
       let f = found (looked .next-in .ensures) (at-operator .before .sign .given .1) in
-      rw (c .before .inside .ensures)
+      rw (inside .inside .ensures)
       (omega (arith, f .here, given .0, given .1 .here), ready-on (given .1) _ _ _ _ refl (omega (arith, given .1 .used)) (omega (arith, f .here)))
 
   -- where what it stands before has been read
   abbrev Read : Type 0
   Read = lts.After-prefix (prefix-calls t) (prefix-at t) prefix.Post
 
+  abbrev read-inside : Read → lts.After-inside (prefix-calls t) (prefix-at t) prefix.Post
+  read-inside c = c .before .before .before
+
   abbrev read-operator : Read → Operator
-  read-operator c = let inside = c .before .before in inside .before
+  read-operator c = read-inside c .before
 
   abbrev read-looked : Read → Looked
   read-looked c = operator-looked (read-operator c)
@@ -83,8 +90,8 @@ module _ (t : ℕ) where
       let read : Read = c .before .before .before .before in
       let looked = read-looked read in
       let f = found (looked .next-in .ensures) (read-operator read .before .sign .given .1) in
-      pass-up _ _ _ _ _ _ _ _ _ _ _ _ (level-up _ (looked .before .if1 .left) _ _ _ f) (read .prefix .result) (c .enum-told2 .given .1)
-      (started L.prefix _ _ _ (read .prefix .result) (read .before .before .inside .ensures) (read .prefix .ensures))
+      pass-up _ _ _ _ _ _ _ _ _ _ _ _ (level-up _ (looked-else looked .if1 .left) _ _ _ f) (read .prefix .result) (c .enum-told2 .given .1)
+      (started L.prefix _ _ _ (read .prefix .result) (read-inside read .inside .ensures) (read .prefix .ensures))
 
   -- where it is a tree
   abbrev Tree : Type 0
@@ -100,7 +107,7 @@ module _ (t : ℕ) where
       let looked = read-looked read in
       let p = start looked .pre .1 in
       let f = found (looked .next-in .ensures) (read-operator read .before .sign .given .1) in
-      let h = took-on L.prefix (read .before .before .inside .ensures) (read .prefix .ensures) (tree .before .operand .given .1) in
+      let h = took-on L.prefix (read-inside read .inside .ensures) (read .prefix .ensures) (tree .before .operand .given .1) in
       ((omega (arith, h .built, f .here, read .prefix .kept, p .haveRoom, p .used), has-row (p .sound) _ (f .here)), omega (arith, f))
 
   -- where the node of both is stored
@@ -110,12 +117,12 @@ module _ (t : ℕ) where
   abbrev stored-tree : Stored → Tree
   stored-tree c = c .before .before
 
-  end-fits : lts.Need-add-t22 (prefix-calls t) (prefix-at t) prefix.Post
+  end-fits : lts.Need-add-t13 (prefix-calls t) (prefix-at t) prefix.Post
   end-fits c =
       let tree = stored-tree (c .before .before) in
       let read = tree-read tree in
       let p = start (read-looked read) .pre .1 in
-      let h = took-on L.prefix (read .before .before .inside .ensures) (read .prefix .ensures) (tree .before .operand .given .1) in
+      let h = took-on L.prefix (read-inside read .inside .ensures) (read .prefix .ensures) (tree .before .operand .given .1) in
       omega (arith, h .built, p .used, p .sound .cut .few)
 
   both-kept : lts.Need-same-length-4 (prefix-calls t) (prefix-at t) prefix.Post
@@ -130,17 +137,20 @@ module _ (t : ℕ) where
       let read = tree-read tree in
       let looked = read-looked read in
       let f = found (looked .next-in .ensures) (read-operator read .before .sign .given .1) in
-      let h = took-on L.prefix (read .before .before .inside .ensures) (read .prefix .ensures) (tree .before .operand .given .1) in
-      level-took _ (looked .before .if1 .left) _ _ _ f h (stored .put-prefixed .ensures)
+      let h = took-on L.prefix (read-inside read .inside .ensures) (read .prefix .ensures) (tree .before .operand .given .1) in
+      level-took _ (looked-else looked .if1 .left) _ _ _ f h (stored .put-prefixed .ensures)
 
 pub prefix-closed : {M : Type 1} (t : ℕ) → lts.Closed (prefix-calls t) (prefix-at t) prefix.Post M
 prefix-closed t =
     lts.spec (prefix-calls t)
     (prefix-at t)
     prefix.Post
+    (λ c. search needs)
     (λ c κs. let given = c .before .before .before .before in given .before .before .pre .1)
     (λ c. omega (arith, c .before .before .leaf .kept))
     (no-level t)
+    (λ c. search needs)
+    (λ c. search needs)
     (look-fits t)
     (λ c. search needs)
     (λ c. search needs)

@@ -5,7 +5,6 @@ pub mod Going
 pub mod Loaded
 pub mod Marked
 pub mod Marks
-pub mod Packed
 pub mod Skips
 pub mod Stack
 pub mod Standing

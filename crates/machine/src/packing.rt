@@ -7,48 +7,25 @@ ghost use Prim.Native.Nat.{_<_};
 ghost use Rattle.values.specs.Typed.{tyMeant};
 ghost use Rattle.machine.specs.Following.{floors};
 ghost use Rattle.machine.specs.Packed.{tyIn, floorIn};
+use values::numbering;
 use values::types::Type;
 
 // More than the highest floor, 384.
 pub const FLOORS: u32 = 512;
-
-// Types by number: 0 is bool, 1 int,
-const INT: u32 = 1;
-
-// and from 2 on stand those of kinds, 256 for each kind, by their widths.
-const FIRST_OF: u32 = 2;
-
-const WIDTHS: u32 = 256;
-
-const KINDS: u32 = 256;
 
 // A type on a floor.
 pub(crate) fn packed(t: Type, floor: u32) -> u32
     requires { ⌜ floor < floors ⌝ }
     ensures { λ r. ⌜ (tyIn r ≡ tyMeant t) × (floorIn r ≡ floor) ⌝ }
 {
-    match t {
-        Type::Bool => floor,
-        Type::Int => INT * FLOORS + floor,
-        Type::Of(kind, width) => {
-            (FIRST_OF + kind as u32 * WIDTHS + width as u32) * FLOORS + floor
-        }
-    }
+    numbering::number_of(t) * FLOORS + floor
 }
 
 // The type of a cell.
 pub(crate) fn type_in(cell: u32) -> Type
     ensures { λ r. ⌜ tyMeant r ≡ tyIn cell ⌝ }
 {
-    let number = cell / FLOORS;
-    if number == 0 {
-        return Type::Bool;
-    }
-    if number == INT {
-        return Type::Int;
-    }
-    let of = number - FIRST_OF;
-    Type::Of((of / WIDTHS % KINDS) as u8, (of % WIDTHS) as u8)
+    numbering::numbered(cell / FLOORS)
 }
 
 // The floor of a cell.

@@ -1,22 +1,20 @@
--- A type, or a refusal in the text, as one number, its code: those of types are below `places`, and a refusal's is its number and one, times
--- that, and its place under it. Every number is the code of something.
-use Prim.Native.Nat.{ℕ, zero, suc, _-_, _/_, _%_, _<_}
+-- A type, or a refusal in the text, as one number, its code: a type's is its number, below `places`, and a refusal's is its number and one,
+-- times that, and its place under it. Every number is the code of something.
+use Prim.Native.Nat.{ℕ, _-_, _/_, _%_, _<_}
 use mathlib.Core.Path.{_≡_}
 use mathlib.Core.Bool.{Bool, cond}
 use lib.Dec.{ltb}
 use Rattle.paper.specs.Answers.{Answer, ok, refused, inText}
-use Rattle.paper.specs.Keys.{kindOf}
-use Rattle.paper.specs.Types.{Ty, bool, int, of}
+use Rattle.paper.specs.Types.{Ty}
+use Rattle.values.specs.Numbered.{tyNumbered}
 
 -- a node has its place in a word of 32 bits
 abbrev pub places : ℕ
 places = 0x1_0000_0000
 
--- over the codes of bool and int, that of a kind's type has its kind and its width, a byte each
+-- the type of a type's code: its lower digit to base `places` is a type's number
 abbrev pub tyIn : ℕ → Ty
-tyIn zero = bool
-tyIn (suc zero) = int
-tyIn (suc (suc n)) = of (kindOf (n / 256 % 256)) (n % 256)
+tyIn code = tyNumbered (code % places)
 
 abbrev pub isType : ℕ → Bool
 isType code = ltb code places

@@ -1,7 +1,7 @@
 // A type, or a refusal in the text, as one number, so that the walk passes it up in a register.
 //
-// Types have the codes below PLACES. A refusal's code is its number and one, times PLACES, and its place under it. Every number is the code
-// of something, so that nothing is asked of one that is read.
+// A type's code is its number, and types have the codes below PLACES. A refusal's code is its number and one, times PLACES, and its place
+// under it. Every number is the code of something, so that nothing is asked of one that is read.
 ghost use mathlib.Core.Path.{_≡_};
 ghost use Prim.Native.Nat.{_<_};
 ghost use Rattle.paper.specs.Answers.{ok, refused, inText, offsetOf};
@@ -10,6 +10,7 @@ ghost use Rattle.typing.specs.Says.{typedSays};
 ghost use Rattle.typing.specs.Coded.{places, tyIn, isType, codeSays, Codable};
 use crate::leaf::Typed;
 use paper::Place;
+use values::numbering;
 use values::types::Type;
 
 // A place is a word of a node, of 32 bits.
@@ -17,29 +18,6 @@ const PLACES: usize = 0x1_0000_0000;
 
 // The numbers of refusals are bytes.
 const REFUSALS: usize = 256;
-
-// The codes of types: 0 is bool, 1 int,
-const BOOL: usize = 0;
-
-const INT: usize = 1;
-
-// and from 2 on stand those of kinds, 256 for each kind, by their widths.
-const FIRST_OF: usize = 2;
-
-const WIDTHS: usize = 256;
-
-const KINDS: usize = 256;
-
-// The code of a type.
-fn type_code(a: Type) -> usize
-    ensures { λ r. ⌜ codeSays r ≡ ok (tyMeant a) ⌝ }
-{
-    match a {
-        Type::Bool => BOOL,
-        Type::Int => INT,
-        Type::Of(kind, width) => FIRST_OF + kind as usize * WIDTHS + width as usize,
-    }
-}
 
 // The code of a refusal at a place of the text.
 fn refusal_code(number: u8, at: usize) -> usize
@@ -70,7 +48,7 @@ pub(crate) fn coded(t: Typed) -> usize
     ensures { λ r. ⌜ codeSays r ≡ typedSays t ⌝ }
 {
     match t {
-        Typed::Is(a) => type_code(a),
+        Typed::Is(a) => numbering::number_of(a) as usize,
         Typed::Refused(number, place) => refusal_code(number, offset(place)),
     }
 }
@@ -86,14 +64,7 @@ pub(crate) fn is_type(code: usize) -> bool
 pub(crate) fn type_in(code: usize) -> Type
     ensures { λ r. ⌜ tyMeant r ≡ tyIn code ⌝ }
 {
-    if code == BOOL {
-        return Type::Bool;
-    }
-    if code == INT {
-        return Type::Int;
-    }
-    let of = code - FIRST_OF;
-    Type::Of((of / WIDTHS % KINDS) as u8, (of % WIDTHS) as u8)
+    numbering::numbered((code % PLACES) as u32)
 }
 
 // What a code stands for.

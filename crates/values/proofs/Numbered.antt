@@ -1,7 +1,7 @@
--- Kinds, fields and comparisons by their numbers: what a test of the number says of what it stands for.
+-- Kinds, types, fields and comparisons by their numbers: what a test of the number says of what it stands for.
 -- Assumes nothing.
-use Prim.Native.Nat.{ℕ, zero, suc, _-_, _^_, _≤_}
-use mathlib.Core.Path.{_≡_, refl}
+use Prim.Native.Nat.{ℕ, zero, suc, _+_, _-_, _*_, _/_, _%_, _^_, _<_, _≤_}
+use mathlib.Core.Path.{_≡_, refl, _∙_, ap, ap₂}
 use mathlib.Core.Bool.{Bool, true, false, not, cond, _&&_, _||_, and-true, and-self}
 use mathlib.Core.Option.{Option, some}
 use native.Mathlib.Omega.{arith}
@@ -15,6 +15,7 @@ use Rattle.paper.specs.Meaning.{oneValue}
 use Rattle.paper.specs.Code.{comparisonOf, fieldOf, fieldNo}
 use Rattle.paper.proofs.MeetingTypes.{meet-own}
 use Rattle.values.specs.declared.fields.Named.the-variants as N
+use Rattle.values.specs.Numbered.{tyNumbered}
 use Rattle.values.specs.Typed.{namedOf}
 
 -- kinds
@@ -41,6 +42,22 @@ module _ {A : Type 0} (f : Kind → A) (t : ℕ → A) (t0 : t 0 ≡ f exact) (t
 
 pub kind-exact : (n : ℕ) → eqb n 0 ≡ isExact (kindOf n)
 kind-exact = by-kind isExact (λ n. eqb n 0) refl refl refl refl (λ n h. ne-eqb n 0 (λ e. omega arith))
+
+-- types
+
+-- a kind and a width are bytes, so they are the two digits to base 256 of what stands over 2
+pub of-number : (k w : ℕ) → k < 256 → w < 256 → tyNumbered (2 + k * 256 + w) ≡ of (kindOf k) w
+of-number k w narrow-kind narrow =
+    let number : 2 + k * 256 + w ≡ suc (suc (k * 256 + w)) = omega arith in
+    let kind : (k * 256 + w) / 256 % 256 ≡ k = omega arith in
+    let width : (k * 256 + w) % 256 ≡ w = omega arith in
+    ap tyNumbered number ∙ ap₂ (λ a b. of (kindOf a) b) kind width
+
+-- a number that is neither bool's nor int's is 2 and something over it
+pub numbered-of : (n m : ℕ) → n ≡ m + 2 → tyNumbered n ≡ of (kindOf (m / 256 % 256)) (m % 256)
+numbered-of n m e =
+    let two : n ≡ suc (suc m) = omega arith in
+    ap tyNumbered two
 
 -- fields
 

@@ -8,6 +8,7 @@ mod cell;
 mod comparing;
 pub mod connectives;
 pub mod fields;
+pub mod numbering;
 mod operations;
 pub mod operators;
 pub mod types;

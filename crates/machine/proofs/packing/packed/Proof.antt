@@ -1,42 +1,27 @@
--- Each arm of the match writes the number of its type, and under it the floor.
+-- `machine::packed` meets its contract: the floor is below `floors`, so it is the lower digit to that base, and the type's number the upper.
+use Prim.Native.Nat.{ℕ, _+_, _*_, _/_}
 use native.Mathlib.Omega.{arith}
+use mathlib.Core.Path.{_≡_, _∙_, ap}
 use borrow.Author.Needs.{needs}
-use Rattle.machine.proofs.Packed.{bool-packed, int-packed, of-packed}
+use Rattle.values.specs.Numbered.{tyNumbered}
+use Rattle.machine.specs.Following.{floors}
 use Rattle.machine.proofs.packing.packed.Statement.{statement}
 use Rattle.machine.proofs.packing.packed.Tie as tie
 
-bool-on : tie.Need-returns
-bool-on c =
-    let s = c .before .before in
-    (rw (c .enum-told .given .1) (bool-packed (s .args .floor) (s .pre)), omega (arith, s .pre))
+-- where the type has its number; and from there that number, and the floor
+abbrev Numbered : Type 0
+Numbered = tie.After-number-of
 
-int-on : tie.Need-returns-2
-int-on c =
-    let s = c .before .before in
-    (rw (c .enum-told2 .given .1) (int-packed (s .args .floor) (s .pre)), omega (arith, s .pre))
+abbrev number : Numbered → ℕ
+number c = c .number-of .result
 
-of-on : tie.Need-returns-3
-of-on c =
-    let s = c .before .before .before in
-    let t = c .before .t .given in
-    (rw (t .1) (of-packed (s .args .floor) (s .pre) (t .0 .0) (t .0 .1 .0) (omega arith) (omega arith)), omega (arith, s .pre))
+abbrev floor : Numbered → ℕ
+floor c = c .before .args .floor
+
+on-floor : tie.Need-returns
+on-floor c =
+    let upper : (number c * floors + floor c) / floors ≡ number c = omega (arith, c .before .pre) in
+    (ap tyNumbered upper ∙ c .number-of .ensures .0, omega (arith, c .before .pre))
 
 pub packed-spec : {M : Type 1} → statement M
-packed-spec =
-    tie.close
-    (tie.spec
-    (λ c. search needs)
-    (λ c. search needs)
-    (λ c. search needs)
-    (λ c. search needs)
-    (λ c. search needs)
-    (λ c. search needs)
-    (λ c. search needs)
-    (λ c. search needs)
-    (λ c. search needs)
-    (λ c. search needs)
-    (λ c. search needs)
-    (λ c. search needs)
-    bool-on
-    int-on
-    of-on)
+packed-spec = tie.close (tie.spec (λ c κs. search needs) (λ c. search needs) (λ c. search needs) on-floor)

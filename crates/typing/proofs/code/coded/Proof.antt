@@ -1,11 +1,12 @@
--- `typing::coded` meets its contract: a type by its code; and a refusal, which is given to lie in the text at a place that is held.
+-- `typing::coded` meets its contract: a type by its number; and a refusal, which is given to lie in the text at a place that is held.
 use Prim.Native.Nat.{ℕ, _<_}
 use mathlib.Core.Path.{_≡_, sym, _∙_, ap, ap₂}
 use borrow.Author.Needs.{needs}
 use Rattle.paper.specs.declared.Place.{Place}
-use Rattle.paper.specs.Answers.{refused, inputOf, offsetOf, inText}
+use Rattle.paper.specs.Answers.{ok, refused, inputOf, offsetOf, inText}
 use Rattle.typing.specs.Says.{typedSays}
 use Rattle.typing.specs.Coded.{places}
+use Rattle.typing.proofs.Coded.{type-coded}
 use Rattle.typing.proofs.code.coded.Statement.{statement}
 use Rattle.typing.proofs.code.coded.Tie as tie
 
@@ -34,9 +35,11 @@ refusal c = c .before .before
 place-held : tie.Need-refusal-code-requires
 place-held c κs = rw (c .offset .ensures) (in-text (refusal c) .1)
 
--- the code of its type
+-- the number of its type
 a-type : tie.Need-returns
-a-type c = c .type-code .ensures ∙ sym (ap typedSays (c .before .before .t .given .1))
+a-type c =
+    let number = c .number-of .ensures in
+    type-coded (c .number-of .result) (number .1) ∙ ap ok (number .0) ∙ sym (ap typedSays (c .before .before .t .given .1))
 
 -- the code of its number and offset says that it is in the text, and there it is
 a-refusal : tie.Need-returns-2
@@ -52,6 +55,7 @@ coded-spec =
     (tie.spec
     (λ c. search needs)
     (λ c κs. search needs)
+    (λ c. search needs)
     (λ c. search needs)
     (λ c κs. search needs)
     place-held

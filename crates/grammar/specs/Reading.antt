@@ -15,19 +15,14 @@ use Rattle.paper.specs.Answers.{ok, refused, inputOf, offsetOf}
 use Rattle.paper.specs.Tokens.{closing, undotted}
 use Rattle.paper.specs.Grammar as G
 use Rattle.paper.specs.Grammar.{Out, got, Parser, outcome, parsed}
-use Rattle.tokens.specs.Tape.{Tape, tokensOn, rowWords, kindAt, startAt, endAt, wordNo, signNo}
-use Rattle.tokens.specs.Tokenized.{Cut}
+use Rattle.tokens.specs.Tape.{Tape, tokensOn, kindAt, startAt, endAt, wordNo, signNo}
+use Rattle.tokens.specs.Tokenized.{Sound}
 use Rattle.grammar.specs.Places.{onward, nodeWords, nodeAt}
 use Rattle.grammar.specs.declared.steps.Taken.{Taken}
 use Rattle.grammar.specs.declared.steps.Taken.the-variants.{Tree, Refused}
 use Rattle.grammar.specs.declared.tape.Next.{Next}
 use Rattle.grammar.specs.declared.tape.Next.the-variants.{Is, Other}
 use Rattle.trees.specs.Words.{words, Spelled}
-
--- n tokens on a tape, as they come from a text
-pub record Sound (T : Tape) (n : ℕ) : Type 0 where
-  pub cut : Cut T n
-  pub has : n * rowWords ≤ length (T .rows)
 
 -- where a reading starts: how many tokens there are, how many levels may still be opened, the next token, and the next free node
 pub record Start : Type 0 where

@@ -12,7 +12,7 @@ use Rattle.paper.specs.Tokens.{join, sequel, Token}
 use Rattle.paper.specs.Parts.{openAfter, divides, between, nonEmpty, topLevel, Stretch, tokenEnd, lastOf, stretchOf}
 use Rattle.paper.proofs.PartsCut.{before, before-append, before-none}
 use Rattle.tokens.specs.Tape.{Tape, tapeOf, kindAt, startAt, endAt, signNo, tokenOn, tokensOn}
-use Rattle.tokens.specs.Tokenized.{Cut}
+use Rattle.tokens.specs.Tokenized.{CutInto}
 use Rattle.tokens.proofs.Tapes.{tape-snoc}
 use Rattle.parts.specs.Cutting.{kindDivides, kindOpens, stretched, stretches}
 use Rattle.parts.proofs.Told.{told}
@@ -28,7 +28,7 @@ last-on T i (suc n) =
     let e : i + 1 + n ≡ i + suc n = omega arith in
     last-on T (i + 1) n ∙ ap (tokenOn T) e
 
-module _ (text tape : List ℕ) (count : ℕ) (cut : Cut (tapeOf text tape) count) where
+module _ (text tape : List ℕ) (count : ℕ) (cut : CutInto (tapeOf text tape) count) where
   abbrev T : Tape
   T = tapeOf text tape
 

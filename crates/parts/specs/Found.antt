@@ -9,7 +9,7 @@ use Rattle.paper.specs.Calls.{tree}
 use Rattle.paper.specs.Parts.{parts, mostParts}
 use Rattle.tokens.specs.Tape as Tape
 use Rattle.tokens.specs.Tape.{tapeOf, tokensOn}
-use Rattle.tokens.specs.Tokenized.{Cut}
+use Rattle.tokens.specs.Tokenized.{CutInto}
 use Rattle.trees.specs.Standing.{treeAt}
 use Rattle.parts.specs.Rows.{rowWords, rootAt, partsOn}
 
@@ -30,7 +30,7 @@ Room rows = mostParts * rowWords ≤ length rows
 -- the tokens of a text stand on the tape, and the tree that it is read as stands at a node
 pub record ReadAs (text tape : List ℕ) (count : ℕ) (nodes : List ℕ) (root : ℕ) : Type 0 where
   pub tokens : tokens text ≡ ok (tokensOn (tapeOf text tape) 0 count)
-  pub cut : Cut (tapeOf text tape) count
+  pub cut : CutInto (tapeOf text tape) count
   pub tree : tree text ≡ ok (treeAt text nodes root)
 
 -- n rows have the parts of any such text; their roots stand no higher than its root

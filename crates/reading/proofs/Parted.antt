@@ -29,7 +29,7 @@ use Rattle.reading.specs.Parted.{Judgeable, Parted, Readies, PassedParts
 
 module _ (text tape : List ℕ) (count : ℕ) (on : CountedOn text tape count) (nodes : List ℕ) (m : ℕ) (p : Planted text nodes m) where
   read-as : ReadAs text tape count nodes (m - 1)
-  read-as = record { tokens = sym (on .says); cut = on .placed; tree = p .read }
+  read-as = record { tokens = sym (on .says); cut = on .placed .cut; tree = p .read }
 
   pub sown : (rows : List ℕ) (n : ℕ) → Finds tape count nodes (m - 1) rows n → Sown text nodes rows m n
   sown rows n f =

@@ -22,6 +22,7 @@ use paper::Checking;
 use paper::Counted;
 use paper::Place;
 use paper::refused;
+use tokens::Cut;
 use tokens::MOST_TOKENS;
 use tokens::rows::Row;
 use trees::Node;
@@ -77,7 +78,7 @@ fn plant(text: &[u8], tape: &[u32], count: usize, nodes: &mut [u32], rows: &mut 
 }
 
 // The same of what was cut from the text, which stands on a tape that is lent.
-fn grow(text: &[u8], tape: &[u32], tokenized: Counted, nodes: &mut [u32], rows: &mut [u32]) -> Grown
+fn grow(text: &[u8], tape: &[u32], tokenized: Cut, nodes: &mut [u32], rows: &mut [u32]) -> Grown
     requires { ⌜ CutOn (now text) (now tape) tokenized ⌝ }
     requires { ⌜ Room (now text) (now tape) ⌝ }
     requires { ⌜ Room (now text) (now nodes) ⌝ }
@@ -85,8 +86,10 @@ fn grow(text: &[u8], tape: &[u32], tokenized: Counted, nodes: &mut [u32], rows: 
     ensures { λ r. ⌜ Sows (now (text .entry)) (now (nodes .exit)) (now (rows .exit)) r ⌝ }
 {
     match tokenized {
-        Counted::Refused(number, place) => Grown::Refused(number, place),
-        Counted::Count(count) => plant(text, tape, count, nodes, rows),
+        Cut::Refused(number, place) => Grown::Refused(number, place),
+        // The tape has room, so this is never so.
+        Cut::Over => Grown::Refused(refused::TOKENS_MANY, Place::Text(0)),
+        Cut::Counted(count) => plant(text, tape, count, nodes, rows),
     }
 }
 

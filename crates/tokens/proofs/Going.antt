@@ -1,11 +1,11 @@
 -- The loop over a text: the tokens that are on the tape, and those from the next byte on, are the text's.
-use Prim.Native.Nat.{ℕ, suc, _+_, _-_, _≤_, _<_}
+use Prim.Native.Nat.{ℕ, suc, _+_, _*_, _-_, _≤_, _<_}
 use mathlib.Core.Path.{_≡_, refl, ap, sym, _∙_}
 use mathlib.Core.Bool.{Bool, true, false, cond}
 use mathlib.Core.List.{List, [], append-nil}
 use native.Mathlib.Omega.{arith}
 use lib.ListN.{length, getD, drop}
-use lib.Seq.{sets}
+use lib.Seq.{sets, length-sets}
 use lib.Dec.{eqb}
 use borrow.Author.Tests.{eqb-true, eqb-false}
 use Rattle.paper.specs.Answers.{Answer, ok, refused, inText}
@@ -14,8 +14,8 @@ use Rattle.paper.specs.Parts.{tokenEnd}
 use Rattle.number.specs.Bases.{literalMeant}
 use Rattle.number.specs.declared.base.Literal as N
 use Rattle.tokens.specs.Scanned.{Stands}
-use Rattle.tokens.specs.Tape.{Tape, tapeOf, Room, rowAt, Has, rowOf, tokensOn}
-use Rattle.tokens.specs.Tokenized.{tokenizedSays, octalRefusal, Cut, SpansOn, EndsOn}
+use Rattle.tokens.specs.Tape.{Tape, tapeOf, rowWords, rowAt, Has, Room, rowOf, tokensOn}
+use Rattle.tokens.specs.Tokenized.{CutSays, octalRefusal, Sound, SpansOn, EndsOn}
 use Rattle.tokens.specs.declared.found.Lexeme.{Lexeme}
 use Rattle.tokens.specs.declared.found.Lexeme.the-variants as F
 use Rattle.tokens.proofs.Scans.{stands-as, as-blank, blank-stands}
@@ -26,11 +26,12 @@ use Rattle.tokens.proofs.Storing.{tokens-stored, spans-stored, ends-sto
 abbrev pub Here : List ℕ → ℕ → Literal → Lexeme → Type 0
 Here text at literal found = Stands text at literal (scan (getD text at 0) (drop (at + 1) text)) found
 
--- n tokens are stored of the bytes before `at`, each of which took a byte at least
+-- n tokens are stored of the bytes before `at`, each of which took a byte at least and has its row
 pub record Going (T : Tape) (n at : ℕ) : Type 0 where
   pub few : n ≤ mostTokens
   pub taken : n ≤ at
   pub inside : at ≤ length (T .text)
+  pub has : n * rowWords ≤ length (T .rows)
   pub says : following (tokensOn T 0 n) (tokensFrom 0 at (mostTokens - n) (drop at (T .text))) ≡ tokens (T .text)
   pub placed : (i : ℕ) → i < n → SpansOn T i
   pub ended : (i : ℕ) → i < n → EndsOn T i
@@ -46,6 +47,7 @@ going-start T =
       few = omega arith;
       taken = omega arith;
       inside = omega arith;
+      has = omega arith;
       says = following-none (tokensFrom 0 0 mostTokens (T .text));
       placed = λ i h. absurd (omega arith);
       ended = λ i h. absurd (omega arith);
@@ -61,6 +63,7 @@ module _ (text rows : List ℕ) (n at : ℕ) (g : Going (tapeOf text rows) n at)
         few = g .few;
         taken = omega (arith, g .taken, w .ends);
         inside = w .ends .1;
+        has = g .has;
         says = from-here _ (blank-step scan text at (mostTokens - n) h end (w .ends .0) (sym (w .says)));
         placed = g .placed;
         ended = g .ended;
@@ -71,9 +74,9 @@ module _ (text rows : List ℕ) (n at : ℕ) (g : Going (tapeOf text rows) n at)
   going-past e =
       going-blank (plain 0) (at + 1) (stands-as refl refl (as-blank (getD text at 0) (drop (at + 1) text) e) (blank-stands text at h))
 
-  -- a slice with room has a row for the next token
-  pub going-row : (size : List ℕ) → Room text size → length rows ≡ length size → n < mostTokens → Has rows n
-  going-row size room same few = omega (arith, room (n + 1) (omega arith) (omega (arith, g .taken)))
+  -- a slice with no row for the next token has none for each that the text could have
+  pub going-over : n < mostTokens → length rows < (n + 1) * rowWords → Room text rows → ⊥
+  going-over few none room = omega (arith, none, room (n + 1) (omega arith) (omega (arith, g .taken)))
 
   -- a token ends where the paper's scan has taken it
   scanned-end : (v : Literal) (kind end : ℕ) → Here text at v (F.Token kind end) → end ≡ tokenEnd text at
@@ -94,6 +97,7 @@ module _ (text rows : List ℕ) (n at : ℕ) (g : Going (tapeOf text rows) n at)
         few = omega arith;
         taken = omega (arith, g .taken, w .ends .taken);
         inside = w .ends .inside;
+        has = omega (arith, room, ap length put, length-sets rows (rowAt n) (rowOf kind at end l));
         says =
             ap (λ (ts : List Token). following ts rest) (tokens-stored text rows after n kind at end l room put)
             ∙ sym (following-one (tokensOn (tapeOf text rows) 0 n) _ rest)
@@ -110,7 +114,7 @@ module _ (text rows : List ℕ) (n at : ℕ) (g : Going (tapeOf text rows) n at)
 
   -- an octal numeral: there is room for a token or not
   pub going-octal : (v m : ℕ) → octalNumeral v m ≡ scan (getD text at 0) (drop (at + 1) text)
-      → tokenizedSays (tapeOf text rows) (octalRefusal n at) ≡ tokens text
+      → CutSays (tapeOf text rows) (octalRefusal n at)
   going-octal v m e = go (eqb n mostTokens) refl
     where
       go : (full : Bool) → eqb n mostTokens ≡ full → refused (cond full 7 22) inText at ≡ tokens text
@@ -135,5 +139,9 @@ module _ (T : Tape) (n at : ℕ) (g : Going T n at) where
       ap ok (sym (append-nil (tokensOn T 0 n)))
       ∙ ap (following (tokensOn T 0 n)) (sym (end-step scan (T .text) at (mostTokens - n) h)) ∙ g .says
 
-  pub going-cut : Cut T n
-  going-cut = record { few = g .few; short = omega (arith, g .taken, g .inside); spans = g .placed; ends = g .ended }
+  pub going-sound : Sound T n
+  going-sound =
+      record {
+        cut = record { few = g .few; short = omega (arith, g .taken, g .inside); spans = g .placed; ends = g .ended };
+        has = g .has;
+      }

@@ -6,12 +6,11 @@
 ghost use mathlib.Core.Path.{_≡_};
 ghost use Prim.Native.Nat.{_≤_};
 ghost use lib.ListN.{length};
-ghost use Rattle.paper.specs.Tokens.{tokens, mostText};
-ghost use Rattle.tokens.specs.Tape.{Room, tapeOf};
-ghost use Rattle.tokens.specs.Tokenized.{tokenizedSays, Placed, octalRefusal};
+ghost use Rattle.paper.specs.Tokens.{mostText};
+ghost use Rattle.tokens.specs.Tape.{tapeOf};
+ghost use Rattle.tokens.specs.Tokenized.{CutSays, Placed, octalRefusal};
 use crate::found::Lexeme;
 use crate::rows::Row;
-use paper::Counted;
 use paper::Place;
 use paper::refused;
 use spelling::bytes::is_blank;
@@ -26,21 +25,31 @@ mod signs;
 
 pub const MOST_TOKENS: usize = 1024;
 
+// What a text is cut into.
+pub enum Cut {
+    // So many tokens, which stand on the tape.
+    Counted(usize),
+    // A refusal of the text.
+    Refused(u8, Place),
+    // More tokens than the tape has rows for: what was lent is too small, and nothing is said of the text.
+    Over,
+}
+
 // An octal numeral after n tokens: one more than there is room for is told as such.
-fn octal_refused(n: usize, at: usize) -> Counted
+fn octal_refused(n: usize, at: usize) -> Cut
     ensures { λ r. ⌜ r ≡ octalRefusal n at ⌝ }
 {
     if n == MOST_TOKENS {
-        return Counted::Refused(refused::TOKENS_MANY, Place::Text(at));
+        return Cut::Refused(refused::TOKENS_MANY, Place::Text(at));
     }
-    Counted::Refused(refused::OCTAL, Place::Text(at))
+    Cut::Refused(refused::OCTAL, Place::Text(at))
 }
 
-// Cuts a text into tokens and stores each in its row; answers how many there are, or the refusal.
-pub fn tokenize(text: &[u8], tape: &mut [u32]) -> Counted
+// Cuts a text into tokens and stores each in its row, as far as the tape has rows. The limit comes first: a tape with a row for each token that
+// a text may have is never too small.
+pub fn tokenize(text: &[u8], tape: &mut [u32]) -> Cut
     requires { ⌜ length (now text) ≤ mostText ⌝ }
-    requires { ⌜ Room (now text) (now tape) ⌝ }
-    ensures says { λ r. ⌜ tokenizedSays (tapeOf (now (text .entry)) (now (tape .exit))) r ≡ tokens (now (text .entry)) ⌝ }
+    ensures says { λ r. ⌜ CutSays (tapeOf (now (text .entry)) (now (tape .exit))) r ⌝ }
     ensures placed { λ r. ⌜ Placed (tapeOf (now (text .entry)) (now (tape .exit))) r ⌝ }
 {
     let mut n = 0;
@@ -57,7 +66,10 @@ pub fn tokenize(text: &[u8], tape: &mut [u32]) -> Counted
             Lexeme::Blank(end) => at = end,
             Lexeme::Token(kind, end) => {
                 if n == MOST_TOKENS {
-                    return Counted::Refused(refused::TOKENS_MANY, Place::Text(at));
+                    return Cut::Refused(refused::TOKENS_MANY, Place::Text(at));
+                }
+                if tape.len() < (n + 1) * Row::WORDS {
+                    return Cut::Over;
                 }
                 let literal = scanned.literal;
                 let row = Row {
@@ -72,9 +84,9 @@ pub fn tokenize(text: &[u8], tape: &mut [u32]) -> Counted
             }
             Lexeme::Octal(_) => return octal_refused(n, at),
             Lexeme::OctalTooLarge => return octal_refused(n, at),
-            Lexeme::NoToken => return Counted::Refused(refused::NO_TOKEN, Place::Text(at)),
-            Lexeme::TooLarge => return Counted::Refused(refused::NUMERAL_LARGE, Place::Text(at)),
+            Lexeme::NoToken => return Cut::Refused(refused::NO_TOKEN, Place::Text(at)),
+            Lexeme::TooLarge => return Cut::Refused(refused::NUMERAL_LARGE, Place::Text(at)),
         }
     }
-    Counted::Count(n)
+    Cut::Counted(n)
 }

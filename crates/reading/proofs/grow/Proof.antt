@@ -1,17 +1,20 @@
--- `reading::grow` meets its contract: the refusal of the tokens, or the answer of `plant`.
+-- `reading::grow` meets its contract: the refusal of the tokens, or the answer of `plant`. A tape with room is not too small (`not-over`).
 use native.Mathlib.Omega.{arith}
 use borrow.Author.Needs.{needs}
-use Rattle.reading.proofs.Planted.{not-cut, counted}
+use Rattle.reading.proofs.Planted.{not-cut, not-over, counted}
 use Rattle.reading.proofs.grow.Statement.{statement}
 use Rattle.reading.proofs.grow.Tie as tie
 
--- where the tokens are counted, and where they are refused: what the function was given
+-- where the tokens are counted, where they are refused, and where the tape was too small: what the function was given
 
 abbrev counted-start : tie.After-tokenized2 → tie.Start
 counted-start c = c .before .before .before .before .before .before
 
 abbrev refused-start : tie.After-tokenized → tie.Start
 refused-start c = c .before .before .before .before .before .before
+
+abbrev over-start : tie.After-enum-told → tie.Start
+over-start c = c .before .before .before .before .before .before
 
 tokens-counted : tie.Need-plant-requires
 tokens-counted c κs =
@@ -24,6 +27,11 @@ no-tokens c =
     let s = refused-start (c .before) in
     (not-cut _ _ (s .args .tokenized) (s .pre .0) (c .before .tokenized .given .1), tt)
 
+never-over : tie.Need-returns-2
+never-over c =
+    let s = over-start c in
+    absurd (not-over _ _ (s .args .tokenized) (s .pre .0) (s .pre .1 .0) (c .enum-told .given .1))
+
 -- where `plant` has answered
 abbrev planted-at : tie.After-slice-known4 → tie.After-plant
 planted-at c = c .before .before .before .before
@@ -34,8 +42,10 @@ grow-spec =
     (tie.spec
     (λ c. search needs)
     (λ c. search needs)
+    (λ c. search needs)
     tokens-counted
     no-tokens
+    never-over
     (λ c. omega (arith, planted-at c .plant .kept))
     (λ c. omega (arith, planted-at c .plant .kept))
     (λ c. planted-at c .plant .ensures))

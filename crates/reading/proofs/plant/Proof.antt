@@ -14,7 +14,7 @@ given c = c .before .before .before .before .before
 tokens-sound : tie.Need-parse-requires
 tokens-sound c κs =
     let s = given c in
-    (sound _ _ _ (s .pre .0) (s .pre .1 .0), nodes-fit _ _ _ (s .pre .0) (s .args .nodes .now) (s .pre .1 .1))
+    (sound _ _ _ (s .pre .0), nodes-fit _ _ _ (s .pre .0) (s .args .nodes .now) (s .pre .1 .1))
 
 -- where it has answered
 abbrev start : tie.After-parse → tie.Start
@@ -46,7 +46,7 @@ stands c κs =
     let s = start at-parse in
     let p = tree-read _ _ _ (s .pre .0) _ _ (at-parse .parse .result) (at-parse .parse .ensures) (c .before .before .before .parsed2 .given .1) (s .pre .1 .1) in
     let on = s .pre .0 .placed in (
-      record { few = on .few; has = s .pre .1 .0 _ (on .few) (on .short) },
+      record { few = on .cut .few; has = on .has },
       record {
         few = omega (arith, p .few, p .some);
         has = omega (arith, at-parse .parse .kept, s .pre .1 .1 _ (p .few) (p .short), p .some);

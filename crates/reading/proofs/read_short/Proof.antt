@@ -1,15 +1,9 @@
 -- `reading::read_short` meets its contract: its tape has as many rows as a short text has bytes.
 use native.Mathlib.Omega.{arith}
-use mathlib.Core.Path.{refl}
 use borrow.Author.Needs.{needs}
 use Rattle.reading.proofs.Rooms.{room-for-short}
 use Rattle.reading.proofs.read_short.Statement.{statement}
 use Rattle.reading.proofs.read_short.Tie as tie
-
-tape-fits : tie.Need-tokenize-requires
-tape-fits c κs =
-    let s : tie.Start = c .before .before .before .before in
-    (omega (arith, s .pre .0), room-for-short (s .args .text .now) _ (s .pre .0) refl)
 
 -- what was cut from the text stands on the tape
 cut-there : tie.Need-grow-requires
@@ -27,7 +21,7 @@ read-short-spec =
     tie.close
     (tie.spec
     (λ c. search needs)
-    tape-fits
+    (λ c κs. search needs)
     (λ c. search needs)
     cut-there
     (λ c. omega (arith, grown-at c .grow .kept))

@@ -1,18 +1,18 @@
 -- `tokens::tokenize` meets its contract. The invariant of its loop (`Going`): the tokens on the tape, and those from the next byte
 -- on, are the text's. A blank is passed over at once. What is scanned at another byte is a comment, which the loop passes over, a token,
--- which it stores in the next row, or a refusal. The measure is the number of bytes that are left: each turn takes one at least.
+-- which it stores in the next row, or a refusal. Where the tape has no row for a token, there is no `Room` (`going-over`). The measure is the number of bytes that are left: each turn takes one at least.
 use Prim.Native.Nat.{ℕ, _-_, _<_}
 use native.Mathlib.Omega.{arith}
 use mathlib.Core.Path.{_≡_, refl, sym, _∙_}
 use mathlib.Core.List.{List}
 use lib.ListN.{length}
 use borrow.Author.Needs.{needs}
-use Rattle.paper.specs.Tokens.{Literal}
+use Rattle.paper.specs.Tokens.{Literal, mostTokens}
 use Rattle.number.specs.Bases.{literalMeant}
 use Rattle.tokens.specs.Tape.{tapeOf, Has}
 use Rattle.tokens.specs.declared.found.Lexeme.{Lexeme}
 use Rattle.tokens.specs.declared.found.Lexeme.the-variants as F
-use Rattle.tokens.proofs.Going.{Here, Going, going-start, going-blank, going-past, going-row, going-token, going-full, going-octal, going-none, going-large, going-end, going-cut}
+use Rattle.tokens.proofs.Going.{Here, Going, going-start, going-blank, going-past, going-over, going-token, going-full, going-octal, going-none, going-large, going-end, going-sound}
 use Rattle.tokens.proofs.tokenize.Statement.{statement}
 use Rattle.tokens.proofs.tokenize.Tie as tie
 
@@ -112,25 +112,46 @@ too-many c =
     let a = asked s in
     (going-full (text a) (rows a) (n a) (at a) (going a) (more a) (literal s) (kind t) (end t) (c .if2 .taken) (token-here t), tt)
 
--- there is a row for it
-has-row : (c : tie.Else2 Inv-loop μ-loop) → Has (rows (asked (token-scanned (c .before)))) (n (asked (token-scanned (c .before))))
-has-row c =
-    let a = asked (token-scanned (c .before)) in
-    going-row (text a) (rows a) (n a) (at a) (going a) (more a) (start a .args .tape .now) (start a .pre .1) (at-loop a .loop .inv .0)
-    (omega (arith, going a .few, c .if2 .left))
+-- where it is not one too many
+abbrev Within : Type 0
+Within = tie.Else2 Inv-loop μ-loop
+
+abbrev within-asked : Within → Asked
+within-asked c = asked (token-scanned (c .before))
+
+below : (c : Within) → n (within-asked c) < mostTokens
+below c = omega (arith, going (within-asked c) .few, c .if2 .left)
+
+-- and the tape has no row for it, or has one
+
+no-row : tie.Need-returns-2 Inv-loop μ-loop
+no-row c =
+    let a = within-asked (c .before) in
+    (going-over (text a) (rows a) (n a) (at a) (going a) (more a) (below (c .before)) (omega (arith, c .if3 .taken, at-loop a .loop .inv .0)), tt)
+
+abbrev Rowed : Type 0
+Rowed = tie.Else3 Inv-loop μ-loop
+
+abbrev rowed-asked : Rowed → Asked
+rowed-asked c = within-asked (c .before)
+
+has-row : (c : Rowed) → Has (rows (rowed-asked c)) (n (rowed-asked c))
+has-row c = omega (arith, c .if3 .left, at-loop (rowed-asked c) .loop .inv .0)
 
 put-fits : tie.Need-put-requires Inv-loop μ-loop
 put-fits c κs =
-    let t : Token = c .before .before .before in
-    let a = asked (token-scanned t) in
-    (has-row (c .before .before), omega (arith, token-here t .ends, start a .pre .0))
+    let r : Rowed = c .before .before in
+    (has-row r, omega (arith, token-here (r .before .before) .ends, start (rowed-asked r) .pre))
 
 -- where it was stored
 abbrev Stored : Type 0
 Stored = tie.After-put Inv-loop μ-loop
 
+abbrev stored-row : Stored → Rowed
+stored-row c = c .before .before .before
+
 abbrev stored-token : Stored → Token
-stored-token c = c .before .before .before .before
+stored-token c = stored-row c .before .before
 
 counted : tie.Need-add-n Inv-loop μ-loop
 counted c = let a = asked (token-scanned (stored-token (c .before .before))) in omega (arith, going a .few)
@@ -141,22 +162,22 @@ stored c =
     let t = stored-token put in
     let s = token-scanned t in
     let a = asked s in
-    let few = put .before .before .before in
-    (omega (arith, put .put .kept, at-loop a .loop .inv .0), going-token (text a) (rows a) (n a) (at a) (going a) (more a) _ (kind t) (end t) (s .scan .result .literal) (omega (arith, going a .few, few .if2 .left)) (has-row few) (put .put .ensures) (token-here t))
+    let r = stored-row put in
+    (omega (arith, put .put .kept, at-loop a .loop .inv .0), going-token (text a) (rows a) (n a) (at a) (going a) (more a) _ (kind t) (end t) (s .scan .result .literal) (below (r .before)) (has-row r) (put .put .ensures) (token-here t))
 
 token-taken : tie.Need-loop-less-3 Inv-loop μ-loop
 token-taken c = let t = stored-token (c .before .before) in omega (arith, token-here t .ends)
 
 -- an octal numeral
 
-octal : tie.Need-returns-2 Inv-loop μ-loop
+octal : tie.Need-returns-3 Inv-loop μ-loop
 octal c =
     let s = c .before .before .before in
     let a = asked s in
     let found = here s _ (c .before .enum-told .given .1) in
     rw (c .octal-refused .ensures) (going-octal (text a) (rows a) (n a) (at a) (going a) (more a) _ _ (found .says .is), tt)
 
-octal-too-large : tie.Need-returns-3 Inv-loop μ-loop
+octal-too-large : tie.Need-returns-4 Inv-loop μ-loop
 octal-too-large c =
     let s = c .before .before .before in
     let a = asked s in
@@ -165,13 +186,13 @@ octal-too-large c =
 
 -- no token
 
-no-token : tie.Need-returns-4 Inv-loop μ-loop
+no-token : tie.Need-returns-5 Inv-loop μ-loop
 no-token c =
     let s = c .before .before in
     let a = asked s in
     (going-none (text a) (rows a) (n a) (at a) (going a) (more a) (literal s) (here s _ (c .enum-told3 .given .1)), tt)
 
-too-large : tie.Need-returns-5 Inv-loop μ-loop
+too-large : tie.Need-returns-6 Inv-loop μ-loop
 too-large c =
     let s = c .before .before in
     let a = asked s in
@@ -179,10 +200,10 @@ too-large c =
 
 -- the end
 
-all : tie.Need-returns-6 Inv-loop μ-loop
+all : tie.Need-returns-7 Inv-loop μ-loop
 all c =
     let loop = c .before .loop in
-    (going-end _ (loop .n) (loop .at) (loop .inv .1) (c .loop-test .left), going-cut _ (loop .n) (loop .at) (loop .inv .1))
+    (going-end _ (loop .n) (loop .at) (loop .inv .1) (c .loop-test .left), going-sound _ (loop .n) (loop .at) (loop .inv .1))
 
 pub tokenize-spec : {M : Type 1} → statement M
 tokenize-spec =
@@ -193,7 +214,7 @@ tokenize-spec =
     (λ c. (refl, going-start _))
     (λ c. search needs)
     (λ c κs. search needs)
-    (λ c. let a : Asked = c .before in omega (arith, more a, start a .pre .0))
+    (λ c. let a : Asked = c .before in omega (arith, more a, start a .pre))
     (λ c. let a : Asked = c .before in omega (arith, more a))
     past-blank
     (λ c κs. search needs)
@@ -203,6 +224,10 @@ tokenize-spec =
     (λ c. search needs)
     (λ c. search needs)
     too-many
+    (λ c. omega (arith, below c))
+    (λ c. omega (arith, below c))
+    (λ c. search needs)
+    no-row
     put-fits
     counted
     token-taken

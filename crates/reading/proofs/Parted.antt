@@ -23,7 +23,7 @@ use Rattle.parts.proofs.Stored.{each-same, each-length, each-all}
 use Rattle.resolving.specs.Resolved.{Resolves}
 use Rattle.reading.specs.declared.grown.Grown.{Grown}
 use Rattle.reading.specs.declared.grown.Grown.the-variants as R
-use Rattle.reading.specs.Grown.{CountedOn, Planted, ofTree, ofParts, RowRoom, Sown, Sows}
+use Rattle.reading.specs.Grown.{CountedOn, Planted, Told, Settled, ofTree, ofParts, RowRoom, Sown, Sows}
 use Rattle.reading.specs.Restricted.{Typed, Restricts}
 use Rattle.reading.specs.Parted.{Judgeable, Parted, Readies, PassedParts, RestrictsParts}
 
@@ -40,9 +40,6 @@ module _ (text tape : List ℕ) (count : ℕ) (on : CountedOn text tape count) (
 pub sown-told : (text nodes rows : List ℕ) (r : Grown) → Sows text nodes rows r → {m n : ℕ} → r ≡ R.Tree m n → RowRoom rows
     → Sown text nodes rows m n
 sown-told text nodes rows r told e = subst (Sows text nodes rows) e told
-
-pub none-ready : (text list nodes rows : List ℕ) (r : Grown) {n : ℕ} {p : Place} → r ≡ R.Refused n p → Readies text list nodes rows r
-none-ready text list nodes rows r e = subst (Readies text list nodes rows) (sym e) tt
 
 module _ (text list before nodes rows : List ℕ) (m n : ℕ) (marks : Resolves (keysIn list) text before nodes m) where
   same-part : (j : ℕ) → partAt text before rows j ≡ partAt text nodes rows j
@@ -88,10 +85,17 @@ module _ (text list nodes rows : List ℕ) (m n : ℕ) (t : Typed text list node
       }
 
 -- the answer of the parts, from that of the tree
-pub restricts-parts : (text list nodes rows : List ℕ) (r : Grown) → Restricts text list nodes (ofTree r) → Readies text list nodes rows r
-    → RowRoom rows → RestrictsParts text list nodes rows (ofParts r)
+
+pub restricts-parts : (text list nodes rows : List ℕ) (r : Grown) → Told (Restricts text list nodes) (ofTree r) → Readies text list nodes rows r
+    → RowRoom rows → Told (RestrictsParts text list nodes rows) (ofParts r)
 restricts-parts text list nodes rows (R.Tree k n) told ready lent = record { root = k; rooted = told; parted = ready lent }
 restricts-parts text list nodes rows (R.Refused n p) told ready lent = told
+restricts-parts text list nodes rows R.Over told ready lent = tt
+
+pub parts-settled : (r : Grown) → Settled (ofTree r) → Settled (ofParts r)
+parts-settled (R.Tree k n) settled = tt
+parts-settled (R.Refused n p) settled = tt
+parts-settled R.Over settled = settled
 
 -- what that tells
 module _ (text list nodes rows : List ℕ) (r : Counted) (told : RestrictsParts text list nodes rows r) where

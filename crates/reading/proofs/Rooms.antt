@@ -1,4 +1,4 @@
--- Lengths of slices that have room for a text.
+-- Slices that have room for what was cut from a text.
 use Prim.Native.Nat.{ℕ, _*_, _≤_}
 use native.Mathlib.Omega.{arith}
 use mathlib.Core.Path.{_≡_}
@@ -6,7 +6,9 @@ use mathlib.Core.List.{List}
 use lib.ListN.{length}
 use Rattle.paper.specs.Tokens.{mostTokens}
 use Rattle.tokens.specs.Tape.{rowWords}
-use Rattle.reading.specs.Grown.{Short, shortText}
+use Rattle.tokens.specs.declared.Cut.{Cut}
+use Rattle.tokens.specs.declared.Cut.the-variants as C
+use Rattle.reading.specs.Grown.{Room, ShortRoom, shortText, CutOn, CutFits}
 
 -- a slice of a length has room for a text: `Room`, by the length
 abbrev pub Enough : List ℕ → ℕ → Type 0
@@ -16,6 +18,15 @@ Enough text size = (n : ℕ) → n ≤ mostTokens → n ≤ length text → n * 
 pub room-for-all : (text : List ℕ) (size : ℕ) → size ≡ mostTokens * rowWords → Enough text size
 room-for-all text size e n few short = omega arith
 
--- and for as many as a short one can
-pub room-for-short : (text : List ℕ) (size : ℕ) → Short text → size ≡ shortText * rowWords → Enough text size
-room-for-short text size h e n few short = omega arith
+module _ (text tape nodes : List ℕ) where
+  -- nodes with room for the text have it for its tokens
+  pub all-fit : (r : Cut) → CutOn text tape r → Room text nodes → CutFits nodes r
+  all-fit (C.Counted n) on room = room n (on .placed .cut .few) (on .placed .cut .short)
+  all-fit (C.Refused k p) on room = tt
+  all-fit C.Over on room = tt
+
+  -- and so have as many nodes as the tape has rows
+  pub few-fit : length tape ≡ shortText * rowWords → (r : Cut) → CutOn text tape r → ShortRoom nodes → CutFits nodes r
+  few-fit size (C.Counted n) on room = omega (arith, on .placed .has)
+  few-fit size (C.Refused k p) on room = tt
+  few-fit size C.Over on room = tt

@@ -24,7 +24,13 @@ use Rattle.trees.specs.Marks.{Marked}
 use Rattle.trees.proofs.Marking.{same-tree}
 use Rattle.resolving.specs.Resolved.{Resolves}
 use Rattle.typing.specs.Known.{Known}
-use Rattle.reading.specs.Grown.{Planted, Grows}
+use Rattle.reading.specs.declared.grown.Grown.{Grown}
+use Rattle.reading.specs.declared.grown.Grown.the-variants as R
+use Rattle.reading.specs.declared.tried.Scratch.{Scratch}
+use Rattle.reading.specs.declared.tried.Scratch.the-variants as S
+use Rattle.reading.specs.declared.tried.Tried.{Tried}
+use Rattle.reading.specs.declared.tried.Tried.the-variants as T
+use Rattle.reading.specs.Grown.{Planted, Grows, Told, Settled, Settles, answerOf, ofTree}
 use Rattle.reading.specs.Restricted.{Typed, Rooted, Types, Restricts}
 
 -- a refusal of two stages is that of the stages after them too
@@ -33,23 +39,31 @@ refused-early : {A B : Type 0} (x : Answer A) (f : A → Answer (Unit {0})) (g :
 refused-early (ok a) f g e = ap (λ (y : Answer (Unit {0})). y >>= λ _. g a) e
 refused-early (refused m j to) f g e = cc
 
+-- where there is room no text is over: neither where there is an answer
+pub settles : (s : Scratch) (r : Counted) → Settles s (T.Answered r)
+settles S.Short r = tt
+settles S.Long r = tt
+
+-- nor where the reader says so
+pub still-over : (s : Scratch) (r : Grown) → r ≡ R.Over → Settles s (ofTree r) → Settles s T.Over
+still-over s r e h = subst (λ (x : Grown). Settles s (ofTree x)) e h
+
 -- 5 to 10; 11 to 14
 
-module _ (text nodes : List ℕ) (r : Counted) (grows : Grows text nodes r) where
-  pub planted : {m : ℕ} → r ≡ Count m → Planted text nodes m
-  planted e = subst (Grows text nodes) e grows
+module _ (text nodes : List ℕ) (r : Grown) (grows : Told (Grows text nodes) (ofTree r)) where
+  pub planted : {m n : ℕ} → r ≡ R.Tree m n → Planted text nodes m
+  planted e = subst (λ (x : Grown). Told (Grows text nodes) (ofTree x)) e grows
 
-  module _ (list : List ℕ) where
-    -- a refusal of the tree is one of its types
-    pub not-grown : {n : ℕ} {p : Place} → r ≡ Refused n p → Types text list nodes r
-    not-grown e =
-        subst (Types text list nodes) (sym e) (ap (λ (x : Answer G.Tree). x >>= typed (keysIn list)) (subst (Grows text nodes) e grows))
+  -- a refusal of the tree is one of its types
+  pub not-grown : (list : List ℕ) {n : ℕ} {p : Place} → r ≡ R.Refused n p → (tree text >>= typed (keysIn list)) ≡ refused n (inputOf p) (offsetOf p)
+  not-grown list e =
+      ap (λ (x : Answer G.Tree). x >>= typed (keysIn list)) (subst (λ (x : Grown). Told (Grows text nodes) (ofTree x)) e grows)
 
 -- marks change no tree
 pub still-planted : (text list before nodes : List ℕ) (m : ℕ) → Resolves (keysIn list) text before nodes m → Planted text before m → Planted text nodes m
 still-planted text list before nodes m marks p =
     let same = same-tree text before nodes (marks .keeps .nodes) (marks .keeps .leaves) (marks .keeps .places) (m - 1) in
-    record { read = rw same (p .read); count = rw same (p .count); some = p .some; few = p .few; short = p .short }
+    record { read = rw same (p .read); count = rw same (p .count); some = p .some; few = p .few; short = p .short; has = omega (arith, marks .keeps .size, p .has) }
 
 module _ (text list nodes : List ℕ) (m : ℕ) (p : Planted text nodes m) (c : Checking)
     (says : checkingSays c ≡ typed (keysIn list) (treeAt text nodes (m - 1)))
@@ -65,6 +79,7 @@ module _ (text list nodes : List ℕ) (m : ℕ) (p : Planted text nodes m) (c : 
           count = omega (arith, p .count, p .some);
           few = omega (arith, p .few, p .some);
           short = omega (arith, p .short, p .some);
+          has = omega (arith, p .has, p .some);
           marked = marked;
         }
 
@@ -89,15 +104,21 @@ module _ (text list : List ℕ) where
         pub good : keys list ≡ ok (keysIn list)
         good = K.listed list (sym says ∙ ap countedSays e) .0
 
-        pub restricts : (nodes : List ℕ) (r : Counted) → Types text list nodes r
-            → Restricts text list nodes r
-        restricts nodes (Count k) t =
+        pub restricts : (nodes : List ℕ) (r : Tried) → Told (Types text list nodes) r
+            → Told (Restricts text list nodes) r
+        restricts nodes T.Over t = tt
+        restricts nodes (T.Answered (Count k)) t =
             record {
               passed = short ∙ rw (good, t .read, t .checked);
               listed = good;
               typed = t;
             }
-        restricts nodes (Refused m p) t = short ∙ rw good (refused-early (tree text) (typed (keysIn list)) _ t)
+        restricts nodes (T.Answered (Refused m p)) t = short ∙ rw good (refused-early (tree text) (typed (keysIn list)) _ t)
+
+-- what is told of an answer that is there
+pub told : (Says : Counted → Type 0) (r : Tried) → Settled r → Told Says r → Says (answerOf r)
+told Says (T.Answered r) settled t = t
+told Says T.Over settled t = absurd settled
 
 -- what the answer tells
 module _ (text list nodes : List ℕ) (r : Counted) (told : Restricts text list nodes r) where

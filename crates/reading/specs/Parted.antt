@@ -36,6 +36,7 @@ pub record Parted (text list nodes rows : List ℕ) (n : ℕ) : Type 0 where
 abbrev pub Readies : List ℕ → List ℕ → List ℕ → List ℕ → Grown → Type 0
 Readies text list nodes rows (R.Tree k n) = RowRoom rows → Parted text list nodes rows n
 Readies text list nodes rows (R.Refused n p) = Unit {0}
+Readies text list nodes rows R.Over = Unit {0}
 
 -- text and list pass too
 pub record PassedParts (text list nodes rows : List ℕ) (n : ℕ) : Type 0 where

@@ -1,5 +1,5 @@
 -- What `restrict` answers, read with the nodes as it leaves them.
-use Prim.Native.Nat.{ℕ, _+_, _<_}
+use Prim.Native.Nat.{ℕ, _+_, _*_, _≤_, _<_}
 use mathlib.Core.Path.{_≡_}
 use mathlib.Core.List.{List}
 use lib.ListN.{length}
@@ -22,6 +22,7 @@ pub record Typed (text list nodes : List ℕ) (k : ℕ) : Type 0 where
   pub count : G.nodes (treeAt text nodes k) ≡ k + 1
   pub few : k < mostTokens
   pub short : k < length text
+  pub has : k * 8 + 8 ≤ length nodes
   pub marked : Marked (keysIn list) text nodes (k + 1)
 
 -- and text and list pass

@@ -10,14 +10,16 @@
 //
 // `restrict_parts` gives the same refusals, or how many parts the text has. They are found while the tokens still stand on the tape, and
 // stored in rows (crate parts); the trees at their roots can be judged one by one. A reader that is lent no rows looks for no parts.
-ghost use Prim.Native.Nat.{_≤_};
+ghost use Prim.Native.Nat.{_*_, _≤_};
 ghost use lib.ListN.{length};
 ghost use Rattle.paper.specs.Tokens.{mostText};
 ghost use Rattle.parts.specs.Found.{Taped, Noded, Finds};
-ghost use Rattle.reading.specs.Grown.{Room, Short, CutOn, CountedOn, ofTree, Grows, RowRoom, Sows};
+ghost use Rattle.reading.specs.Grown.{Room, ShortRoom, RoomFor, CutOn, CutFits, CountedOn, Told, Settled, Settles, ofTree, Grows, RowRoom, Sows};
 ghost use Rattle.reading.specs.Restricted.{Types, Restricts};
 ghost use Rattle.reading.specs.Parted.{Readies, RestrictsParts};
+ghost use Rattle.reading.specs.Tried.{TriesTree, Tries, TriesParts};
 use crate::grown::Grown;
+use crate::tried::Scratch;
 use paper::Checking;
 use paper::Counted;
 use paper::Place;
@@ -28,6 +30,9 @@ use tokens::rows::Row;
 use trees::Node;
 
 mod grown;
+mod tried;
+
+pub use tried::Tried;
 
 // No text is longer: document 01's refusal 1, which is given before a text comes here.
 pub const MOST_TEXT: usize = 4096;
@@ -40,6 +45,10 @@ pub const NODE_WORDS: usize = Node::WORDS * MOST_NODES;
 
 // A text of at most so many bytes is short. It has no more tokens than bytes, so that small scratch is enough for it.
 pub const SHORT_TEXT: usize = 256;
+
+// A text of at most so many bytes, six for each token that there is then room for, is tried with small scratch. One that turns out to have more
+// tokens is cut twice.
+pub const TRIED_TEXT: usize = 6 * SHORT_TEXT;
 
 // The words of its nodes.
 pub const SHORT_NODE_WORDS: usize = Node::WORDS * SHORT_TEXT;
@@ -62,9 +71,8 @@ fn find_parts(tape: &[u32], count: usize, nodes: &[u32], root: usize, rows: &mut
 // The number of nodes, of which the last is the root, and the parts; or a refusal. Of tokens that are counted.
 fn plant(text: &[u8], tape: &[u32], count: usize, nodes: &mut [u32], rows: &mut [u32]) -> Grown
     requires { ⌜ CountedOn (now text) (now tape) count ⌝ }
-    requires { ⌜ Room (now text) (now tape) ⌝ }
-    requires { ⌜ Room (now text) (now nodes) ⌝ }
-    ensures { λ r. ⌜ Grows (now (text .entry)) (now (nodes .exit)) (ofTree r) ⌝ }
+    requires { ⌜ count * 8 ≤ length (now nodes) ⌝ }
+    ensures { λ r. ⌜ Settled (ofTree r) × Told (Grows (now (text .entry)) (now (nodes .exit))) (ofTree r) ⌝ }
     ensures { λ r. ⌜ Sows (now (text .entry)) (now (nodes .exit)) (now (rows .exit)) r ⌝ }
 {
     let parsed = grammar::parse(text, tape, count, nodes);
@@ -80,15 +88,13 @@ fn plant(text: &[u8], tape: &[u32], count: usize, nodes: &mut [u32], rows: &mut 
 // The same of what was cut from the text, which stands on a tape that is lent.
 fn grow(text: &[u8], tape: &[u32], tokenized: Cut, nodes: &mut [u32], rows: &mut [u32]) -> Grown
     requires { ⌜ CutOn (now text) (now tape) tokenized ⌝ }
-    requires { ⌜ Room (now text) (now tape) ⌝ }
-    requires { ⌜ Room (now text) (now nodes) ⌝ }
-    ensures { λ r. ⌜ Grows (now (text .entry)) (now (nodes .exit)) (ofTree r) ⌝ }
+    requires { ⌜ CutFits (now nodes) tokenized ⌝ }
+    ensures { λ r. ⌜ (Room (now (text .entry)) (now (tape .entry)) → Settled (ofTree r)) × Told (Grows (now (text .entry)) (now (nodes .exit))) (ofTree r) ⌝ }
     ensures { λ r. ⌜ Sows (now (text .entry)) (now (nodes .exit)) (now (rows .exit)) r ⌝ }
 {
     match tokenized {
         Cut::Refused(number, place) => Grown::Refused(number, place),
-        // The tape has room, so this is never so.
-        Cut::Over => Grown::Refused(refused::TOKENS_MANY, Place::Text(0)),
+        Cut::Over => Grown::Over,
         Cut::Counted(count) => plant(text, tape, count, nodes, rows),
     }
 }
@@ -97,9 +103,9 @@ fn grow(text: &[u8], tape: &[u32], tokenized: Cut, nodes: &mut [u32], rows: &mut
 // that no walk over the tree has a tape under it.
 
 fn read_short(text: &[u8], nodes: &mut [u32], rows: &mut [u32]) -> Grown
-    requires { ⌜ Short (now text) ⌝ }
-    requires { ⌜ Room (now text) (now nodes) ⌝ }
-    ensures { λ r. ⌜ Grows (now (text .entry)) (now (nodes .exit)) (ofTree r) ⌝ }
+    requires { ⌜ length (now text) ≤ mostText ⌝ }
+    requires { ⌜ ShortRoom (now nodes) ⌝ }
+    ensures { λ r. ⌜ Told (Grows (now (text .entry)) (now (nodes .exit))) (ofTree r) ⌝ }
     ensures { λ r. ⌜ Sows (now (text .entry)) (now (nodes .exit)) (now (rows .exit)) r ⌝ }
 {
     let mut tape = [0u32; Row::WORDS * SHORT_TEXT];
@@ -110,7 +116,7 @@ fn read_short(text: &[u8], nodes: &mut [u32], rows: &mut [u32]) -> Grown
 fn read_long(text: &[u8], nodes: &mut [u32], rows: &mut [u32]) -> Grown
     requires { ⌜ length (now text) ≤ mostText ⌝ }
     requires { ⌜ Room (now text) (now nodes) ⌝ }
-    ensures { λ r. ⌜ Grows (now (text .entry)) (now (nodes .exit)) (ofTree r) ⌝ }
+    ensures { λ r. ⌜ Settled (ofTree r) × Told (Grows (now (text .entry)) (now (nodes .exit))) (ofTree r) ⌝ }
     ensures { λ r. ⌜ Sows (now (text .entry)) (now (nodes .exit)) (now (rows .exit)) r ⌝ }
 {
     let mut tape = [0u32; Row::WORDS * MOST_TOKENS];
@@ -118,16 +124,68 @@ fn read_long(text: &[u8], nodes: &mut [u32], rows: &mut [u32]) -> Grown
     grow(text, &tape, tokenized, nodes, rows)
 }
 
-fn read_parts(text: &[u8], nodes: &mut [u32], rows: &mut [u32]) -> Grown
+fn read_parts(text: &[u8], scratch: Scratch, nodes: &mut [u32], rows: &mut [u32]) -> Grown
     requires { ⌜ length (now text) ≤ mostText ⌝ }
-    requires { ⌜ Room (now text) (now nodes) ⌝ }
-    ensures { λ r. ⌜ Grows (now (text .entry)) (now (nodes .exit)) (ofTree r) ⌝ }
+    requires { ⌜ RoomFor scratch (now text) (now nodes) ⌝ }
+    ensures { λ r. ⌜ Settles scratch (ofTree r) × Told (Grows (now (text .entry)) (now (nodes .exit))) (ofTree r) ⌝ }
     ensures { λ r. ⌜ Sows (now (text .entry)) (now (nodes .exit)) (now (rows .exit)) r ⌝ }
 {
-    if text.len() <= SHORT_TEXT {
-        return read_short(text, nodes, rows);
+    match scratch {
+        Scratch::Short => read_short(text, nodes, rows),
+        Scratch::Long => read_long(text, nodes, rows),
     }
-    read_long(text, nodes, rows)
+}
+
+// Of a text that is not too long and a list that is good: 5 to 10; 11 to 14. Names are resolved in between. The tree's number is its root's.
+fn typed_root(
+    text: &[u8],
+    list: &[u8],
+    scratch: Scratch,
+    nodes: &mut [u32],
+    rows: &mut [u32],
+) -> Grown
+    requires { ⌜ length (now text) ≤ mostText ⌝ }
+    requires { ⌜ length (now list) ≤ 2560 ⌝ }
+    requires { ⌜ RoomFor scratch (now text) (now nodes) ⌝ }
+    ensures { λ r. ⌜ Settles scratch (ofTree r) × Told (Types (now (text .entry)) (now (list .entry)) (now (nodes .exit))) (ofTree r) ⌝ }
+    ensures { λ r. ⌜ Readies (now (text .entry)) (now (list .entry)) (now (nodes .exit)) (now (rows .exit)) r ⌝ }
+{
+    let grown = read_parts(text, scratch, nodes, rows);
+    match grown {
+        Grown::Over => Grown::Over,
+        Grown::Refused(number, place) => Grown::Refused(number, place),
+        Grown::Tree(size, found) => {
+            resolving::resolve(text, list, nodes, size);
+            let root = size - 1;
+            let checked = typing::check_types(list, nodes, root);
+            match checked {
+                Checking::Refused(number, place) => Grown::Refused(number, place),
+                Checking::Passed => Grown::Tree(root, found),
+            }
+        }
+    }
+}
+
+// The root of a text that is good for the keys of a list, and its parts; or the first refusal of the two.
+fn restrict_both(
+    text: &[u8],
+    list: &[u8],
+    scratch: Scratch,
+    nodes: &mut [u32],
+    rows: &mut [u32],
+) -> Grown
+    requires { ⌜ RoomFor scratch (now text) (now nodes) ⌝ }
+    ensures { λ r. ⌜ Settles scratch (ofTree r) × Told (Restricts (now (text .entry)) (now (list .entry)) (now (nodes .exit))) (ofTree r) ⌝ }
+    ensures { λ r. ⌜ Readies (now (text .entry)) (now (list .entry)) (now (nodes .exit)) (now (rows .exit)) r ⌝ }
+{
+    if MOST_TEXT < text.len() {
+        return Grown::Refused(refused::TEXT_TOO_LONG, Place::Text(MOST_TEXT));
+    }
+    let listed = keys::check_list(list);
+    match listed {
+        Counted::Refused(number, place) => Grown::Refused(number, place),
+        Counted::Count(_) => typed_root(text, list, scratch, nodes, rows),
+    }
 }
 
 // The number of nodes, of which the last is the root; or a refusal.
@@ -137,45 +195,8 @@ pub fn read_tree(text: &[u8], nodes: &mut [u32]) -> Counted
     ensures { λ r. ⌜ Grows (now (text .entry)) (now (nodes .exit)) r ⌝ }
 {
     let mut none = [0u32; 0];
-    let grown = read_parts(text, nodes, &mut none);
-    grown.of_tree()
-}
-
-// Of a text that is not too long and a list that is good: 5 to 10; 11 to 14. Names are resolved in between. The tree's number is its root's.
-fn typed_root(text: &[u8], list: &[u8], nodes: &mut [u32], rows: &mut [u32]) -> Grown
-    requires { ⌜ length (now text) ≤ mostText ⌝ }
-    requires { ⌜ length (now list) ≤ 2560 ⌝ }
-    requires { ⌜ Room (now text) (now nodes) ⌝ }
-    ensures { λ r. ⌜ Types (now (text .entry)) (now (list .entry)) (now (nodes .exit)) (ofTree r) ⌝ }
-    ensures { λ r. ⌜ Readies (now (text .entry)) (now (list .entry)) (now (nodes .exit)) (now (rows .exit)) r ⌝ }
-{
-    let grown = read_parts(text, nodes, rows);
-    let Grown::Tree(size, found) = grown else {
-        return grown;
-    };
-    resolving::resolve(text, list, nodes, size);
-    let root = size - 1;
-    let checked = typing::check_types(list, nodes, root);
-    match checked {
-        Checking::Refused(number, place) => Grown::Refused(number, place),
-        Checking::Passed => Grown::Tree(root, found),
-    }
-}
-
-// The root of a text that is good for the keys of a list, and its parts; or the first refusal of the two.
-fn restrict_both(text: &[u8], list: &[u8], nodes: &mut [u32], rows: &mut [u32]) -> Grown
-    requires { ⌜ Room (now text) (now nodes) ⌝ }
-    ensures { λ r. ⌜ Restricts (now (text .entry)) (now (list .entry)) (now (nodes .exit)) (ofTree r) ⌝ }
-    ensures { λ r. ⌜ Readies (now (text .entry)) (now (list .entry)) (now (nodes .exit)) (now (rows .exit)) r ⌝ }
-{
-    if MOST_TEXT < text.len() {
-        return Grown::Refused(refused::TEXT_TOO_LONG, Place::Text(MOST_TEXT));
-    }
-    let listed = keys::check_list(list);
-    match listed {
-        Counted::Refused(number, place) => Grown::Refused(number, place),
-        Counted::Count(_) => typed_root(text, list, nodes, rows),
-    }
+    let grown = read_parts(text, Scratch::Long, nodes, &mut none);
+    grown.of_tree().answer()
 }
 
 // The number of the root of a text that is good for the keys of a list, or the first refusal of the two.
@@ -184,8 +205,8 @@ pub fn restrict(text: &[u8], list: &[u8], nodes: &mut [u32]) -> Counted
     ensures { λ r. ⌜ Restricts (now (text .entry)) (now (list .entry)) (now (nodes .exit)) r ⌝ }
 {
     let mut none = [0u32; 0];
-    let restricted = restrict_both(text, list, nodes, &mut none);
-    restricted.of_tree()
+    let restricted = restrict_both(text, list, Scratch::Long, nodes, &mut none);
+    restricted.of_tree().answer()
 }
 
 // The number of parts of a text that is good for the keys of a list, each of which is stored in a row; or the first refusal of the two.
@@ -194,6 +215,49 @@ pub fn restrict_parts(text: &[u8], list: &[u8], nodes: &mut [u32], rows: &mut [u
     requires { ⌜ RowRoom (now rows) ⌝ }
     ensures { λ r. ⌜ RestrictsParts (now (text .entry)) (now (list .entry)) (now (nodes .exit)) (now (rows .exit)) r ⌝ }
 {
-    let restricted = restrict_both(text, list, nodes, rows);
+    let restricted = restrict_both(text, list, Scratch::Long, nodes, rows);
+    restricted.of_parts().answer()
+}
+
+// The same calls with nodes for a short text, whatever the text is: most texts have few tokens, and a call that needs no more room has less to
+// clear.
+
+// As `read_tree`, or over.
+pub fn try_tree(text: &[u8], nodes: &mut [u32]) -> Tried
+    requires { ⌜ length (now text) ≤ mostText ⌝ }
+    requires { ⌜ ShortRoom (now nodes) ⌝ }
+    ensures { λ r. ⌜ TriesTree (now (text .entry)) (now (nodes .exit)) r ⌝ }
+{
+    if TRIED_TEXT < text.len() {
+        return Tried::Over;
+    }
+    let mut none = [0u32; 0];
+    let grown = read_parts(text, Scratch::Short, nodes, &mut none);
+    grown.of_tree()
+}
+
+// As `restrict`, or over.
+pub fn try_restrict(text: &[u8], list: &[u8], nodes: &mut [u32]) -> Tried
+    requires { ⌜ ShortRoom (now nodes) ⌝ }
+    ensures { λ r. ⌜ Tries (now (text .entry)) (now (list .entry)) (now (nodes .exit)) r ⌝ }
+{
+    if TRIED_TEXT < text.len() {
+        return Tried::Over;
+    }
+    let mut none = [0u32; 0];
+    let restricted = restrict_both(text, list, Scratch::Short, nodes, &mut none);
+    restricted.of_tree()
+}
+
+// As `restrict_parts`, or over.
+pub fn try_parts(text: &[u8], list: &[u8], nodes: &mut [u32], rows: &mut [u32]) -> Tried
+    requires { ⌜ ShortRoom (now nodes) ⌝ }
+    requires { ⌜ RowRoom (now rows) ⌝ }
+    ensures { λ r. ⌜ TriesParts (now (text .entry)) (now (list .entry)) (now (nodes .exit)) (now (rows .exit)) r ⌝ }
+{
+    if TRIED_TEXT < text.len() {
+        return Tried::Over;
+    }
+    let restricted = restrict_both(text, list, Scratch::Short, nodes, rows);
     restricted.of_parts()
 }

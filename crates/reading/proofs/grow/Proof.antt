@@ -1,7 +1,7 @@
--- `reading::grow` meets its contract: the refusal of the tokens, or the answer of `plant`. A tape with room is not too small (`not-over`).
+-- `reading::grow` meets its contract: the refusal of the tokens, or the answer of `plant`. A tape that is too small has no room (`not-over`).
 use native.Mathlib.Omega.{arith}
 use borrow.Author.Needs.{needs}
-use Rattle.reading.proofs.Planted.{not-cut, not-over, counted}
+use Rattle.reading.proofs.Planted.{not-cut, not-over, counted, fits}
 use Rattle.reading.proofs.grow.Statement.{statement}
 use Rattle.reading.proofs.grow.Tie as tie
 
@@ -20,17 +20,17 @@ tokens-counted : tie.Need-plant-requires
 tokens-counted c κs =
     let told : tie.After-tokenized2 = c .before .before .before in
     let s = counted-start told in
-    (counted _ _ (s .args .tokenized) (s .pre .0) (told .tokenized2 .given .1), s .pre .1)
+    (counted _ _ (s .args .tokenized) (s .pre .0) (told .tokenized2 .given .1), fits _ _ (s .args .tokenized) (s .pre .0) _ (s .pre .1) (told .tokenized2 .given .1))
 
 no-tokens : tie.Need-returns
 no-tokens c =
     let s = refused-start (c .before) in
-    (not-cut _ _ (s .args .tokenized) (s .pre .0) (c .before .tokenized .given .1), tt)
+    ((λ room. tt, not-cut _ _ (s .args .tokenized) (s .pre .0) (c .before .tokenized .given .1)), tt)
 
-never-over : tie.Need-returns-2
-never-over c =
+too-small : tie.Need-returns-2
+too-small c =
     let s = over-start c in
-    absurd (not-over _ _ (s .args .tokenized) (s .pre .0) (s .pre .1 .0) (c .enum-told .given .1))
+    ((λ room. not-over _ _ (s .args .tokenized) (s .pre .0) room (c .enum-told .given .1), tt), tt)
 
 -- where `plant` has answered
 abbrev planted-at : tie.After-slice-known4 → tie.After-plant
@@ -45,7 +45,7 @@ grow-spec =
     (λ c. search needs)
     tokens-counted
     no-tokens
-    never-over
+    too-small
     (λ c. omega (arith, planted-at c .plant .kept))
     (λ c. omega (arith, planted-at c .plant .kept))
-    (λ c. planted-at c .plant .ensures))
+    (λ c. let t = planted-at c .plant .ensures in ((λ room. t .0 .0, t .0 .1), t .1)))

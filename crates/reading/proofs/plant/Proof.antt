@@ -2,7 +2,7 @@
 -- which the rows hold where they have room (`sown`).
 use native.Mathlib.Omega.{arith}
 use borrow.Author.Needs.{needs}
-use Rattle.reading.proofs.Planted.{sound, nodes-fit, tree-read, tree-refused}
+use Rattle.reading.proofs.Planted.{sound, tree-read, tree-refused}
 use Rattle.reading.proofs.Parted.{sown}
 use Rattle.reading.proofs.plant.Statement.{statement}
 use Rattle.reading.proofs.plant.Tie as tie
@@ -14,7 +14,7 @@ given c = c .before .before .before .before .before
 tokens-sound : tie.Need-parse-requires
 tokens-sound c κs =
     let s = given c in
-    (sound _ _ _ (s .pre .0), nodes-fit _ _ _ (s .pre .0) (s .args .nodes .now) (s .pre .1 .1))
+    (sound _ _ _ (s .pre .0), s .pre .1)
 
 -- where it has answered
 abbrev start : tie.After-parse → tie.Start
@@ -27,7 +27,7 @@ refused-at c = c .before .before .before .before .before
 no-sentence : tie.Need-returns
 no-sentence c =
     let at-parse = refused-at c in
-    (tree-refused _ _ _ (start at-parse .pre .0) _ _ (at-parse .parse .result) (at-parse .parse .ensures) (c .before .parsed .given .1), tt)
+    ((tt, tree-refused _ _ _ (start at-parse .pre .0) _ _ (at-parse .parse .result) (at-parse .parse .ensures) (c .before .parsed .given .1)), tt)
 
 -- where it is a tree
 abbrev parsed-at : tie.After-known-told2 → tie.After-parse
@@ -37,19 +37,19 @@ some-node : tie.Need-sub-find-parts
 some-node c =
     let at-parse = parsed-at (c .before) in
     let s = start at-parse in
-    let p = tree-read _ _ _ (s .pre .0) _ _ (at-parse .parse .result) (at-parse .parse .ensures) (c .before .before .parsed2 .given .1) (s .pre .1 .1) in
+    let p = tree-read _ _ _ (s .pre .0) _ _ (at-parse .parse .result) (at-parse .parse .ensures) (c .before .before .parsed2 .given .1) (s .pre .1) in
     p .some
 
 stands : tie.Need-find-parts-requires
 stands c κs =
     let at-parse = parsed-at (c .before .before) in
     let s = start at-parse in
-    let p = tree-read _ _ _ (s .pre .0) _ _ (at-parse .parse .result) (at-parse .parse .ensures) (c .before .before .before .parsed2 .given .1) (s .pre .1 .1) in
+    let p = tree-read _ _ _ (s .pre .0) _ _ (at-parse .parse .result) (at-parse .parse .ensures) (c .before .before .before .parsed2 .given .1) (s .pre .1) in
     let on = s .pre .0 .placed in (
       record { few = on .cut .few; has = on .has },
       record {
         few = omega (arith, p .few, p .some);
-        has = omega (arith, at-parse .parse .kept, s .pre .1 .1 _ (p .few) (p .short), p .some);
+        has = omega (arith, p .has, p .some);
       },
     )
 
@@ -66,8 +66,8 @@ planted c =
     let told = told-at found in
     let at-parse = parsed-at told in
     let s = start at-parse in
-    let p = tree-read _ _ _ (s .pre .0) _ _ (at-parse .parse .result) (at-parse .parse .ensures) (told .before .parsed2 .given .1) (s .pre .1 .1) in
-    (p, λ lent. sown _ _ _ (s .pre .0) _ _ p _ _ (found .find-parts .ensures lent))
+    let p = tree-read _ _ _ (s .pre .0) _ _ (at-parse .parse .result) (at-parse .parse .ensures) (told .before .parsed2 .given .1) (s .pre .1) in
+    ((tt, p), λ lent. sown _ _ _ (s .pre .0) _ _ p _ _ (found .find-parts .ensures lent))
 
 pub plant-spec : {M : Type 1} → statement M
 plant-spec =

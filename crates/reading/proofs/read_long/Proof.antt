@@ -1,7 +1,8 @@
--- `reading::read_long` meets its contract: its tape has as many rows as a text has tokens at most.
+-- `reading::read_long` meets its contract: its tape has as many rows as a text has tokens at most, so that it is not too small (`room-for-all`).
 use native.Mathlib.Omega.{arith}
 use borrow.Author.Needs.{needs}
-use Rattle.reading.proofs.Rooms.{room-for-all}
+use Rattle.reading.specs.Grown.{CutOn}
+use Rattle.reading.proofs.Rooms.{room-for-all, all-fit}
 use Rattle.reading.proofs.read_long.Statement.{statement}
 use Rattle.reading.proofs.read_long.Tie as tie
 
@@ -10,11 +11,26 @@ cut-there : tie.Need-grow-requires
 cut-there c κs =
     let cut : tie.After-tokenize = c .before .before .before .before in
     let s : tie.Start = cut .before .before .before .before .before in
-    (record { says = cut .tokenize .ensures .0; placed = cut .tokenize .ensures .1 }, (room-for-all (s .args .text .now) _ (cut .tokenize .kept .1 .0), s .pre .1))
+    let on : CutOn (s .args .text .now) _ (cut .tokenize .result) = record { says = cut .tokenize .ensures .0; placed = cut .tokenize .ensures .1 } in
+    (on, all-fit (s .args .text .now) _ (s .args .nodes .now) (cut .tokenize .result) on (s .pre .1))
 
 -- where `grow` has answered
 abbrev grown-at : tie.After-slice-known4 → tie.After-grow
 grown-at c = c .before .before .before .before
+
+-- and from there where the text was cut, and what the function was given
+
+abbrev cut-at : tie.After-grow → tie.After-tokenize
+cut-at c = c .before .before .before .before .before
+
+abbrev start : tie.After-tokenize → tie.Start
+start c = c .before .before .before .before .before
+
+read : tie.Need-returns
+read c =
+    let t = grown-at c .grow .ensures in
+    let cut = cut-at (grown-at c) in
+    ((t .0 .0 (room-for-all (start cut .args .text .now) _ (cut .tokenize .kept .1 .0)), t .0 .1), t .1)
 
 pub read-long-spec : {M : Type 1} → statement M
 read-long-spec =
@@ -26,4 +42,4 @@ read-long-spec =
     cut-there
     (λ c. omega (arith, grown-at c .grow .kept))
     (λ c. omega (arith, grown-at c .grow .kept))
-    (λ c. grown-at c .grow .ensures))
+    read)

@@ -1,7 +1,8 @@
--- `reading::read_short` meets its contract: its tape has as many rows as a short text has bytes.
+-- `reading::read_short` meets its contract: there are as many nodes as its tape has rows (`few-fit`).
 use native.Mathlib.Omega.{arith}
 use borrow.Author.Needs.{needs}
-use Rattle.reading.proofs.Rooms.{room-for-short}
+use Rattle.reading.specs.Grown.{CutOn}
+use Rattle.reading.proofs.Rooms.{few-fit}
 use Rattle.reading.proofs.read_short.Statement.{statement}
 use Rattle.reading.proofs.read_short.Tie as tie
 
@@ -10,7 +11,8 @@ cut-there : tie.Need-grow-requires
 cut-there c κs =
     let cut : tie.After-tokenize = c .before .before .before .before in
     let s : tie.Start = cut .before .before .before .before .before in
-    (record { says = cut .tokenize .ensures .0; placed = cut .tokenize .ensures .1 }, (room-for-short (s .args .text .now) _ (s .pre .0) (cut .tokenize .kept .1 .0), s .pre .1))
+    let on : CutOn (s .args .text .now) _ (cut .tokenize .result) = record { says = cut .tokenize .ensures .0; placed = cut .tokenize .ensures .1 } in
+    (on, few-fit (s .args .text .now) _ (s .args .nodes .now) (cut .tokenize .kept .1 .0) (cut .tokenize .result) on (s .pre .1))
 
 -- where `grow` has answered
 abbrev grown-at : tie.After-slice-known4 → tie.After-grow
@@ -26,4 +28,4 @@ read-short-spec =
     cut-there
     (λ c. omega (arith, grown-at c .grow .kept))
     (λ c. omega (arith, grown-at c .grow .kept))
-    (λ c. grown-at c .grow .ensures))
+    (λ c. (grown-at c .grow .ensures .0 .1, grown-at c .grow .ensures .1)))

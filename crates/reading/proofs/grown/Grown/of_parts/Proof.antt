@@ -11,5 +11,7 @@ of-parts-spec =
     (tie.spec
     (λ c. search needs)
     (λ c. search needs)
+    (λ c. search needs)
     (λ c. sym (ap ofParts (c .before .self .given .1)))
-    (λ c. sym (ap ofParts (c .before .self2 .given .1))))
+    (λ c. sym (ap ofParts (c .before .self2 .given .1)))
+    (λ c. sym (ap ofParts (c .enum-told .given .1))))

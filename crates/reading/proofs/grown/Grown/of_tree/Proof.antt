@@ -11,5 +11,7 @@ of-tree-spec =
     (tie.spec
     (λ c. search needs)
     (λ c. search needs)
+    (λ c. search needs)
     (λ c. sym (ap ofTree (c .before .self .given .1)))
-    (λ c. sym (ap ofTree (c .before .self2 .given .1))))
+    (λ c. sym (ap ofTree (c .before .self2 .given .1)))
+    (λ c. sym (ap ofTree (c .enum-told .given .1))))

@@ -11,4 +11,5 @@ mod Summaries
 mod Tallies
 mod Texts
 mod Translates
+mod Tries
 mod Verdicts

@@ -6,11 +6,11 @@ ghost use lib.ListN.{length};
 ghost use Rattle.paper.specs.Answers.{ok, judgementSays};
 ghost use Rattle.paper.specs.Promised.{JudgePromised};
 ghost use Rattle.operands.specs.Conforming.{Conforming};
-ghost use Rattle.reading.specs.Grown.{Room, Short};
-ghost use Rattle.reading.specs.Restricted.{Rooted};
+ghost use Rattle.reading.specs.Restricted.{Rooted, Restricts};
 use paper::Checking;
 use paper::Counted;
 use paper::Judgement;
+use reading::Tried;
 
 pub(crate) fn verdict(accepted: bool) -> Judgement
     ensures { λ r. ⌜ judgementSays r ≡ ok accepted ⌝ }
@@ -43,39 +43,33 @@ fn judge_by(list: &[u8], entry: &[u8], nodes: &[u32], root: usize) -> Judgement
     }
 }
 
-// By nodes that are lent.
-fn judge_in(text: &[u8], list: &[u8], entry: &[u8], nodes: &mut [u32]) -> Judgement
-    requires { ⌜ Room (now text) (now nodes) ⌝ }
-    ensures { λ r. ⌜ JudgePromised (now (text .entry)) (now (list .entry)) (now (entry .entry)) r ⌝ }
+// By what was answered of text and list, with the tree in nodes that are lent.
+fn judge_told(list: &[u8], entry: &[u8], nodes: &[u32], restricted: Counted) -> Judgement
+    requires { ⌜ ((text : List ℕ) × Restricts text (now list) (now nodes) restricted) ⌝ }
+    ensures { λ r. ⌜ ((text : List ℕ) → Restricts text (now (list .entry)) (now (nodes .entry)) restricted → JudgePromised text (now (list .entry)) (now (entry .entry)) r) ⌝ }
 {
-    let restricted = reading::restrict(text, list, nodes);
     match restricted {
         Counted::Refused(number, place) => Judgement::Refused(number, place),
         Counted::Count(root) => judge_by(list, entry, nodes, root),
     }
 }
 
-fn judge_short(text: &[u8], list: &[u8], entry: &[u8]) -> Judgement
-    requires { ⌜ Short (now text) ⌝ }
-    ensures { λ r. ⌜ JudgePromised (now (text .entry)) (now (list .entry)) (now (entry .entry)) r ⌝ }
-{
-    let mut nodes = [0u32; reading::SHORT_NODE_WORDS];
-    judge_in(text, list, entry, &mut nodes)
-}
-
 fn judge_long(text: &[u8], list: &[u8], entry: &[u8]) -> Judgement
     ensures { λ r. ⌜ JudgePromised (now (text .entry)) (now (list .entry)) (now (entry .entry)) r ⌝ }
 {
     let mut nodes = [0u32; reading::NODE_WORDS];
-    judge_in(text, list, entry, &mut nodes)
+    let restricted = reading::restrict(text, list, &mut nodes);
+    judge_told(list, entry, &nodes, restricted)
 }
 
 // What the text says of an entry.
 pub fn judge(text: &[u8], list: &[u8], entry: &[u8]) -> Judgement
     ensures { λ r. ⌜ JudgePromised (now (text .entry)) (now (list .entry)) (now (entry .entry)) r ⌝ }
 {
-    if text.len() <= reading::SHORT_TEXT {
-        return judge_short(text, list, entry);
-    }
-    judge_long(text, list, entry)
+    let mut nodes = [0u32; reading::SHORT_NODE_WORDS];
+    let tried = reading::try_restrict(text, list, &mut nodes);
+    let Tried::Answered(restricted) = tried else {
+        return judge_long(text, list, entry);
+    };
+    judge_told(list, entry, &nodes, restricted)
 }

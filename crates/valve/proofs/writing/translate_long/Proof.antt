@@ -1,43 +1,27 @@
--- `valve::translate_long` meets its contract: the refusal of `restrict`, which leaves the buffer, or the translation by the root that it gives
--- (`translate_by`).
-use native.Mathlib.Omega.{arith}
+-- `valve::translate_long` meets its contract: it lends nodes for any text, and goes on from what `restrict` answers (`translate_told`).
 use borrow.Author.Needs.{needs}
-use Rattle.reading.proofs.Stages.{rooted, not-restricted}
-use Rattle.valve.proofs.Translates.{stopped, kept}
 use Rattle.valve.proofs.writing.translate_long.Statement.{statement}
 use Rattle.valve.proofs.writing.translate_long.Tie as tie
 
--- the root that `restrict` gave
-root-stands : tie.Need-translate-by-requires
-root-stands c κs =
-    let at-root : tie.After-restricted2 = c .before .before .before in
-    let t = at-root .before .before .before .restrict in
-    let r = rooted _ _ _ (t .result) (t .ensures) (at-root .restricted2 .given .1) in
-    (omega (arith, t .kept, r .typed .few), (_, r))
+-- where text and list have been looked at
+abbrev looked-at : tie.After-translate-told-arg → tie.After-restrict
+looked-at c = c .before .before .before
 
-translates : tie.Need-returns-2
+answer-stands : tie.Need-translate-told-requires
+answer-stands c κs = (_, looked-at c .restrict .ensures)
+
+translates : tie.Need-returns
 translates c =
-    let written : tie.After-translate-by = c .before .before in
-    let at-root : tie.After-restricted2 = written .before .before .before .before in
-    let t = at-root .before .before .before .restrict in
-    written .translate-by .ensures _ (rooted _ _ _ (t .result) (t .ensures) (at-root .restricted2 .given .1))
-
-refuses : tie.Need-returns
-refuses c =
-    let t = c .before .before .before .before .restrict in
-    let e = not-restricted _ _ _ (t .result) (t .ensures) (c .before .restricted .given .1) in
-    record { says = stopped _ _ _ e; holds = kept _ _ _ e }
+    let done : tie.After-translate-told = c .before .before in
+    done .translate-told .ensures _ (looked-at (done .before) .restrict .ensures)
 
 pub translate-long-spec : {M : Type 1} → statement M
 translate-long-spec =
     tie.close
     (tie.spec
     (λ c. search needs)
-    (λ c κs. λ n few short. omega arith)
+    (λ c κs. search needs)
     (λ c. search needs)
-    (λ c. search needs)
-    (λ c. search needs)
-    root-stands
-    refuses
+    answer-stands
     (λ c. search needs)
     translates)

@@ -93,9 +93,6 @@ module _ (text buffer : List ℕ) where
         let g : tree text ≡ refused n (inputOf p) (offsetOf p) = subst (Grows text nodes) e grows in
         record { says = rw (le-leb (length text) mostText h, g); holds = rw (le-leb (length text) mostText h, g) }
 
-    pub planted : {m : ℕ} → r ≡ S.Count m → Planted text nodes m
-    planted e = subst (Grows text nodes) e grows
-
   pub is-printed : length text ≤ mostText → {nodes : List ℕ} {m : ℕ} → Planted text nodes m → (result : PrintResult)
       → Lent (print (treeAt text nodes (m - 1))) buffer result → PrintPromised text buffer result
   unfolding printAnswer printBuffer printable

@@ -6,8 +6,7 @@ ghost use Rattle.paper.specs.Answers.{ok};
 ghost use Rattle.paper.specs.Blocks.{inBlock, blocksIn};
 ghost use Rattle.paper.specs.Comparing.{agreementSays};
 ghost use Rattle.paper.specs.Promised.{ComparePromised};
-ghost use Rattle.reading.specs.Grown.{Short};
-ghost use Rattle.reading.specs.Parted.{PassedParts};
+ghost use Rattle.reading.specs.Parted.{PassedParts, RestrictsParts};
 ghost use Rattle.valve.specs.Divided.{fitsParts};
 use crate::loading;
 use blocks::Block;
@@ -15,6 +14,7 @@ use keys::KeyRecord;
 use paper::Agreement;
 use paper::Counted;
 use paper::Loading;
+use reading::Tried;
 
 // The bytes of a node's code; and of the skip and the join of the first part, which the text's own code has not.
 const NODE_CODE: usize = 2 * Block::INSTRUCTION;
@@ -55,8 +55,7 @@ fn agrees_by(
     comparing::agrees(blocks, count, &code, &starts, n)
 }
 
-// By the parts of a text that passed: 16; 17; 18; and whether the blocks agree. This is called from two places and too large to be put into
-// both, so that the compiler keeps it, and the scratch below it, out of the frame under which the text is read.
+// By the parts of a text that passed: 16; 17; 18; and whether the blocks agree.
 fn compare_by(list: &[u8], blocks: &[u8], nodes: &[u32], rows: &[u32], n: usize) -> Agreement
     requires { ⌜ ((text : List ℕ) × PassedParts text (now list) (now nodes) (now rows) n) ⌝ }
     ensures { λ r. ⌜ ((text : List ℕ) → PassedParts text (now (list .entry)) (now (nodes .entry)) (now (rows .entry)) n
@@ -69,16 +68,22 @@ fn compare_by(list: &[u8], blocks: &[u8], nodes: &[u32], rows: &[u32], n: usize)
     }
 }
 
-fn compare_short(text: &[u8], list: &[u8], blocks: &[u8]) -> Agreement
-    requires { ⌜ Short (now text) ⌝ }
-    ensures { λ r. ⌜ ComparePromised (now (text .entry)) (now (list .entry)) (now (blocks .entry)) r ⌝ }
+// By what was answered of text and list, with the tree in nodes and the parts in rows that are lent. This is called from two places and too large
+// to be put into both, so that the compiler keeps it, and the scratch below it, out of the frame under which the text is read.
+fn compare_told(
+    list: &[u8],
+    blocks: &[u8],
+    nodes: &[u32],
+    rows: &[u32],
+    restricted: Counted,
+) -> Agreement
+    requires { ⌜ ((text : List ℕ) × RestrictsParts text (now list) (now nodes) (now rows) restricted) ⌝ }
+    ensures { λ r. ⌜ ((text : List ℕ) → RestrictsParts text (now (list .entry)) (now (nodes .entry)) (now (rows .entry)) restricted
+        → ComparePromised text (now (list .entry)) (now (blocks .entry)) r) ⌝ }
 {
-    let mut nodes = [0u32; reading::SHORT_NODE_WORDS];
-    let mut rows = [0u32; reading::PART_WORDS];
-    let restricted = reading::restrict_parts(text, list, &mut nodes, &mut rows);
     match restricted {
         Counted::Refused(number, place) => Agreement::Refused(number, place),
-        Counted::Count(n) => compare_by(list, blocks, &nodes, &rows, n),
+        Counted::Count(n) => compare_by(list, blocks, nodes, rows, n),
     }
 }
 
@@ -88,18 +93,18 @@ fn compare_long(text: &[u8], list: &[u8], blocks: &[u8]) -> Agreement
     let mut nodes = [0u32; reading::NODE_WORDS];
     let mut rows = [0u32; reading::PART_WORDS];
     let restricted = reading::restrict_parts(text, list, &mut nodes, &mut rows);
-    match restricted {
-        Counted::Refused(number, place) => Agreement::Refused(number, place),
-        Counted::Count(n) => compare_by(list, blocks, &nodes, &rows, n),
-    }
+    compare_told(list, blocks, &nodes, &rows, restricted)
 }
 
 // Whether the blocks are our translation of the text's parts, each used once, in some order, joined from the left.
 pub fn compare(text: &[u8], list: &[u8], blocks: &[u8]) -> Agreement
     ensures { λ r. ⌜ ComparePromised (now (text .entry)) (now (list .entry)) (now (blocks .entry)) r ⌝ }
 {
-    if text.len() <= reading::SHORT_TEXT {
-        return compare_short(text, list, blocks);
-    }
-    compare_long(text, list, blocks)
+    let mut nodes = [0u32; reading::SHORT_NODE_WORDS];
+    let mut rows = [0u32; reading::PART_WORDS];
+    let tried = reading::try_parts(text, list, &mut nodes, &mut rows);
+    let Tried::Answered(restricted) = tried else {
+        return compare_long(text, list, blocks);
+    };
+    compare_told(list, blocks, &nodes, &rows, restricted)
 }

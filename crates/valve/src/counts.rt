@@ -2,12 +2,12 @@
 ghost use mathlib.Core.List.{List};
 ghost use Prim.Native.Nat.{ℕ};
 ghost use Rattle.paper.specs.Promised.{CountPromised};
-ghost use Rattle.reading.specs.Grown.{Room, Short, RowRoom};
-ghost use Rattle.reading.specs.Parted.{PassedParts};
+ghost use Rattle.reading.specs.Parted.{PassedParts, RestrictsParts};
 use paper::Counted;
 use paper::Counting;
 use paper::Place;
 use paper::refused;
+use reading::Tried;
 
 // The most entries that are counted.
 const MOST_ENTRIES: usize = 1_000_000;
@@ -40,38 +40,23 @@ fn count_by(
     )
 }
 
-// By nodes and rows that are lent.
-fn count_in(
-    text: &[u8],
+// By what was answered of text and list, with the tree in nodes and the parts in rows that are lent.
+fn count_told(
     list: &[u8],
     entries: &[u8],
-    nodes: &mut [u32],
-    rows: &mut [u32],
+    nodes: &[u32],
+    rows: &[u32],
+    restricted: Counted,
     parts: &mut [u64; parts::MOST_PARTS],
 ) -> Counting
-    requires { ⌜ Room (now text) (now nodes) ⌝ }
-    requires { ⌜ RowRoom (now rows) ⌝ }
-    ensures { λ r. ⌜ CountPromised (now (text .entry)) (now (list .entry)) (now (entries .entry)) (now (parts .entry)) (record { answer = r; numbers = now (parts .exit) }) ⌝ }
+    requires { ⌜ ((text : List ℕ) × RestrictsParts text (now list) (now nodes) (now rows) restricted) ⌝ }
+    ensures { λ r. ⌜ ((text : List ℕ) → RestrictsParts text (now (list .entry)) (now (nodes .entry)) (now (rows .entry)) restricted
+        → CountPromised text (now (list .entry)) (now (entries .entry)) (now (parts .entry)) (record { answer = r; numbers = now (parts .exit) })) ⌝ }
 {
-    let restricted = reading::restrict_parts(text, list, nodes, rows);
     match restricted {
         Counted::Refused(number, place) => Counting::Refused(number, place),
         Counted::Count(n) => count_by(list, entries, nodes, rows, n, parts),
     }
-}
-
-fn count_short(
-    text: &[u8],
-    list: &[u8],
-    entries: &[u8],
-    parts: &mut [u64; parts::MOST_PARTS],
-) -> Counting
-    requires { ⌜ Short (now text) ⌝ }
-    ensures { λ r. ⌜ CountPromised (now (text .entry)) (now (list .entry)) (now (entries .entry)) (now (parts .entry)) (record { answer = r; numbers = now (parts .exit) }) ⌝ }
-{
-    let mut nodes = [0u32; reading::SHORT_NODE_WORDS];
-    let mut rows = [0u32; reading::PART_WORDS];
-    count_in(text, list, entries, &mut nodes, &mut rows, parts)
 }
 
 fn count_long(
@@ -84,7 +69,8 @@ fn count_long(
 {
     let mut nodes = [0u32; reading::NODE_WORDS];
     let mut rows = [0u32; reading::PART_WORDS];
-    count_in(text, list, entries, &mut nodes, &mut rows, parts)
+    let restricted = reading::restrict_parts(text, list, &mut nodes, &mut rows);
+    count_told(list, entries, &nodes, &rows, restricted, parts)
 }
 
 // How many of the entries are accepted, violated and refused, and the bytes of a last one that is cut. For each part of the text the number of
@@ -97,8 +83,11 @@ pub fn count(
 ) -> Counting
     ensures { λ r. ⌜ CountPromised (now (text .entry)) (now (list .entry)) (now (entries .entry)) (now (parts .entry)) (record { answer = r; numbers = now (parts .exit) }) ⌝ }
 {
-    if text.len() <= reading::SHORT_TEXT {
-        return count_short(text, list, entries, parts);
-    }
-    count_long(text, list, entries, parts)
+    let mut nodes = [0u32; reading::SHORT_NODE_WORDS];
+    let mut rows = [0u32; reading::PART_WORDS];
+    let tried = reading::try_parts(text, list, &mut nodes, &mut rows);
+    let Tried::Answered(restricted) = tried else {
+        return count_long(text, list, entries, parts);
+    };
+    count_told(list, entries, &nodes, &rows, restricted, parts)
 }

@@ -2,11 +2,11 @@
 ghost use mathlib.Core.List.{List};
 ghost use Prim.Native.Nat.{ℕ};
 ghost use Rattle.paper.specs.Promised.{ExplainPromised};
-ghost use Rattle.reading.specs.Grown.{Room, Short, RowRoom};
-ghost use Rattle.reading.specs.Parted.{PassedParts};
+ghost use Rattle.reading.specs.Parted.{PassedParts, RestrictsParts};
 use paper::Checking;
 use paper::Counted;
 use paper::Explanation;
+use reading::Tried;
 
 // By the parts of a text that passed: 19; 20; and the first that is false on the entry.
 fn reason_by(list: &[u8], entry: &[u8], nodes: &[u32], rows: &[u32], n: usize) -> Explanation
@@ -21,32 +21,22 @@ fn reason_by(list: &[u8], entry: &[u8], nodes: &[u32], rows: &[u32], n: usize) -
     }
 }
 
-// By nodes and rows that are lent.
-fn reason_in(
-    text: &[u8],
+// By what was answered of text and list, with the tree in nodes and the parts in rows that are lent.
+fn reason_told(
     list: &[u8],
     entry: &[u8],
-    nodes: &mut [u32],
-    rows: &mut [u32],
+    nodes: &[u32],
+    rows: &[u32],
+    restricted: Counted,
 ) -> Explanation
-    requires { ⌜ Room (now text) (now nodes) ⌝ }
-    requires { ⌜ RowRoom (now rows) ⌝ }
-    ensures { λ r. ⌜ ExplainPromised (now (text .entry)) (now (list .entry)) (now (entry .entry)) r ⌝ }
+    requires { ⌜ ((text : List ℕ) × RestrictsParts text (now list) (now nodes) (now rows) restricted) ⌝ }
+    ensures { λ r. ⌜ ((text : List ℕ) → RestrictsParts text (now (list .entry)) (now (nodes .entry)) (now (rows .entry)) restricted
+        → ExplainPromised text (now (list .entry)) (now (entry .entry)) r) ⌝ }
 {
-    let restricted = reading::restrict_parts(text, list, nodes, rows);
     match restricted {
         Counted::Refused(number, place) => explaining::of_refusal(list, number, place),
         Counted::Count(n) => reason_by(list, entry, nodes, rows, n),
     }
-}
-
-fn reason_short(text: &[u8], list: &[u8], entry: &[u8]) -> Explanation
-    requires { ⌜ Short (now text) ⌝ }
-    ensures { λ r. ⌜ ExplainPromised (now (text .entry)) (now (list .entry)) (now (entry .entry)) r ⌝ }
-{
-    let mut nodes = [0u32; reading::SHORT_NODE_WORDS];
-    let mut rows = [0u32; reading::PART_WORDS];
-    reason_in(text, list, entry, &mut nodes, &mut rows)
 }
 
 fn reason_long(text: &[u8], list: &[u8], entry: &[u8]) -> Explanation
@@ -54,15 +44,19 @@ fn reason_long(text: &[u8], list: &[u8], entry: &[u8]) -> Explanation
 {
     let mut nodes = [0u32; reading::NODE_WORDS];
     let mut rows = [0u32; reading::PART_WORDS];
-    reason_in(text, list, entry, &mut nodes, &mut rows)
+    let restricted = reading::restrict_parts(text, list, &mut nodes, &mut rows);
+    reason_told(list, entry, &nodes, &rows, restricted)
 }
 
 // What broke: the first part of the text that is false on the entry, or the key whose record is refused.
 pub fn reason(text: &[u8], list: &[u8], entry: &[u8]) -> Explanation
     ensures { λ r. ⌜ ExplainPromised (now (text .entry)) (now (list .entry)) (now (entry .entry)) r ⌝ }
 {
-    if text.len() <= reading::SHORT_TEXT {
-        return reason_short(text, list, entry);
-    }
-    reason_long(text, list, entry)
+    let mut nodes = [0u32; reading::SHORT_NODE_WORDS];
+    let mut rows = [0u32; reading::PART_WORDS];
+    let tried = reading::try_parts(text, list, &mut nodes, &mut rows);
+    let Tried::Answered(restricted) = tried else {
+        return reason_long(text, list, entry);
+    };
+    reason_told(list, entry, &nodes, &rows, restricted)
 }

@@ -1,18 +1,18 @@
-// A new entry beside an old one, of which the answer is known. The text is read once, and each entry is checked once.
+// A new entry beside an old one, of which the answer is known. One tree of the text is made for both, and each entry is checked once.
 ghost use mathlib.Core.Path.{_≡_};
 ghost use mathlib.Core.List.{List};
 ghost use Prim.Native.Nat.{ℕ, _+_, _*_, _≤_};
 ghost use lib.ListN.{length};
 ghost use Rattle.paper.specs.Promised.{RecheckPromised};
 ghost use Rattle.operands.specs.Conforming.{Conforming};
-ghost use Rattle.reading.specs.Grown.{Room, Short};
-ghost use Rattle.reading.specs.Restricted.{Rooted};
+ghost use Rattle.reading.specs.Restricted.{Rooted, Restricts};
 ghost use Rattle.valve.specs.Beside.{Compared, sameIn};
 use crate::verdict;
 use paper::Checking;
 use paper::Counted;
 use paper::Judgement;
 use paper::Rechecking;
+use reading::Tried;
 
 // What is found of the new entry.
 pub(crate) enum Beside {
@@ -59,40 +59,35 @@ fn compare_by(list: &[u8], old: &[u8], new: &[u8], nodes: &[u32], root: usize) -
     }
 }
 
-// By nodes that are lent.
-fn compare_in(text: &[u8], list: &[u8], old: &[u8], new: &[u8], nodes: &mut [u32]) -> Beside
-    requires { ⌜ Room (now text) (now nodes) ⌝ }
-    ensures { λ r. ⌜ Compared (now (text .entry)) (now (list .entry)) (now (old .entry)) (now (new .entry)) r ⌝ }
+// By what was answered of text and list, with the tree in nodes that are lent.
+fn compare_told(list: &[u8], old: &[u8], new: &[u8], nodes: &[u32], restricted: Counted) -> Beside
+    requires { ⌜ ((text : List ℕ) × Restricts text (now list) (now nodes) restricted) ⌝ }
+    ensures { λ r. ⌜ ((text : List ℕ) → Restricts text (now (list .entry)) (now (nodes .entry)) restricted
+        → Compared text (now (list .entry)) (now (old .entry)) (now (new .entry)) r) ⌝ }
 {
-    let restricted = reading::restrict(text, list, nodes);
     match restricted {
         Counted::Refused(number, place) => Beside::Other(Judgement::Refused(number, place)),
         Counted::Count(root) => compare_by(list, old, new, nodes, root),
     }
 }
 
-fn compare_short(text: &[u8], list: &[u8], old: &[u8], new: &[u8]) -> Beside
-    requires { ⌜ Short (now text) ⌝ }
-    ensures { λ r. ⌜ Compared (now (text .entry)) (now (list .entry)) (now (old .entry)) (now (new .entry)) r ⌝ }
-{
-    let mut nodes = [0u32; reading::SHORT_NODE_WORDS];
-    compare_in(text, list, old, new, &mut nodes)
-}
-
 fn compare_long(text: &[u8], list: &[u8], old: &[u8], new: &[u8]) -> Beside
     ensures { λ r. ⌜ Compared (now (text .entry)) (now (list .entry)) (now (old .entry)) (now (new .entry)) r ⌝ }
 {
     let mut nodes = [0u32; reading::NODE_WORDS];
-    compare_in(text, list, old, new, &mut nodes)
+    let restricted = reading::restrict(text, list, &mut nodes);
+    compare_told(list, old, new, &nodes, restricted)
 }
 
 fn compare(text: &[u8], list: &[u8], old: &[u8], new: &[u8]) -> Beside
     ensures { λ r. ⌜ Compared (now (text .entry)) (now (list .entry)) (now (old .entry)) (now (new .entry)) r ⌝ }
 {
-    if text.len() <= reading::SHORT_TEXT {
-        return compare_short(text, list, old, new);
-    }
-    compare_long(text, list, old, new)
+    let mut nodes = [0u32; reading::SHORT_NODE_WORDS];
+    let tried = reading::try_restrict(text, list, &mut nodes);
+    let Tried::Answered(restricted) = tried else {
+        return compare_long(text, list, old, new);
+    };
+    compare_told(list, old, new, &nodes, restricted)
 }
 
 // The earlier answer, if it still holds for the new entry; else what the text says of that.

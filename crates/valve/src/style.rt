@@ -9,13 +9,14 @@ ghost use Rattle.paper.specs.Print.{print};
 ghost use Rattle.paper.specs.Calls.{over};
 ghost use Rattle.paper.specs.Promised.{PrintPromised};
 ghost use Rattle.trees.specs.Standing.{treeAt};
-ghost use Rattle.reading.specs.Grown.{Room, Short};
+ghost use Rattle.reading.specs.Grown.{Grows};
 ghost use Rattle.valve.specs.Lent.{Lent};
 use paper::Counted;
 use paper::Place;
 use paper::Printing;
 use paper::refused;
 use printing::Rung;
+use reading::Tried;
 use spelling::bytes;
 
 // Copies the first n bytes of a scratch to the front of the buffer.
@@ -50,25 +51,16 @@ pub(crate) fn lend_print(text: &[u8], nodes: &[u32], node: usize, buffer: &mut [
     Printing::Printed(n)
 }
 
-// Of a text that is not too long, by nodes that are lent.
-fn print_in(text: &[u8], nodes: &mut [u32], buffer: &mut [u8]) -> Printing
+// By what was answered of a text that is not too long, with the tree in nodes that are lent.
+fn print_told(text: &[u8], nodes: &[u32], grown: Counted, buffer: &mut [u8]) -> Printing
     requires { ⌜ length (now text) ≤ mostText ⌝ }
-    requires { ⌜ Room (now text) (now nodes) ⌝ }
+    requires { ⌜ Grows (now text) (now nodes) grown ⌝ }
     ensures { λ r. ⌜ PrintPromised (now (text .entry)) (now (buffer .entry)) (record { answer = r; buffer = now (buffer .exit) }) ⌝ }
 {
-    let grown = reading::read_tree(text, nodes);
     match grown {
         Counted::Refused(number, place) => Printing::Refused(number, place),
         Counted::Count(size) => lend_print(text, nodes, size - 1, buffer),
     }
-}
-
-fn print_short(text: &[u8], buffer: &mut [u8]) -> Printing
-    requires { ⌜ Short (now text) ⌝ }
-    ensures { λ r. ⌜ PrintPromised (now (text .entry)) (now (buffer .entry)) (record { answer = r; buffer = now (buffer .exit) }) ⌝ }
-{
-    let mut nodes = [0u32; reading::SHORT_NODE_WORDS];
-    print_in(text, &mut nodes, buffer)
 }
 
 fn print_long(text: &[u8], buffer: &mut [u8]) -> Printing
@@ -76,7 +68,8 @@ fn print_long(text: &[u8], buffer: &mut [u8]) -> Printing
     ensures { λ r. ⌜ PrintPromised (now (text .entry)) (now (buffer .entry)) (record { answer = r; buffer = now (buffer .exit) }) ⌝ }
 {
     let mut nodes = [0u32; reading::NODE_WORDS];
-    print_in(text, &mut nodes, buffer)
+    let grown = reading::read_tree(text, &mut nodes);
+    print_told(text, &nodes, grown, buffer)
 }
 
 // The length of the print, which stands at the front of the buffer. Every later byte of the buffer stays, and all of it on a refusal.
@@ -86,8 +79,10 @@ pub fn print(text: &[u8], buffer: &mut [u8]) -> Printing
     if reading::MOST_TEXT < text.len() {
         return Printing::Refused(refused::TEXT_TOO_LONG, Place::Text(reading::MOST_TEXT));
     }
-    if text.len() <= reading::SHORT_TEXT {
-        return print_short(text, buffer);
-    }
-    print_long(text, buffer)
+    let mut nodes = [0u32; reading::SHORT_NODE_WORDS];
+    let tried = reading::try_tree(text, &mut nodes);
+    let Tried::Answered(grown) = tried else {
+        return print_long(text, buffer);
+    };
+    print_told(text, &nodes, grown, buffer)
 }

@@ -1,4 +1,5 @@
--- `valve::count` meets its contract: it goes on from what `try_parts` answers with few nodes (`count_told`), and where that is over it lends more (`count_long`).
+-- `valve::count` meets its contract: it goes on from what `try_parts` answers with few nodes (`count_told`), and where that is over it lends more
+-- (`count_long`).
 use borrow.Author.Needs.{needs}
 use Rattle.valve.proofs.Tries.{answered}
 use Rattle.valve.proofs.counts.count.Statement.{statement}

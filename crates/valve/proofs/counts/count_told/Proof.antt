@@ -1,4 +1,5 @@
--- `valve::count_told` meets its contract: the refusal of text or list, which leaves the numbers (`text-refused`), or the numbers by the parts (`count_by`).
+-- `valve::count_told` meets its contract: the refusal of text or list, which leaves the numbers (`text-refused`), or the numbers by the parts
+-- (`count_by`).
 use borrow.Author.Needs.{needs}
 use Rattle.reading.proofs.Parted.{not-parted, passed}
 use Rattle.valve.proofs.Tallies.{text-refused}

@@ -1,4 +1,5 @@
--- `valve::reason` meets its contract: it goes on from what `try_parts` answers with few nodes (`reason_told`), and where that is over it lends more (`reason_long`).
+-- `valve::reason` meets its contract: it goes on from what `try_parts` answers with few nodes (`reason_told`), and where that is over it lends more
+-- (`reason_long`).
 use borrow.Author.Needs.{needs}
 use Rattle.valve.proofs.Tries.{answered}
 use Rattle.valve.proofs.reasons.reason.Statement.{statement}

@@ -1,4 +1,5 @@
--- `valve::reason_told` meets its contract: a refusal of text or list, which is at no record (`text-refused`), or the reason by the parts (`reason_by`).
+-- `valve::reason_told` meets its contract: a refusal of text or list, which is at no record (`text-refused`), or the reason by the parts
+-- (`reason_by`).
 use mathlib.Core.Path.{_∙_}
 use borrow.Author.Needs.{needs}
 use Rattle.reading.proofs.Parted.{not-parted, passed}

@@ -1,4 +1,5 @@
--- `valve::compare` meets its contract: it goes on from what `try_restrict` answers with few nodes (`compare_told`), and where that is over it lends more (`compare_long`).
+-- `valve::compare` meets its contract: it goes on from what `try_restrict` answers with few nodes (`compare_told`), and where that is over it lends
+-- more (`compare_long`).
 use borrow.Author.Needs.{needs}
 use Rattle.valve.proofs.Tries.{answered}
 use Rattle.valve.proofs.rechecks.compare.Statement.{statement}

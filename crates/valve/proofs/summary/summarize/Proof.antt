@@ -1,4 +1,5 @@
--- `valve::summarize` meets its contract: it goes on from what `try_restrict` answers with few nodes (`summarize_told`), and where that is over it lends more (`summarize_long`).
+-- `valve::summarize` meets its contract: it goes on from what `try_restrict` answers with few nodes (`summarize_told`), and where that is over it
+-- lends more (`summarize_long`).
 use borrow.Author.Needs.{needs}
 use Rattle.valve.proofs.Tries.{answered}
 use Rattle.valve.proofs.summary.summarize.Statement.{statement}

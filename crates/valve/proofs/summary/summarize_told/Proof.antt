@@ -1,5 +1,5 @@
--- `valve::summarize_told` meets its contract: the refusal of text or list (`not-passed`), or what the tree at the root names (`summed-up`), whose words
--- the nodes have.
+-- `valve::summarize_told` meets its contract: the refusal of text or list (`not-passed`), or what the tree at the root names (`summed-up`), whose
+-- words the nodes have.
 use borrow.Author.Needs.{needs}
 use Rattle.reading.proofs.Stages.{rooted, root-known}
 use Rattle.valve.proofs.Summaries.{not-passed, summed-up}

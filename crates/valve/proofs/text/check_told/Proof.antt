@@ -1,4 +1,5 @@
--- `valve::check_told` meets its contract: the answer of a check is what was answered of text and list, without the root (`not-checked`, `is-checked`).
+-- `valve::check_told` meets its contract: the answer of a check is what was answered of text and list, without the root (`not-checked`,
+-- `is-checked`).
 use borrow.Author.Needs.{needs}
 use Rattle.valve.proofs.Texts.{not-checked, is-checked}
 use Rattle.valve.proofs.text.check_told.Statement.{statement}

@@ -1,4 +1,5 @@
--- `valve::judge` meets its contract: it goes on from what `try_restrict` answers with few nodes (`judge_told`), and where that is over it lends more (`judge_long`).
+-- `valve::judge` meets its contract: it goes on from what `try_restrict` answers with few nodes (`judge_told`), and where that is over it lends more
+-- (`judge_long`).
 use borrow.Author.Needs.{needs}
 use Rattle.valve.proofs.Tries.{answered}
 use Rattle.valve.proofs.verdict.judge.Statement.{statement}

@@ -1,4 +1,5 @@
--- `valve::judge_told` meets its contract: the refusal of text or list (`not-passed`), or the judgement by the root (`judge_by`), whose words the nodes have.
+-- `valve::judge_told` meets its contract: the refusal of text or list (`not-passed`), or the judgement by the root (`judge_by`), whose words the
+-- nodes have.
 use borrow.Author.Needs.{needs}
 use Rattle.reading.proofs.Stages.{rooted}
 use Rattle.valve.proofs.Verdicts.{not-passed}

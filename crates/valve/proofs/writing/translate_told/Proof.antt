@@ -1,5 +1,5 @@
--- `valve::translate_told` meets its contract: the refusal of text or list, which leaves the buffer (`stopped`, `kept`), or the translation by the root
--- (`translate_by`), whose words the nodes have.
+-- `valve::translate_told` meets its contract: the refusal of text or list, which leaves the buffer (`stopped`, `kept`), or the translation by the
+-- root (`translate_by`), whose words the nodes have.
 use borrow.Author.Needs.{needs}
 use Rattle.reading.proofs.Stages.{rooted, not-restricted}
 use Rattle.valve.proofs.Translates.{stopped, kept}

@@ -1,5 +1,6 @@
 //! Texts at the limits: 4,096 bytes, 1,024 tokens, 64 levels, 2^128 − 1, and
-//! one beyond each.
+//! one beyond each. Texts of up to 1,536 bytes are read with room for 256
+//! tokens first, so these are limits too, of which no answer may tell.
 
 use super::rng::Rng;
 use super::spelling::{self, Blanks};
@@ -10,14 +11,20 @@ use crate::reference::entries::Entry;
 use crate::reference::grammar::MOST_LEVELS;
 use crate::reference::tokens::MOST_TOKENS;
 
-/// A text padded to about 4,096 bytes.
+/// The longest text that is read with little room first, and the tokens that
+/// there is then room for.
+const TRIED_TEXT: usize = 1536;
+const TRIED_TOKENS: usize = 256;
+
+/// A text padded to about 4,096 or 1,536 bytes.
 pub fn bytes(rng: &mut Rng, keys: &[NamedKey], entry: &Entry) -> Vec<u8> {
+    let longest = rng.pick(&[LONGEST_TEXT, LONGEST_TEXT, TRIED_TEXT]);
     let length = match rng.below(12) {
-        0 => LONGEST_TEXT - 1,
-        1..=3 => LONGEST_TEXT,
-        4..=8 => LONGEST_TEXT + 1,
-        9 => LONGEST_TEXT + 2,
-        _ => LONGEST_TEXT + rng.below(1500),
+        0 => longest - 1,
+        1..=3 => longest,
+        4..=8 => longest + 1,
+        9 => longest + 2,
+        _ => longest + rng.below(1500),
     };
     let joins = rng.below(20);
     let tokens = texts::tokens(rng, keys, entry, joins, 0);
@@ -44,13 +51,14 @@ pub fn bytes(rng: &mut Rng, keys: &[NamedKey], entry: &Entry) -> Vec<u8> {
     text
 }
 
-/// A text of about 1,024 tokens.
+/// A text of about 1,024 or 256 tokens.
 pub fn many_tokens(rng: &mut Rng, keys: &[NamedKey], entry: &Entry) -> Vec<u8> {
+    let most = rng.pick(&[MOST_TOKENS, MOST_TOKENS, TRIED_TOKENS]);
     let count = match rng.below(8) {
-        0 => MOST_TOKENS - 1,
-        1..=3 => MOST_TOKENS,
-        4..=6 => MOST_TOKENS + 1,
-        _ => MOST_TOKENS + rng.between(2, 9),
+        0 => most - 1,
+        1..=3 => most,
+        4..=6 => most + 1,
+        _ => most + rng.between(2, 9),
     };
     let mut tokens: Tokens = vec![b"(".to_vec()];
     tokens.extend(texts::tokens(rng, keys, entry, 3, 0));
@@ -63,10 +71,10 @@ pub fn many_tokens(rng: &mut Rng, keys: &[NamedKey], entry: &Entry) -> Vec<u8> {
         let joined = another_part(rng, keys, count - tokens.len(), operators);
         tokens.extend(joined);
     }
-    if count > MOST_TOKENS && rng.one_in(4) {
-        tokens[MOST_TOKENS] = too_large(rng);
-    } else if count > MOST_TOKENS && rng.one_in(4) {
-        tokens[MOST_TOKENS] = rng.pick(&["@", "'", "0x", "1a"]).as_bytes().to_vec();
+    if count > most && rng.one_in(4) {
+        tokens[most] = too_large(rng);
+    } else if count > most && rng.one_in(4) {
+        tokens[most] = rng.pick(&["@", "'", "0x", "1a"]).as_bytes().to_vec();
     }
     spelling::text_with(rng, &tokens, Blanks::Needed)
 }

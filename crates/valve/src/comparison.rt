@@ -6,6 +6,7 @@ ghost use Rattle.paper.specs.Answers.{ok};
 ghost use Rattle.paper.specs.Blocks.{inBlock, blocksIn};
 ghost use Rattle.paper.specs.Comparing.{agreementSays};
 ghost use Rattle.paper.specs.Promised.{ComparePromised};
+ghost use Rattle.reading.specs.Grown.{RowRoom};
 ghost use Rattle.reading.specs.Parted.{PassedParts, RestrictsParts};
 ghost use Rattle.valve.specs.Divided.{fitsParts};
 use crate::loading;
@@ -87,13 +88,14 @@ fn compare_told(
     }
 }
 
-fn compare_long(text: &[u8], list: &[u8], blocks: &[u8]) -> Agreement
+// With nodes for any text. The rows are lent, so that there is one set of them.
+fn compare_long(text: &[u8], list: &[u8], blocks: &[u8], rows: &mut [u32]) -> Agreement
+    requires { ⌜ RowRoom (now rows) ⌝ }
     ensures { λ r. ⌜ ComparePromised (now (text .entry)) (now (list .entry)) (now (blocks .entry)) r ⌝ }
 {
     let mut nodes = [0u32; reading::NODE_WORDS];
-    let mut rows = [0u32; reading::PART_WORDS];
-    let restricted = reading::restrict_parts(text, list, &mut nodes, &mut rows);
-    compare_told(list, blocks, &nodes, &rows, restricted)
+    let restricted = reading::restrict_parts(text, list, &mut nodes, rows);
+    compare_told(list, blocks, &nodes, rows, restricted)
 }
 
 // Whether the blocks are our translation of the text's parts, each used once, in some order, joined from the left.
@@ -104,7 +106,7 @@ pub fn compare(text: &[u8], list: &[u8], blocks: &[u8]) -> Agreement
     let mut rows = [0u32; reading::PART_WORDS];
     let tried = reading::try_parts(text, list, &mut nodes, &mut rows);
     let Tried::Answered(restricted) = tried else {
-        return compare_long(text, list, blocks);
+        return compare_long(text, list, blocks, &mut rows);
     };
     compare_told(list, blocks, &nodes, &rows, restricted)
 }

@@ -2,6 +2,7 @@
 ghost use mathlib.Core.List.{List};
 ghost use Prim.Native.Nat.{ℕ};
 ghost use Rattle.paper.specs.Promised.{CountPromised};
+ghost use Rattle.reading.specs.Grown.{RowRoom};
 ghost use Rattle.reading.specs.Parted.{PassedParts, RestrictsParts};
 use paper::Counted;
 use paper::Counting;
@@ -59,18 +60,20 @@ fn count_told(
     }
 }
 
+// With nodes for any text. The rows are lent, so that there is one set of them.
 fn count_long(
     text: &[u8],
     list: &[u8],
     entries: &[u8],
+    rows: &mut [u32],
     parts: &mut [u64; parts::MOST_PARTS],
 ) -> Counting
+    requires { ⌜ RowRoom (now rows) ⌝ }
     ensures { λ r. ⌜ CountPromised (now (text .entry)) (now (list .entry)) (now (entries .entry)) (now (parts .entry)) (record { answer = r; numbers = now (parts .exit) }) ⌝ }
 {
     let mut nodes = [0u32; reading::NODE_WORDS];
-    let mut rows = [0u32; reading::PART_WORDS];
-    let restricted = reading::restrict_parts(text, list, &mut nodes, &mut rows);
-    count_told(list, entries, &nodes, &rows, restricted, parts)
+    let restricted = reading::restrict_parts(text, list, &mut nodes, rows);
+    count_told(list, entries, &nodes, rows, restricted, parts)
 }
 
 // How many of the entries are accepted, violated and refused, and the bytes of a last one that is cut. For each part of the text the number of
@@ -87,7 +90,7 @@ pub fn count(
     let mut rows = [0u32; reading::PART_WORDS];
     let tried = reading::try_parts(text, list, &mut nodes, &mut rows);
     let Tried::Answered(restricted) = tried else {
-        return count_long(text, list, entries, parts);
+        return count_long(text, list, entries, &mut rows, parts);
     };
     count_told(list, entries, &nodes, &rows, restricted, parts)
 }

@@ -2,6 +2,7 @@
 ghost use mathlib.Core.List.{List};
 ghost use Prim.Native.Nat.{ℕ};
 ghost use Rattle.paper.specs.Promised.{ExplainPromised};
+ghost use Rattle.reading.specs.Grown.{RowRoom};
 ghost use Rattle.reading.specs.Parted.{PassedParts, RestrictsParts};
 use paper::Checking;
 use paper::Counted;
@@ -39,13 +40,14 @@ fn reason_told(
     }
 }
 
-fn reason_long(text: &[u8], list: &[u8], entry: &[u8]) -> Explanation
+// With nodes for any text. The rows are lent, so that there is one set of them.
+fn reason_long(text: &[u8], list: &[u8], entry: &[u8], rows: &mut [u32]) -> Explanation
+    requires { ⌜ RowRoom (now rows) ⌝ }
     ensures { λ r. ⌜ ExplainPromised (now (text .entry)) (now (list .entry)) (now (entry .entry)) r ⌝ }
 {
     let mut nodes = [0u32; reading::NODE_WORDS];
-    let mut rows = [0u32; reading::PART_WORDS];
-    let restricted = reading::restrict_parts(text, list, &mut nodes, &mut rows);
-    reason_told(list, entry, &nodes, &rows, restricted)
+    let restricted = reading::restrict_parts(text, list, &mut nodes, rows);
+    reason_told(list, entry, &nodes, rows, restricted)
 }
 
 // What broke: the first part of the text that is false on the entry, or the key whose record is refused.
@@ -56,7 +58,7 @@ pub fn reason(text: &[u8], list: &[u8], entry: &[u8]) -> Explanation
     let mut rows = [0u32; reading::PART_WORDS];
     let tried = reading::try_parts(text, list, &mut nodes, &mut rows);
     let Tried::Answered(restricted) = tried else {
-        return reason_long(text, list, entry);
+        return reason_long(text, list, entry, &mut rows);
     };
     reason_told(list, entry, &nodes, &rows, restricted)
 }

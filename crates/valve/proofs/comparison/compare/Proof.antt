@@ -1,12 +1,12 @@
--- `valve::compare` meets its contract: it goes on from what `try_parts` answers with few nodes (`compare_told`), and where that is over it lends more
--- (`compare_long`).
+-- `valve::compare` meets its contract: it goes on from what `try_parts` answers with few nodes (`compare_told`), and where that is over it lends
+-- more, with the same rows (`compare_long`).
 use borrow.Author.Needs.{needs}
 use Rattle.valve.proofs.Tries.{answered}
 use Rattle.valve.proofs.comparison.compare.Statement.{statement}
 use Rattle.valve.proofs.comparison.compare.Tie as tie
 
 -- where it is answered; and from there where it was tried
-abbrev answered-at : tie.After-rows3 → tie.After-tried
+abbrev answered-at : tie.After-rows5 → tie.After-tried
 answered-at c = c .before .before .before
 
 abbrev tried-at : tie.After-tried → tie.After-try-parts
@@ -31,6 +31,7 @@ compare-spec =
     (λ c. search needs)
     (λ c. search needs)
     (λ c κs. search needs)
+    (λ c. search needs)
     (λ c. search needs)
     (λ c. search needs)
     (λ c κs. search needs)

@@ -1,5 +1,5 @@
--- `valve::count` meets its contract: it goes on from what `try_parts` answers with few nodes (`count_told`), and where that is over it lends more
--- (`count_long`).
+-- `valve::count` meets its contract: it goes on from what `try_parts` answers with few nodes (`count_told`), and where that is over it lends more,
+-- with the same rows (`count_long`).
 use borrow.Author.Needs.{needs}
 use Rattle.valve.proofs.Tries.{answered}
 use Rattle.valve.proofs.counts.count.Statement.{statement}
@@ -31,6 +31,7 @@ count-spec =
     (λ c. search needs)
     (λ c. search needs)
     (λ c κs. search needs)
+    (λ c. search needs)
     (λ c. search needs)
     (λ c. search needs)
     (λ c κs. search needs)

@@ -12,7 +12,6 @@ ghost use Rattle.trees.specs.Marks.{Marked};
 ghost use Rattle.judging.specs.Truths as truths;
 ghost use Rattle.judging.specs.Truths.{IsTruth};
 use crate::leaf;
-use crate::operator;
 use crate::walk;
 use trees::Comparison;
 use trees::Join;
@@ -61,8 +60,7 @@ fn compared(
 {
     let a = walk::operand_value(list, entry, nodes, left);
     let b = walk::operand_value(list, entry, nodes, right);
-    let worth = operator::comparison_value(c, a, b);
-    worth.is_true()
+    a.compares(c.number(), b)
 }
 
 // Whether the tree at a node is true on an entry, where it is worth a truth. The right operand of a join is walked only where the left one

@@ -1,4 +1,4 @@
--- Two operands that meet: in the right one's type, where that takes the left one, else in the left one's.
+-- Two operands that meet: in the type of both, or in the right one's, where that takes the left one, else in the left one's.
 -- Assumes nothing.
 use Prim.Native.Nat.{ℕ}
 use mathlib.Core.Path.{_≡_, refl, sym, _∙_}
@@ -51,6 +51,11 @@ module _ (c : Comparison) (a b v : Value) where
   in-left e h =
       rw (compared-there c a b (tyOf a) e, stays (tyOf a) a (same-self (tyOf a)))
       (rw (in-met (tyOf a) b (meets a b (tyOf a) e .1)) at h)
+
+  pub meet-same : sameTy (tyOf a) (tyOf b) ≡ true → Is (compareValue c a b) v → Is (comparisonValue c a b) v
+  meet-same e h =
+      let there : sameTy (tyOf b) (tyOf a) ≡ true = rw (same-types (tyOf a) (tyOf b) e) (same-self (tyOf b)) in
+      in-left (rw (meets-by-converting (tyOf a) (tyOf b), e)) (rw (in-same (tyOf a) b there) h)
 
   pub meet-right : takes (tyOf b) (tyOf a) ≡ true → Is (andThen (likeValue (tyOf b) a) (λ x. compareValue c x b)) v
       → Is (comparisonValue c a b) v

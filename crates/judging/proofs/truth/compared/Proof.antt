@@ -1,7 +1,8 @@
--- `judging::compared` meets its contract: the value of the comparison, from those of its operands (`between`), and the truth that it is
--- (`of-value`).
+-- `judging::compared` meets its contract: the truth that a comparison makes of its operands' values is the value of the comparison
+-- (`between`), and so is told of it (`of-value`).
+use mathlib.Core.Path.{refl}
 use borrow.Author.Needs.{needs}
-use Rattle.paper.specs.Meaning.{valueOf}
+use Rattle.paper.specs.Meaning.{truth, valueOf}
 use Rattle.keys.specs.Says.{keysIn}
 use Rattle.values.specs.Held.{held}
 use Rattle.operands.specs.Conforming.{entryIn}
@@ -24,8 +25,8 @@ right-stands c κs = let given = c .before .before .before .before .pre in (give
 
 says : tie.Need-returns
 says c text left-marked right-marked at =
-    let made = c .before in
-    let valued = made .before in
+    let numbered = c .before in
+    let valued = numbered .before in
     let s = start valued .args in
     let ks = keysIn (s .list .now) in
     let e = entryIn (s .list .now) (s .entry .now) in
@@ -33,10 +34,11 @@ says c text left-marked right-marked at =
     let r = treeAt text (s .nodes .now) (s .right) in
     let a = valued .before .operand-value in
     let b = valued .operand-value2 in
-    let v = made .comparison-value in
-    of-value (valueOf ks e (operatorOn at (Compares (s .c)) l r)) (held (v .result)) (c .is-true .result)
-    (between ks e (Compares (s .c)) at l r (held (a .result)) (held (b .result)) (held (v .result)) (a .ensures text left-marked) (b .ensures text right-marked) (v .ensures))
-    (c .is-true .ensures)
+    let t = c .compares in
+    of-value (valueOf ks e (operatorOn at (Compares (s .c)) l r)) (truth (t .result)) (t .result)
+    (between ks e (Compares (s .c)) at l r (held (a .result)) (held (b .result)) (truth (t .result)) (a .ensures text left-marked) (b .ensures text right-marked)
+    (rw (← numbered .number .ensures .1) (t .ensures)))
+    refl
 
 pub compared-spec : {M : Type 1} → statement M
 compared-spec = tie.close (tie.spec left-stands right-stands (λ c κs. search needs) (λ c κs. search needs) says)

@@ -5,13 +5,14 @@
 ghost use mathlib.Core.Path.{_≡_};
 ghost use Prim.Native.Nat.{_<_};
 ghost use Rattle.paper.specs.Answers.{ok, refused, inText, offsetOf};
-ghost use Rattle.values.specs.Typed.{tyMeant};
-ghost use Rattle.typing.specs.Says.{typedSays};
+ghost use Rattle.values.specs.Typed.{tyMeant, typingMeant};
+ghost use Rattle.typing.specs.Says.{typedSays, typedOr};
 ghost use Rattle.typing.specs.Coded.{places, tyIn, isType, codeSays, Codable};
 use crate::leaf::Typed;
 use paper::Place;
 use values::numbering;
 use values::types::Type;
+use values::types::Typing;
 
 // A place is a word of a node, of 32 bits.
 const PLACES: usize = 0x1_0000_0000;
@@ -20,7 +21,7 @@ const PLACES: usize = 0x1_0000_0000;
 const REFUSALS: usize = 256;
 
 // The code of a refusal at a place of the text.
-fn refusal_code(number: u8, at: usize) -> usize
+pub(crate) fn refusal_code(number: u8, at: usize) -> usize
     requires { ⌜ at < places ⌝ }
     ensures { λ r. ⌜ codeSays r ≡ refused number inText at ⌝ }
 {
@@ -50,6 +51,17 @@ pub(crate) fn coded(t: Typed) -> usize
     match t {
         Typed::Is(a) => numbering::number_of(a) as usize,
         Typed::Refused(number, place) => refusal_code(number, offset(place)),
+    }
+}
+
+// The code of a type, or where there is none of a refusal at a place of the text.
+pub(crate) fn coded_or(t: Typing, number: u8, at: usize) -> usize
+    requires { ⌜ at < places ⌝ }
+    ensures { λ r. ⌜ codeSays r ≡ typedOr number at (typingMeant t) ⌝ }
+{
+    match t {
+        Typing::Is(a) => numbering::number_of(a) as usize,
+        Typing::Wrong => refusal_code(number, at),
     }
 }
 

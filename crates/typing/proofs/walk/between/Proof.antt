@@ -1,6 +1,6 @@
 -- `typing::between` meets its contract, by the laws of proofs/Compared: what the operator makes of its operands' types is refused at its
 -- place; or it joins; or it compares, and the first operand that loses bits is refused at its own place (`place-is`).
-use Prim.Native.Nat.{ℕ, _-_}
+use Prim.Native.Nat.{ℕ, _+_, _-_, _*_}
 use mathlib.Core.Path.{_≡_, sym, _∙_, ap, ap₂}
 use mathlib.Core.Bool.{true}
 use mathlib.Core.List.{List}
@@ -9,11 +9,13 @@ use borrow.Author.Tests.{not-true, not-false}
 use Rattle.paper.specs.Answers.{Answer, ok, refused, inText}
 use Rattle.paper.specs.Grammar.{placeOf}
 use Rattle.paper.specs.Types.{Ty, keepsBits, operatorType}
-use Rattle.values.specs.Typed.{tyMeant, typingMeant}
+use Rattle.values.specs.Typed.{typingMeant}
 use Rattle.trees.specs.Nodes.{placeAt}
 use Rattle.trees.specs.Standing.{treeAt}
 use Rattle.trees.proofs.Walks.{place-is}
-use Rattle.typing.specs.Says.{typedSays, operatorMade}
+use Rattle.typing.specs.Says.{operatorMade}
+use Rattle.typing.specs.Coded.{tyIn, codeSays}
+use Rattle.typing.proofs.Coded.{says-type, says-refusal}
 use Rattle.typing.proofs.Leaves.{or-wrong}
 use Rattle.typing.proofs.Compared.{unsuited, joined, left-lost, right-lost, both-kept}
 use Rattle.typing.proofs.walk.between.Statement.{statement}
@@ -21,10 +23,10 @@ use Rattle.typing.proofs.walk.between.Tie as tie
 
 -- where it is known what the operator makes; and from there what the function was given
 abbrev Made : Type 0
-Made = tie.After-or-refused
+Made = tie.After-coded-or
 
 abbrev start : Made → tie.Start
-start c = c .before .before .before .before
+start c = c .before .before .before .before .before .before
 
 abbrev nodes : Made → List ℕ
 nodes c = start c .args .nodes .now
@@ -32,35 +34,56 @@ nodes c = start c .args .nodes .now
 abbrev place : Made → ℕ
 place c = placeAt (nodes c) (start c .args .at)
 
-says : (c : Made) → typedSays (c .or-refused .result)
-    ≡ operatorType (place c) (operatorMade (start c .args .o) (tyMeant (start c .args .a)) (tyMeant (start c .args .b)))
+abbrev code : Made → ℕ
+code c = c .coded-or .result
+
+-- what it makes of the types
+abbrev made : Made → Answer Ty
+made c = operatorType (place c) (operatorMade (start c .args .o) (tyIn (start c .args .a)) (tyIn (start c .args .b)))
+
+-- its place is one of the words of the nodes, which have 32 bits
+place-held : tie.Need-coded-or-requires
+place-held c κs =
+    let known = c .before .before .before .before in
+    rw (c .place-at .ensures) (known .shared-slice-known .given (known .before .args .at * 8 + 1) .fits)
+
+says : (c : Made) → codeSays (code c) ≡ made c
 says c =
     let at-place = c .before in
     let typing = at-place .before in
-    c .or-refused .ensures ∙ or-wrong (at-place .place-at .result) (typingMeant (typing .operator-type .result))
-    ∙ ap₂ operatorType (at-place .place-at .ensures) (typing .operator-type .ensures)
+    let right-read = typing .before in
+    let left-read = right-read .before in
+    let types = ap₂ (operatorMade (start c .args .o)) (left-read .type-in .ensures) (right-read .type-in2 .ensures) in
+    c .coded-or .ensures ∙ or-wrong (at-place .place-at .result) (typingMeant (typing .operator-type .result))
+    ∙ ap₂ operatorType (at-place .place-at .ensures) (typing .operator-type .ensures ∙ types)
 
 types-wrong : tie.Need-returns
 types-wrong c text =
-    let m = c .before .before in
-    let told = ap typedSays (c .enum-told2 .given .1) in
-    told ∙ unsuited (place m) _ _ _ _ (start m .args .o) _ _ _ (sym (says m) ∙ told)
+    let tested = c .before in
+    let m = tested .before in
+    let refusal = says-refusal (code m) (sym (tested .is-type .ensures) ∙ not-true _ (c .if1 .taken)) in
+    refusal ∙ unsuited (place m) _ _ _ _ (start m .args .o) _ _ _ (sym (says m) ∙ refusal)
 
 joins : tie.Need-returns-2
 joins c text =
     let m = c .before .before .before .before in
-    says m ∙ joined (place m) _ _ _ _ _ (c .enum-told4 .given .1)
+    says m ∙ joined (place m) _ _ _ _ _ (c .enum-told2 .given .1)
 
 -- where it compares, and takes the types
 abbrev Compared : Type 0
-Compared = tie.After-enum-told3
+Compared = tie.After-enum-told
 
 abbrev taken : Compared → Made
 taken c = c .before .before .before .before
 
-suited : (c : Compared) → operatorType (place (taken c)) (operatorMade (start (taken c) .args .o) (tyMeant (start (taken c) .args .a)) (tyMeant (start (taken c) .args .b)))
-    ≡ ok (tyMeant (c .before .before .enum-told .given .0 .0))
-suited c = sym (says (taken c)) ∙ ap typedSays (c .before .before .enum-told .given .1)
+-- so its code is a type's
+typed : (c : Compared) → codeSays (code (taken c)) ≡ ok (tyIn (code (taken c)))
+typed c =
+    let is-typed = c .before .before in
+    says-type (code (taken c)) (sym (is-typed .before .is-type .ensures) ∙ not-false _ (is-typed .if1 .left))
+
+suited : (c : Compared) → made (taken c) ≡ ok (tyIn (code (taken c)))
+suited c = sym (says (taken c)) ∙ typed c
 
 -- refused at an operand's place
 at-operand : (m : Made) (text : List ℕ) (i : ℕ) → _≡_ {A = Answer Ty} (refused 23 inText (placeAt (nodes m) i)) (refused 23 inText (placeOf (treeAt text (nodes m) i)))
@@ -71,32 +94,32 @@ left-loses c text =
     let left = c .before .before in
     let m = taken (left .before) in
     c .lost .ensures ∙ at-operand m text (start m .args .left)
-    ∙ left-lost (place m) _ _ _ _ _ (left .before .enum-told3 .given .1) _ (suited (left .before))
-    (sym (left .kept .ensures text) ∙ not-true _ (c .before .if1 .taken))
+    ∙ left-lost (place m) _ _ _ _ _ (left .before .enum-told .given .1) _ (suited (left .before))
+    (sym (left .kept .ensures text) ∙ not-true _ (c .before .if2 .taken))
 
 -- where the left operand keeps its bits, and the right one has been looked at
 abbrev looked : tie.After-kept2 → Compared
 looked c = c .before .before .before
 
 left-kept : (c : tie.After-kept2) (text : List ℕ)
-    → keepsBits (treeAt text (nodes (taken (looked c))) (start (taken (looked c)) .args .left)) (tyMeant (start (taken (looked c)) .args .b)) ≡ true
-left-kept c text = sym (c .before .before .kept .ensures text) ∙ not-false _ (c .before .if1 .left)
+    → keepsBits (treeAt text (nodes (taken (looked c))) (start (taken (looked c)) .args .left)) (tyIn (start (taken (looked c)) .args .b)) ≡ true
+left-kept c text = sym (c .before .before .kept .ensures text) ∙ not-false _ (c .before .if2 .left)
 
 right-loses : tie.Need-returns-4
 right-loses c text =
     let right = c .before .before in
     let m = taken (looked right) in
     c .lost2 .ensures ∙ at-operand m text (start m .args .at - 1)
-    ∙ right-lost (place m) _ _ _ _ _ (looked right .enum-told3 .given .1) _ (suited (looked right)) (left-kept right text)
-    (sym (right .kept2 .ensures text) ∙ not-true _ (c .before .if2 .taken))
+    ∙ right-lost (place m) _ _ _ _ _ (looked right .enum-told .given .1) _ (suited (looked right)) (left-kept right text)
+    (sym (right .kept2 .ensures text) ∙ not-true _ (c .before .if3 .taken))
 
 both-keep : tie.Need-returns-5
 both-keep c text =
     let right = c .before in
     let m = taken (looked right) in
-    ap typedSays (looked right .before .before .enum-told .given .1)
-    ∙ both-kept (place m) _ _ _ _ _ (looked right .enum-told3 .given .1) _ (suited (looked right)) (left-kept right text)
-    (sym (right .kept2 .ensures text) ∙ not-false _ (c .if2 .left))
+    typed (looked right)
+    ∙ both-kept (place m) _ _ _ _ _ (looked right .enum-told .given .1) _ (suited (looked right)) (left-kept right text)
+    (sym (right .kept2 .ensures text) ∙ not-false _ (c .if3 .left))
 
 pub between-spec : {M : Type 1} → statement M
 between-spec =
@@ -105,8 +128,9 @@ between-spec =
     (λ c κs. search needs)
     (λ c κs. search needs)
     (λ c κs. search needs)
-    (λ c. search needs)
-    (λ c. search needs)
+    (λ c κs. search needs)
+    place-held
+    (λ c κs. search needs)
     types-wrong
     (λ c. search needs)
     (λ c. search needs)

@@ -24,9 +24,15 @@ use Rattle.typing.specs.Says.{operatorMade}
 use Rattle.typing.proofs.Typable.{passed}
 use Rattle.translating.specs.Own.{operandCode, operator, operatorSkips}
 
-both-true : (s t : Bool) → (s && t) ≡ true → (s ≡ true) × (t ≡ true)
+pub both-true : (s t : Bool) → (s && t) ≡ true → (s ≡ true) × (t ≡ true)
 both-true true t h = (refl, h)
 both-true false t h = absurd (false≢true h)
+
+-- a join takes two bools
+pub joined-bools : (at : ℕ) (o : Join) (a b t : Ty) → operatorType at (operatorMade (Joins o) a b) ≡ ok t → (a ≡ bool) × (b ≡ bool)
+joined-bools at o a b t made =
+    let both = both-true (sameTy a bool) (sameTy b bool) (passed at (sameTy a bool && sameTy b bool) bool t made .0) in
+    (same-types a bool (both .0), same-types b bool (both .1))
 
 module _ (ks : List Key) where
   -- a leaf, by what its names name
@@ -63,7 +69,7 @@ module _ (ks : List Key) where
       length (operatorSkips o over) + length (changed (some a) (meet a b)) + length (codeOf ks r) + length (changed (some b) (meet a b))
 
   module _ (at : ℕ) (l r : Tree) (a b t : Ty) (left : typeOf ks l ≡ ok a) (right : typeOf ks r ≡ ok b) where
-    -- a join takes two bools, which meet as they are, so that the skip passes over the right operand's code and the join
+    -- two bools meet as they are, so that the skip passes over the right operand's code and the join
     joined : (o : Join) (over : ℕ) → a ≡ bool → b ≡ bool → over ≡ way r a b (Joins o) over
         → between l r a b (Joins o) over ≡ codeOf ks (operatorOn at (Joins o) l r)
     unfolding codeOf
@@ -75,6 +81,6 @@ module _ (ks : List Key) where
         → between l r a b o over ≡ codeOf ks (operatorOn at o l r)
     unfolding codeOf
     operated-code (Joins o) over made reaches =
-        let both = both-true (sameTy a bool) (sameTy b bool) (passed at (sameTy a bool && sameTy b bool) bool t made .0) in
-        joined o over (same-types a bool (both .0)) (same-types b bool (both .1)) reaches
+        let bools = joined-bools at o a b t made in
+        joined o over (bools .0) (bools .1) reaches
     operated-code (Compares c) over made reaches = rw (left, right) (simp append-assoc)

@@ -1,2 +1,3 @@
+pub mod Compared
 pub mod Own
 pub mod Writing

@@ -1,6 +1,5 @@
 // The skip of a join, which stands directly after the left operand's code.
-ghost use mathlib.Core.Path.{_≡_};
-ghost use Prim.Native.Nat.{ℕ, _+_, _*_, _≤_};
+ghost use Prim.Native.Nat.{_+_, _*_, _≤_};
 ghost use lib.ListN.{length};
 ghost use Rattle.translating.specs.Writing.{Room, Wrote};
 ghost use Rattle.translating.specs.Own.{operatorSkips, skipsAt};
@@ -8,28 +7,6 @@ use crate::operator;
 use crate::put;
 use trees::Node;
 use trees::Operator;
-
-fn operator_slots(o: Operator) -> usize
-    ensures { λ r. ⌜ ((over : ℕ) → r ≡ length (operatorSkips o over)) ⌝ }
-{
-    match o {
-        Operator::Joins(_) => 1,
-        Operator::Compares(_) => 0,
-    }
-}
-
-// How many skips a node has.
-pub(crate) fn slots(nodes: &[u32], at: usize) -> usize
-    requires { ⌜ at * 8 + 8 ≤ length (now nodes) ⌝ }
-    ensures { λ r. ⌜ ((over : ℕ) → r ≡ length (skipsAt (now (nodes .entry)) at over)) ⌝ }
-{
-    let n = Node::read(nodes, at);
-    match n {
-        Node::Without => 0,
-        Node::Before(_) => 0,
-        Node::Between(o, _) => operator_slots(o),
-    }
-}
 
 fn write_operator_skip(o: Operator, over: usize, i: usize, code: &mut [u8]) -> usize
     requires { ⌜ Room (now code) i (operatorSkips o over) ⌝ }

@@ -1,9 +1,10 @@
 // Runs: bytes of one sort that stand together.
 ghost use mathlib.Core.Path.{_≡_};
-ghost use Prim.Native.Nat.{_≤_};
+ghost use Prim.Native.Nat.{_+_, _≤_};
+ghost use lib.Dec.{leb};
 ghost use lib.ListN.{length, drop};
 ghost use Rattle.paper.specs.Tokens.{span};
-ghost use Rattle.spelling.specs.Runs.{inRun, EndsAt};
+ghost use Rattle.spelling.specs.Runs.{inRun, EndsAt, lineMore, stride};
 use crate::bytes;
 use crate::word;
 
@@ -47,4 +48,38 @@ pub fn run_end(text: &[u8], at: usize, run: Run) -> usize
         i += 1;
     }
     i
+}
+
+// So many bytes are looked through together for the end of a line.
+const STRIDE: usize = 16;
+
+// Whether a line goes on through so many bytes. No byte of them ends the loop, so that the compiler takes them all at once.
+fn goes_through(text: &[u8], at: usize) -> bool
+    requires { ⌜ at + stride ≤ length (now text) ⌝ }
+    ensures { λ r. ⌜ r ≡ leb stride (lineMore (now (text .entry)) at) ⌝ }
+{
+    let mut ended = 0u8;
+    let mut k = 0;
+    while k < STRIDE {
+        if text[at + k] == b'\n' {
+            ended = 1;
+        }
+        k += 1;
+    }
+    ended == 0
+}
+
+// Where the line ends that goes on at an offset.
+pub fn line_end(text: &[u8], at: usize) -> usize
+    requires { ⌜ at ≤ length (now text) ⌝ }
+    ensures { λ r. ⌜ EndsAt (now (text .entry)) at (lineMore (now (text .entry)) at) r ⌝ }
+{
+    let mut i = at;
+    while i + STRIDE <= text.len() {
+        if !goes_through(text, i) {
+            break;
+        }
+        i += STRIDE;
+    }
+    run_end(text, i, Run::Line)
 }

@@ -20,7 +20,7 @@ pub fn is_id_start(byte: u8) -> bool
 }
 
 // Whether a byte may stand in an id: a letter, a digit or an underscore.
-pub fn is_id_byte(byte: u8) -> bool
+pub(crate) fn is_id_byte(byte: u8) -> bool
     ensures { λ r. ⌜ r ≡ isIdByte byte ⌝ }
 {
     if is_id_start(byte) {

@@ -7,17 +7,20 @@ use native.Mathlib.Omega.{arith}
 use lib.ListN.{length, getD, drop}
 use lib.Seq.{sets, length-sets}
 use lib.Dec.{eqb}
-use borrow.Author.Tests.{eqb-true, eqb-false}
+use borrow.Author.Tests.{eqb-true, eqb-false, ne-eqb}
 use Rattle.paper.specs.Answers.{Answer, ok, refused, inText}
 use Rattle.paper.specs.Tokens.{isBlank, Literal, plain, Token, Scan, octalNumeral, taken, scan, tokensFrom, tokens, mostTokens}
 use Rattle.paper.specs.Parts.{tokenEnd}
 use Rattle.number.specs.Bases.{literalMeant}
 use Rattle.number.specs.declared.base.Literal as N
-use Rattle.tokens.specs.Scanned.{Stands}
-use Rattle.tokens.specs.Tape.{Tape, tapeOf, rowWords, rowAt, Has, Room, rowOf, tokensOn}
-use Rattle.tokens.specs.Tokenized.{CutSays, octalRefusal, Sound, SpansOn, EndsOn}
+use Rattle.tokens.specs.Scanned.{Stands, kindIn, plainEnd, plainScan, plainFound}
+use Rattle.tokens.specs.Tape.{Tape, tapeOf, rowWords, rowAt, Has, Room, RoomFor, rowOf, tokensOn}
+use Rattle.tokens.specs.Tokenized.{CutSays, Placed, octalRefusal, rowRefusal, Sound, SpansOn, EndsOn}
+use Rattle.paper.specs.declared.Place.the-variants.{Text}
+use Rattle.tokens.specs.declared.Cut.the-variants.{Refused, Over}
 use Rattle.tokens.specs.declared.found.Lexeme.{Lexeme}
 use Rattle.tokens.specs.declared.found.Lexeme.the-variants as F
+use Rattle.tokens.proofs.SignBytes.{plain-scanned}
 use Rattle.tokens.proofs.Scans.{stands-as, as-blank, blank-stands}
 use Rattle.tokens.proofs.Steps.{following, following-one, blank-step, token-step, full-step, octal-full-step, octal-step, no-step, large-step, end-step}
 use Rattle.tokens.proofs.Storing.{tokens-stored, spans-stored, ends-stored}
@@ -111,6 +114,26 @@ module _ (text rows : List ℕ) (n at : ℕ) (g : Going (tapeOf text rows) n at)
   going-full v kind end full w =
       let e : mostTokens - n ≡ 0 = omega arith in
       from-here (refused 7 inText at) (rw e (full-step scan text at 0 h _ _ (sym (w .says))))
+
+  -- a token for which there is no row
+  pub going-no-row : (v : Literal) (kind end : ℕ) → RoomFor (length rows) n → Here text at v (F.Token kind end)
+      → CutSays (tapeOf text rows) (rowRefusal n at) × Placed (tapeOf text rows) (rowRefusal n at)
+  going-no-row v kind end room w = go (eqb n mostTokens) refl
+    where
+      go : (full : Bool) → eqb n mostTokens ≡ full
+          → CutSays (tapeOf text rows) (cond full (Refused 7 (Text at)) Over) × Placed (tapeOf text rows) (cond full (Refused 7 (Text at)) Over)
+      go true e = (going-full v kind end (eqb-true n mostTokens e) w, tt)
+      go false e =
+          let few : n < mostTokens = omega (arith, g .few, eqb-false n mostTokens e) in
+          (going-over few (room .most few), tt)
+
+  -- a word or a sign
+  pub plain-here : isBlank (getD text at 0) ≡ false → (code : ℕ) → (code ≡ 0 → ⊥)
+      → Stands text at (plain 0) (plainScan (getD text at 0) (drop (at + 1) text)) (plainFound text at code)
+      → Here text at (plain 0) (F.Token (kindIn code) (plainEnd text at code))
+  plain-here blank-not code some w =
+      let is : Stands text at (plain 0) (plainScan (getD text at 0) (drop (at + 1) text)) (F.Token (kindIn code) (plainEnd text at code)) = rw (ne-eqb code 0 some) at w in
+      stands-as refl refl (plain-scanned (getD text at 0) (drop (at + 1) text) _ _ (is .says) blank-not) is
 
   -- an octal numeral: there is room for a token or not
   pub going-octal : (v m : ℕ) → octalNumeral v m ≡ scan (getD text at 0) (drop (at + 1) text)

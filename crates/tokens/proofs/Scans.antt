@@ -54,7 +54,7 @@ stands-as e p q h = rw (e, p, q) h
 
 -- words and numerals
 
-more-fits : (s : List ℕ) → wordMore s ≤ length s
+pub more-fits : (s : List ℕ) → wordMore s ≤ length s
 more-fits [] = omega arith
 more-fits (b ∷ s) = go (isIdByte b || is "." b && starts isIdStart s) (more-fits s)
   where

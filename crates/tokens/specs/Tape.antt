@@ -1,14 +1,15 @@
 -- How the tokens of a text stand on a tape, a slice of numbers: a row of eight words for each token, which are its kind, its
 -- first byte, the byte past its last, the four limbs of a numeral's number, and the radix of its base.
-use Prim.Native.Nat.{ℕ, zero, suc, _+_, _*_, _-_, _≤_}
+use Prim.Native.Nat.{ℕ, zero, suc, _+_, _*_, _-_, _≤_, _<_}
+use mathlib.Core.Path.{_≡_}
 use mathlib.Core.Bool.{cond}
 use mathlib.Core.List.{List, [], _∷_}
 use lib.ListN.{length, getD}
-use lib.Seq.{slice}
+use lib.Seq.{slice, sets}
 use lib.Dec.{eqb}
-use Rattle.paper.specs.Tokens.{Sign, join, comparison, prefix, opening, closing, colons, sequel, implies, orElse, andAlso, equal, unequal, greater, atLeast, less, atMost, notSign, minusSign, Tok, word, numeral, string, sign, Token, radix, Literal, literalIn, mostTokens}
+use Rattle.paper.specs.Tokens.{Sign, join, comparison, prefix, opening, closing, colons, sequel, implies, orElse, andAlso, equal, unequal, greater, atLeast, less, atMost, notSign, minusSign, Tok, word, numeral, string, sign, Token, radix, Literal, literalIn, plain, mostTokens}
 use Rattle.number.specs.Values.{nested, limb}
-use Rattle.number.specs.Bases.{baseMeant, ofRadix}
+use Rattle.number.specs.Bases.{baseMeant, ofRadix, literalMeant}
 use Rattle.number.specs.declared.base.Literal as N
 
 -- a text and the rows of its tokens
@@ -36,6 +37,12 @@ Has rows i = rowAt i + rowWords ≤ length rows
 abbrev pub Room : List ℕ → List ℕ → Type 0
 Room text rows = (n : ℕ) → n ≤ mostTokens → n ≤ length text → n * rowWords ≤ length rows
 
+-- so many tokens have a row among a number of words, and no text has more, or there is no further row
+pub record RoomFor (words n : ℕ) : Type 0 where
+  pub few : n ≤ mostTokens
+  pub has : n * rowWords ≤ words
+  pub most : n < mostTokens → words < (n + 1) * rowWords
+
 abbrev pub wordAt : List ℕ → ℕ → ℕ → ℕ
 wordAt rows i k = getD rows (rowAt i + k) 0
 
@@ -58,6 +65,12 @@ abbrev pub rowOf : ℕ → ℕ → ℕ → N.Literal → List ℕ
 rowOf kind from to l =
     let m = l .number in
     kind ∷ from ∷ to ∷ limb m 0 ∷ limb m 1 ∷ limb m 2 ∷ limb m 3 ∷ radix (baseMeant (l .base)) ∷ []
+
+-- the row of a token that is no numeral was stored
+pub record PutPlain (before : List ℕ) (token kind from to : ℕ) (after : List ℕ) : Type 0 where
+  pub literal : N.Literal
+  pub zero : literalMeant literal ≡ plain 0
+  pub stored : after ≡ sets before (rowAt token) (rowOf kind from to literal)
 
 -- kinds
 

@@ -23,6 +23,10 @@ CutSays T Over = Room (T .text) (T .rows) → ⊥
 abbrev pub octalRefusal : ℕ → ℕ → Cut
 octalRefusal n at = Refused (cond (eqb n mostTokens) 7 22) (Text at)
 
+-- and at a token after n, where there is no row for it
+abbrev pub rowRefusal : ℕ → ℕ → Cut
+rowRefusal n at = cond (eqb n mostTokens) (Refused 7 (Text at)) Over
+
 -- the token of an index stands in the text
 abbrev pub SpansOn : Tape → ℕ → Type 0
 SpansOn T i = Spans (T .text) (kindAt (T .rows) i) (startAt (T .rows) i) (endAt (T .rows) i)

@@ -35,5 +35,5 @@ pub(crate) fn comment(text: &[u8], at: usize) -> Lexeme
     if text[next] != b'/' {
         return Lexeme::NoToken;
     }
-    Lexeme::Blank(runs::run_end(text, next + 1, Run::Line))
+    Lexeme::Blank(runs::line_end(text, next + 1))
 }

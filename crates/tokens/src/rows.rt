@@ -6,7 +6,8 @@ ghost use mathlib.Core.Path.{_≡_};
 ghost use Prim.Native.Nat.{_^_, _<_};
 ghost use lib.Seq.{sets};
 ghost use Rattle.number.specs.Bases.{literalMeant};
-ghost use Rattle.tokens.specs.Tape.{Has, rowAt, kindAt, startAt, endAt, literalAt, rowOf};
+ghost use Rattle.tokens.specs.Tape.{Has, RoomFor, rowAt, kindAt, startAt, endAt, literalAt, rowOf, PutPlain};
+use crate::MOST_TOKENS;
 use number::Base;
 use number::Literal;
 use number::Magnitude;
@@ -21,6 +22,17 @@ pub struct Row {
 
 impl Row {
     pub const WORDS: usize = 8;
+}
+
+// How many tokens have a row among so many words, up to as many as a text may have.
+pub(crate) fn room(words: usize) -> usize
+    ensures { λ r. ⌜ RoomFor words r ⌝ }
+{
+    let rows = words / Row::WORDS;
+    if MOST_TOKENS < rows {
+        return MOST_TOKENS;
+    }
+    rows
 }
 
 // The kind of the token of an index.
@@ -79,4 +91,19 @@ pub(crate) fn put(tape: &mut [u32], token: usize, row: Row)
     tape[at + 5] = number.limbs[2];
     tape[at + 6] = number.limbs[3];
     tape[at + 7] = base.radix();
+}
+
+// The same of a token that is no numeral.
+pub(crate) fn put_plain(tape: &mut [u32], token: usize, kind: u32, start: usize, end: usize)
+    requires { ⌜ Has (now tape) token ⌝ }
+    requires { ⌜ (start < 2 ^ 32) × (end < 2 ^ 32) ⌝ }
+    ensures { λ _. ⌜ PutPlain (now (tape .entry)) token kind start end (now (tape .exit)) ⌝ }
+{
+    let row = Row {
+        kind: kind,
+        start: start,
+        end: end,
+        literal: Literal::plain(Magnitude::zero()),
+    };
+    put(tape, token, row);
 }

@@ -21,7 +21,7 @@ other c =
 line : tie.Need-returns-3
 line c =
     let given = start (c .before .before) .args in
-    comment-line (given .text .now) (given .at) (c .run-end .result) (search needs) (c .before .if2 .left) (c .run-end .ensures)
+    comment-line (given .text .now) (given .at) (c .line-end .result) (search needs) (c .before .if2 .left) (c .line-end .ensures)
 
 pub comment-spec : {M : Type 1} → statement M
 comment-spec =

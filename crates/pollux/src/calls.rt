@@ -1,12 +1,4 @@
 // The calls, on the files that arguments 2 to 5 name.
-use crate::entries::Way;
-use crate::entries::judge_file;
-use crate::named::say_summary;
-use crate::octal;
-use crate::rechecks::recheck_files;
-use crate::refusals::refused;
-use crate::say::say_argument;
-use crate::say::say_count;
 use crate::sizes;
 use crate::writing::write_argument;
 use blocks::Block;
@@ -21,6 +13,14 @@ use paper::Place;
 use paper::Printing;
 use paper::Summarizing;
 use paper::Translation;
+use streaming::Way;
+use streaming::judge_file;
+use streaming::recheck_files;
+use wording::named::say_summary;
+use wording::octal;
+use wording::refusals::refused;
+use wording::say::say_argument;
+use wording::say::say_count;
 
 // Where a call finds its files among the arguments.
 const FIRST: usize = 2;
@@ -30,6 +30,10 @@ const SECOND: usize = 3;
 const OUT: usize = 4;
 
 const BLOCKS: usize = 4;
+
+const ENTRIES: usize = 4;
+
+const EDITED: usize = 5;
 
 pub enum Call {
     Check,
@@ -46,9 +50,9 @@ pub enum Call {
 // What a text that passed is for.
 fn passed(call: Call, text: &[u8], list: &[u8]) {
     match call {
-        Call::Judge => judge_file(Way::Judge, text, list),
-        Call::Explain => judge_file(Way::Explain, text, list),
-        Call::Recheck => recheck_files(text, list),
+        Call::Judge => judge_file(Way::Judge, text, list, ENTRIES),
+        Call::Explain => judge_file(Way::Explain, text, list, ENTRIES),
+        Call::Recheck => recheck_files(text, list, ENTRIES, EDITED),
         _ => say(b"passed\n"),
     }
 }
@@ -130,7 +134,7 @@ fn compare(text: &[u8], list: &[u8], text_size: usize, list_size: usize) {
 // What blocks that loaded are for.
 fn loaded(call: Call, instructions: usize, list: &[u8], blocks: &[u8]) {
     if let Call::Run = call {
-        judge_file(Way::Run, blocks, list)
+        judge_file(Way::Run, blocks, list, ENTRIES)
     } else {
         say_count(
             b"loaded # instruction\n",
@@ -209,11 +213,7 @@ pub(crate) fn print() {
 // What the pass made of a text, into the file that argument 3 names.
 fn fixed(text: &[u8], made: &[u8]) {
     if write_argument(SECOND, made) {
-        say_count(
-            b"fixed # numeral: ",
-            b"fixed # numerals: ",
-            octal::count_changes(text, made),
-        );
+        octal::say_fixed(text, made);
         say_argument(SECOND);
         say(b"\n");
         octal::say_changes(text, made)

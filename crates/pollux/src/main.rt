@@ -7,23 +7,10 @@
 // A count has the lines of the crate `report`, and a refusal there begins with refusal.
 // Files may have any length: a place that is a length is the file's true length, and entries stream through one buffer. No output file is
 // touched unless the whole call passes, and it is written whole or not at all.
-mod bits;
-mod broken;
 mod calls;
-mod caret;
-mod contracts;
-mod entries;
-mod named;
-mod octal;
 mod pacts;
-mod ran;
-mod reasons;
-mod rechecks;
-mod refusals;
-mod say;
 mod sizes;
 mod tables;
-mod tally;
 mod writing;
 
 use calls::Call;

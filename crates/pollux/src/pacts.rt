@@ -1,10 +1,4 @@
 // A Pact contract into a text: CONTRACT is bytes, TABLE decimal numbers, a line each, KEYS names the contract's inputs, and OUT is the text.
-use crate::caret;
-use crate::contracts::say_why;
-use crate::reasons::say_reason;
-use crate::say::say_argument;
-use crate::say::say_count;
-use crate::say::say_two;
 use crate::tables::Found;
 use crate::tables::read_table;
 use crate::writing::write_argument;
@@ -16,6 +10,12 @@ use lines::start;
 use paper::Drafting;
 use paper::Place;
 use paper::refused;
+use wording::caret;
+use wording::contracts::say_why;
+use wording::reasons::say_reason;
+use wording::say::say_argument;
+use wording::say::say_count;
+use wording::say::say_two;
 
 // Where the call finds its files among the arguments.
 const CONTRACT: usize = 2;

@@ -1,26 +1,7 @@
-// Sizes and lengths.
-ghost use Prim.Native.Nat.{_<_};
+// The size of a file that is written.
 ghost use mathlib.Core.Path.{_≡_};
-ghost use Rattle.pollux.specs.Sizes.{wholeOf, EndsIn, firstBlocks};
+ghost use Rattle.pollux.specs.Sizes.{firstBlocks};
 use blocks::Block;
-
-// Where the entry at an offset ends: after its size, or where the bytes do.
-pub(crate) fn entry_end(at: usize, size: usize, end: usize) -> usize
-    requires { ⌜ at < end ⌝ }
-    requires { ⌜ 0 < size ⌝ }
-    ensures { λ r. ⌜ EndsIn at size end r ⌝ }
-{
-    if size < end - at { at + size } else { end }
-}
-
-// The whole entries at the start of some bytes.
-pub(crate) fn whole_of(entries: &[u8], size: usize) -> &[u8]
-    requires { ⌜ 0 < size ⌝ }
-    ensures { λ r. ⌜ now r ≡ wholeOf size (now (entries .entry)) ⌝ }
-{
-    let to = entries.len() - entries.len() % size;
-    &entries[..to]
-}
 
 // The first blocks of a buffer; all of it for more blocks than there may be.
 pub(crate) fn first_blocks(buffer: &[u8], blocks: usize) -> &[u8]

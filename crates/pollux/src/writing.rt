@@ -1,10 +1,10 @@
 // A file that is written whole or not at all: its bytes go to a file beside it, OUT.part, which takes its name once they are all there.
 // A link or a device must stay what it is, so what a link leads to, and a device, is written in place.
 ghost use Rattle.libc.specs.Io.{Ended};
-use crate::say::cannot_write;
-use crate::say::cannot_write_by;
 use libc::PATH_MAX;
 use lines::start;
+use wording::say::cannot_write;
+use wording::say::cannot_write_by;
 
 // The longest path that leaves room for ".part" and for C's 0 after it.
 const LONGEST: usize = PATH_MAX - 6;

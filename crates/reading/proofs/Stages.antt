@@ -51,8 +51,8 @@ still-over s r e h = subst (λ (x : Grown). Settles s (ofTree x)) e h
 -- 5 to 10; 11 to 14
 
 module _ (text nodes : List ℕ) (r : Grown) (grows : Told (Grows text nodes) (ofTree r)) where
-  pub planted : {m n : ℕ} → r ≡ R.Tree m n → Planted text nodes m
-  planted e = subst (λ (x : Grown). Told (Grows text nodes) (ofTree x)) e grows
+  pub grown : {m n : ℕ} → r ≡ R.Tree m n → Planted text nodes m
+  grown e = subst (λ (x : Grown). Told (Grows text nodes) (ofTree x)) e grows
 
   -- a refusal of the tree is one of its types
   pub not-grown : (list : List ℕ) {n : ℕ} {p : Place} → r ≡ R.Refused n p → (tree text >>= typed (keysIn list)) ≡ refused n (inputOf p) (offsetOf p)
@@ -121,6 +121,10 @@ told Says (T.Answered r) settled t = t
 told Says T.Over settled t = absurd settled
 
 -- what the answer tells
+
+pub planted : (text nodes : List ℕ) (r : Counted) → Grows text nodes r → {m : ℕ} → r ≡ Count m → Planted text nodes m
+planted text nodes r told e = subst (Grows text nodes) e told
+
 module _ (text list nodes : List ℕ) (r : Counted) (told : Restricts text list nodes r) where
   pub not-restricted : {n : ℕ} {p : Place} → r ≡ Refused n p → restriction text list ≡ refused n (inputOf p) (offsetOf p)
   not-restricted e = subst (Restricts text list nodes) e told

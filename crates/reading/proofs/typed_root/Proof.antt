@@ -11,7 +11,7 @@ use Rattle.keys.specs.Says.{keysIn}
 use Rattle.trees.proofs.Marking.{marked-below}
 use Rattle.reading.specs.declared.grown.Grown.the-variants as R
 use Rattle.reading.specs.declared.tried.Scratch.{Scratch}
-use Rattle.reading.proofs.Stages.{settles, still-over, planted, still-planted, not-grown, not-typed, right-types}
+use Rattle.reading.proofs.Stages.{settles, still-over, grown, still-planted, not-grown, not-typed, right-types}
 use Rattle.reading.proofs.Parted.{sown-told, still-sown, ready}
 use Rattle.reading.proofs.typed_root.Statement.{statement}
 use Rattle.reading.proofs.typed_root.Tie as tie
@@ -72,7 +72,7 @@ names-stand : tie.Need-resolve-requires
 names-stand c κs =
     let known : Known = c .before in
     let t = read-at known .read-parts in
-    (start (read-at known) .pre .1 .0, planted _ _ (t .result) (t .ensures .0 .1) (grown-told known) .has)
+    (start (read-at known) .pre .1 .0, grown _ _ (t .result) (t .ensures .0 .1) (grown-told known) .has)
 
 -- where its names are resolved
 
@@ -80,13 +80,13 @@ abbrev known-at : tie.After-slice-known5 → Known
 known-at c = c .before .before .before .before
 
 some-nodes : (c : tie.After-slice-known5) → 1 ≤ size (known-at c)
-some-nodes c = let t = read-at (known-at c) .read-parts in planted _ _ (t .result) (t .ensures .0 .1) (grown-told (known-at c)) .some
+some-nodes c = let t = read-at (known-at c) .read-parts in grown _ _ (t .result) (t .ensures .0 .1) (grown-told (known-at c)) .some
 
 root-stands : tie.Need-check-types-requires
 root-stands c κs =
     let at-names = c .before in
     let t = read-at (known-at at-names) .read-parts in
-    let p = planted _ _ (t .result) (t .ensures .0 .1) (grown-told (known-at at-names)) in
+    let p = grown _ _ (t .result) (t .ensures .0 .1) (grown-told (known-at at-names)) in
     omega (arith, at-names .before .before .resolve .kept, p .has, p .some)
 
 -- where its types are checked
@@ -101,7 +101,7 @@ wrong-types c =
     let at-read = read-at known in
     let names = names-at at-check .before .before .resolve in
     let u = at-check .check-types in
-    let p = planted _ _ (at-read .read-parts .result) (at-read .read-parts .ensures .0 .1) (grown-told known) in
+    let p = grown _ _ (at-read .read-parts .result) (at-read .read-parts .ensures .0 .1) (grown-told known) in
     let some = some-nodes (names-at at-check) in (
       (
         settles (scratch at-read) (Refused _ _),
@@ -119,7 +119,7 @@ right c =
     let t = at-read .read-parts in
     let names = names-at at-check .before .before .resolve in
     let u = at-check .check-types in
-    let p = planted _ _ (t .result) (t .ensures .0 .1) (grown-told known) in
+    let p = grown _ _ (t .result) (t .ensures .0 .1) (grown-told known) in
     let some = some-nodes (names-at at-check) in
     let typed = right-types (text at-read) (list at-read) _ (size known) (still-planted (text at-read) (list at-read) _ _ (size known) (names .ensures) p)
     (u .result) (u .ensures (text at-read) (marked-below (keysIn (list at-read)) (text at-read) _ (omega arith) (names .ensures .marked)))

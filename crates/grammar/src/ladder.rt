@@ -156,7 +156,7 @@ pub(crate) fn chain(text: &[u8], tape: &[u32], rung: Rung, from: &Start, nodes: 
 {
     let first = operand(text, tape, Rung::Comparison, from, nodes);
     let Taken::Tree(f, i) = first else {
-        return first;
+        return first.again();
     };
     let mut level = Rung::Comparison;
     let mut past = f;
@@ -165,10 +165,10 @@ pub(crate) fn chain(text: &[u8], tape: &[u32], rung: Rung, from: &Start, nodes: 
         let onward = moved(from, next, past);
         let more = further(text, tape, level, &onward, nodes);
         let Taken::Tree(end, rest) = more else {
-            return more;
+            return more.again();
         };
         if height(level) == height(rung) {
-            return more;
+            return Taken::Tree(end, rest);
         }
         level = looser(level, rung);
         past = end;
@@ -194,7 +194,7 @@ fn further(text: &[u8], tape: &[u32], rung: Rung, from: &Start, nodes: &mut [u32
         let onward = moved(from, next + 1, past);
         let more = operand(text, tape, rung, &onward, nodes);
         let Taken::Tree(end, rest) = more else {
-            return more;
+            return more.again();
         };
         put_joined(tape, nodes, end, sign, next, past - 1);
         if at_most_once(rung) {
@@ -220,7 +220,7 @@ fn prefix(text: &[u8], tape: &[u32], from: &Start, nodes: &mut [u32]) -> Taken
     let onward = inside(from);
     let operand = prefix(text, tape, &onward, nodes);
     let Taken::Tree(past, next) = operand else {
-        return operand;
+        return operand.again();
     };
     put_prefixed(tape, nodes, past, sign, at);
     Taken::Tree(past + 1, next)
@@ -238,7 +238,7 @@ fn atom(text: &[u8], tape: &[u32], from: &Start, nodes: &mut [u32]) -> Taken
     let onward = inside(from);
     let inner = chain(text, tape, Rung::Sequence, &onward, nodes);
     let Taken::Tree(past, next) = inner else {
-        return inner;
+        return inner.again();
     };
     close(text, tape, from[COUNT], past, next)
 }

@@ -72,10 +72,12 @@ module _ (t : ℕ) where
 
   inside-refused : lts.Need-returns-2 (atom-calls t) (atom-at t) atom.Post
   inside-refused c =
-      let read : Read = c .before .before .before .before in
+      let told = c .before in
+      let read : Read = told .before .before .before .before in
       let f = found (read-looked read .next-in .ensures) (read-opened read .enum-told .given .1) in
-      pass-up _ _ _ _ _ _ _ _ _ _ _ _ (paren-up _ _ _ _ _ _ f) (read .chain .result) (c .enum-told3 .given .1)
-      (started (L.sequence false) _ _ _ (read .chain .result) (read-inside read .inside .ensures) (read .chain .ensures))
+      rw (c .again .ensures)
+      (pass-up _ _ _ _ _ _ _ _ _ _ _ _ (paren-up _ _ _ _ _ _ f) (read .chain .result) (told .enum-told3 .given .1)
+      (started (L.sequence false) _ _ _ (read .chain .result) (read-inside read .inside .ensures) (read .chain .ensures)))
 
   -- where it is a tree
   abbrev Tree : Type 0
@@ -115,7 +117,8 @@ atom-closed t =
     (inside-falls t)
     (λ c. search needs)
     (λ c. search needs)
-    (λ c. omega (arith, c .before .before .before .before .chain .kept))
+    (λ c κs. search needs)
+    (λ c. omega (arith, c .before .before .before .before .before .chain .kept))
     (inside-refused t)
     (λ c. search needs)
     (close-fits t)

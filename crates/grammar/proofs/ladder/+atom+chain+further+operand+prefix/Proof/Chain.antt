@@ -31,8 +31,10 @@ module _ (t : ℕ) where
 
   first-refused : lts.Need-returns (chain-calls t) (chain-at t) chain.Post chain-Inv-loop chain-μ-loop
   first-refused c =
-      let first : First = c .before .before .before .before in
-      pass-up _ _ _ _ _ _ _ _ _ _ _ _ (first-up _ _ _ (rung first)) (first .operand .result) (c .enum-told .given .1) (first .operand .ensures)
+      let told = c .before in
+      let first : First = told .before .before .before .before in
+      rw (c .again .ensures)
+      (pass-up _ _ _ _ _ _ _ _ _ _ _ _ (first-up _ _ _ (rung first)) (first .operand .result) (told .enum-told .given .1) (first .operand .ensures))
 
   -- where it is a tree
   abbrev Read : Type 0
@@ -73,16 +75,18 @@ module _ (t : ℕ) where
 
   level-refused : lts.Need-returns-2 (chain-calls t) (chain-at t) chain.Post chain-Inv-loop chain-μ-loop
   level-refused c =
-      let onward : Onward = c .before .before .before .before in
+      let told = c .before in
+      let onward : Onward = told .before .before .before .before in
       let turn = onward-turn onward in
       let level = turn .loop .level in
       let h = turn .loop .inv .reads _ (took (turn-first turn .operand .ensures) (turn .before .before .first .given .1)) in
-      pass-up _ _ _ _ _ _ _ _ _ _ _ _ (climbs-up _ _ _ (turn .loop .inv .within)) (onward .further .result) (c .enum-told2 .given .1)
-      (continued (L.operandOf level) (L.rungOf level) _ _ _ (onward .further .result) (onward-moved onward .moved .ensures) (onward .further .ensures) _ _ _ h)
+      rw (c .again2 .ensures)
+      (pass-up _ _ _ _ _ _ _ _ _ _ _ _ (climbs-up _ _ _ (turn .loop .inv .within)) (onward .further .result) (told .enum-told2 .given .1)
+      (continued (L.operandOf level) (L.rungOf level) _ _ _ (onward .further .result) (onward-moved onward .moved .ensures) (onward .further .ensures) _ _ _ h))
 
   refused-kept : lts.Need-same-length-2 (chain-calls t) (chain-at t) chain.Post chain-Inv-loop chain-μ-loop
   refused-kept c =
-      let onward : Onward = c .before .before .before .before in
+      let onward : Onward = c .before .before .before .before .before in
       let turn = onward-turn onward in
       omega (arith, turn-first turn .operand .kept, turn .loop .inv .kept, onward .further .kept)
 
@@ -151,13 +155,15 @@ chain-closed t =
     (first-falls t)
     (λ c. search needs)
     (λ c. search needs)
-    (λ c. omega (arith, c .before .before .before .before .operand .kept))
+    (λ c κs. search needs)
+    (λ c. omega (arith, c .before .before .before .before .before .operand .kept))
     (first-refused t)
     (loop-begins t)
     (λ c κs. search needs)
     (level-falls t)
     (λ c. search needs)
     (λ c. search needs)
+    (λ c κs. search needs)
     (refused-kept t)
     (level-refused t)
     (λ c κs. search needs)

@@ -33,6 +33,7 @@ use Rattle.grammar.proofs.leaves.close.Reads as close-reads
 use Rattle.grammar.proofs.leaves.leaf.Reads as leaf-reads
 use Rattle.grammar.proofs.steps.inside.Reads as inside-reads
 use Rattle.grammar.proofs.steps.moved.Reads as moved-reads
+use Rattle.grammar.proofs.steps.Taken.again.Reads as again-reads
 use Rattle.grammar.proofs.store.put_joined.Reads as put-joined-reads
 use Rattle.grammar.proofs.store.put_prefixed.Reads as put-prefixed-reads
 use Rattle.grammar.proofs.tape.next_in.Reads as next-in-reads
@@ -92,19 +93,19 @@ further-below t = and 4 further-kinds.ps (falls 4 further-kinds.ps _<_ μ-furthe
 -- the contracts of the functions that each calls
 
 abbrev pub atom-calls : ℕ → atom-lts.Claims
-atom-calls t = (next-in-reads.Asked, next-in-reads.Learnt, leaf-reads.Asked, leaf-reads.Learnt, inside-reads.Asked, inside-reads.Learnt, chain-below t, chain.Post, close-reads.Asked, close-reads.Learnt)
+atom-calls t = (next-in-reads.Asked, next-in-reads.Learnt, leaf-reads.Asked, leaf-reads.Learnt, inside-reads.Asked, inside-reads.Learnt, chain-below t, chain.Post, again-reads.Asked, again-reads.Learnt, close-reads.Asked, close-reads.Learnt)
 
 abbrev pub prefix-calls : ℕ → prefix-lts.Claims
-prefix-calls t = (leaf-reads.Asked, leaf-reads.Learnt, next-in-reads.Asked, next-in-reads.Learnt, atom-below t, atom.Post, inside-reads.Asked, inside-reads.Learnt, prefix-below t, prefix.Post, put-prefixed-reads.Asked, put-prefixed-reads.Learnt)
+prefix-calls t = (leaf-reads.Asked, leaf-reads.Learnt, next-in-reads.Asked, next-in-reads.Learnt, atom-below t, atom.Post, inside-reads.Asked, inside-reads.Learnt, prefix-below t, prefix.Post, again-reads.Asked, again-reads.Learnt, put-prefixed-reads.Asked, put-prefixed-reads.Learnt)
 
 abbrev pub operand-calls : ℕ → operand-lts.Claims
 operand-calls t = (tighter-reads.Asked, tighter-reads.Learnt, next-in-reads.Asked, next-in-reads.Learnt, leaf-reads.Asked, leaf-reads.Learnt, prefix-below t, prefix.Post, chain-below t, chain.Post)
 
 abbrev pub chain-calls : ℕ → chain-lts.Claims
-chain-calls t = (operand-below t, operand.Post, moved-reads.Asked, moved-reads.Learnt, further-below t, further.Post, height-reads.Asked, height-reads.Learnt, looser-reads.Asked, looser-reads.Learnt)
+chain-calls t = (operand-below t, operand.Post, again-reads.Asked, again-reads.Learnt, moved-reads.Asked, moved-reads.Learnt, further-below t, further.Post, height-reads.Asked, height-reads.Learnt, looser-reads.Asked, looser-reads.Learnt)
 
 abbrev pub further-calls : ℕ → further-lts.Claims
-further-calls t = (operator-at-reads.Asked, operator-at-reads.Learnt, ends-after-reads.Asked, ends-after-reads.Learnt, moved-reads.Asked, moved-reads.Learnt, operand-below t, operand.Post, put-joined-reads.Asked, put-joined-reads.Learnt, at-most-once-reads.Asked, at-most-once-reads.Learnt)
+further-calls t = (operator-at-reads.Asked, operator-at-reads.Learnt, ends-after-reads.Asked, ends-after-reads.Learnt, moved-reads.Asked, moved-reads.Learnt, operand-below t, operand.Post, again-reads.Asked, again-reads.Learnt, put-joined-reads.Asked, put-joined-reads.Learnt, at-most-once-reads.Asked, at-most-once-reads.Learnt)
 
 -- the invariant of the loop of `chain`, and its measure: the rungs up to the goal
 

@@ -121,19 +121,21 @@ module _ (t : ℕ) where
 
   more-refused : lts.Need-returns-3 (further-calls t) (further-at t) further.Post further-Inv-loop further-μ-loop
   more-refused c =
-      let more : More = c .before .before .before .before in
+      let told = c .before in
+      let more : More = told .before .before .before .before in
       let onward = more-onward more in
       let at-operator = onward-operator onward in
       let turn = operator-turn at-operator in
       let f = sign-found at-operator in
       λ at b first h.
       let w = turn .loop .inv .going _ _ _ _ (going-start _ (rung-runs (rung turn) _ _) h) in
-      pass-up _ _ _ _ _ _ _ _ _ _ _ _ (going-next w (operating _ _ _ (rung turn) f) (goes-on onward)) (more .operand .result) (c .enum-told2 .given .1)
-      (started (L.operandOf (rung turn)) _ _ _ (more .operand .result) (more-moved more .moved .ensures) (more .operand .ensures))
+      rw (c .again .ensures)
+      (pass-up _ _ _ _ _ _ _ _ _ _ _ _ (going-next w (operating _ _ _ (rung turn) f) (goes-on onward)) (more .operand .result) (told .enum-told2 .given .1)
+      (started (L.operandOf (rung turn)) _ _ _ (more .operand .result) (more-moved more .moved .ensures) (more .operand .ensures)))
 
   refused-kept : lts.Need-same-length-3 (further-calls t) (further-at t) further.Post further-Inv-loop further-μ-loop
   refused-kept c =
-      let more : More = c .before .before .before .before in
+      let more : More = c .before .before .before .before .before in
       let turn = operator-turn (onward-operator (more-onward more)) in
       omega (arith, turn .loop .inv .kept, more .operand .kept)
 
@@ -257,6 +259,7 @@ further-closed t =
     (more-falls t)
     (λ c. search needs)
     (λ c. search needs)
+    (λ c κs. search needs)
     (refused-kept t)
     (more-refused t)
     (some-node t)

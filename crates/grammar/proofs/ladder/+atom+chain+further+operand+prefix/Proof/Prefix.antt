@@ -87,11 +87,13 @@ module _ (t : ℕ) where
 
   operand-refused : lts.Need-returns-3 (prefix-calls t) (prefix-at t) prefix.Post
   operand-refused c =
-      let read : Read = c .before .before .before .before in
+      let told = c .before in
+      let read : Read = told .before .before .before .before in
       let looked = read-looked read in
       let f = found (looked .next-in .ensures) (read-operator read .before .sign .given .1) in
-      pass-up _ _ _ _ _ _ _ _ _ _ _ _ (level-up _ (looked-else looked .if1 .left) _ _ _ f) (read .prefix .result) (c .enum-told2 .given .1)
-      (started L.prefix _ _ _ (read .prefix .result) (read-inside read .inside .ensures) (read .prefix .ensures))
+      rw (c .again .ensures)
+      (pass-up _ _ _ _ _ _ _ _ _ _ _ _ (level-up _ (looked-else looked .if1 .left) _ _ _ f) (read .prefix .result) (told .enum-told2 .given .1)
+      (started L.prefix _ _ _ (read .prefix .result) (read-inside read .inside .ensures) (read .prefix .ensures)))
 
   -- where it is a tree
   abbrev Tree : Type 0
@@ -161,7 +163,8 @@ prefix-closed t =
     (operand-falls t)
     (λ c. search needs)
     (λ c. search needs)
-    (λ c. omega (arith, c .before .before .before .before .prefix .kept))
+    (λ c κs. search needs)
+    (λ c. omega (arith, c .before .before .before .before .before .prefix .kept))
     (operand-refused t)
     (node-fits t)
     (end-fits t)

@@ -44,7 +44,7 @@ fn settled(o: Join) -> bool
 }
 
 // Whether a comparison of the trees at two nodes is true.
-fn compared(
+pub(crate) fn compared(
     list: &[u8],
     entry: &[u8],
     nodes: &[u32],

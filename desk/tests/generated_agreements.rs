@@ -200,7 +200,7 @@ fn every_rival_gets_its_answers() {
         (Rival::OtherByte, &[("differs", 400), ("18", 50)]),
         (
             Rival::OtherList,
-            &[("agrees", 100), ("differs", 50), ("17", 50), ("18", 10)],
+            &[("agrees", 100), ("differs", 40), ("17", 50), ("18", 10)],
         ),
         (
             Rival::Damaged,

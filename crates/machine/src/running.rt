@@ -6,7 +6,7 @@ ghost use lib.ListN.{length};
 ghost use Rattle.paper.specs.Answers.{ok};
 ghost use Rattle.paper.specs.Keys.{keys};
 ghost use Rattle.paper.specs.Meaning.{truth, compareValue};
-ghost use Rattle.paper.specs.Code.{comparisonOf};
+ghost use Rattle.paper.specs.Code.{comparisonOf, mostHeld};
 ghost use Rattle.paper.specs.Loading.{loaded};
 ghost use Rattle.paper.specs.Calls.{over};
 ghost use Rattle.paper.specs.Counting.{wholeIn};
@@ -50,6 +50,14 @@ fn enters(list: &[u8], entry: &[u8]) -> bool
     }
 }
 
+// The cells of a run, before anything is stored. Made by a function of their own they are cleared all at once, and cell by cell where the loop makes
+// them: a quarter of the smallest run.
+fn cleared() -> [Cell; MOST_HELD]
+    ensures { λ r. ⌜ length r ≡ mostHeld ⌝ }
+{
+    [Cell::truth(false); MOST_HELD]
+}
+
 // How many instructions are to be carried out or passed over on an entry: none on one that does not conform.
 fn ahead(enters: bool, n: usize) -> usize
     ensures { λ r. ⌜ r ≡ cond enters n 0 ⌝ }
@@ -81,7 +89,7 @@ pub fn run_each(list: &[u8], blocks: &[u8], entries: &[u8], n: usize, answers: &
     let size = keys::entry_size(list);
     let whole = entries.len() / size;
     // Cleared once for all entries: no run reads what it did not store.
-    let mut stack = [Cell::truth(false); MOST_HELD];
+    let mut stack = cleared();
     let mut total = 0;
     let mut k = 0;
     while k < whole {

@@ -346,7 +346,7 @@ turned c =
     (c .match .came)
 
 -- the arms: where each reads its operand, and where it has made its cell
-abbrev bool-made : tie.After-truth2 Inv-loop2 μ-loop2 Inv-loop μ-loop → Placed
+abbrev bool-made : tie.After-truth Inv-loop2 μ-loop2 Inv-loop μ-loop → Placed
 bool-made c = c .before .before .before .before
 
 abbrev int-made : tie.After-whole Inv-loop2 μ-loop2 Inv-loop μ-loop → Placed
@@ -391,7 +391,7 @@ converted c = converting (c .before .before .before)
 abbrev comparing : tie.After-known-told5 Inv-loop2 μ-loop2 Inv-loop μ-loop → Placed
 comparing c = c .before .before .before
 
-abbrev compared : tie.After-truth3 Inv-loop2 μ-loop2 Inv-loop μ-loop → Placed
+abbrev compared : tie.After-truth2 Inv-loop2 μ-loop2 Inv-loop μ-loop → Placed
 compared c = comparing (c .before .before .before .before)
 
 abbrev connecting : tie.After-known-told6 Inv-loop2 μ-loop2 Inv-loop μ-loop → Placed
@@ -403,7 +403,7 @@ connected c = connecting (c .before .before .before)
 abbrev skipping : tie.After-known-told7 Inv-loop2 μ-loop2 Inv-loop μ-loop → Placed
 skipping c = c .before .before .before
 
-abbrev skipped : tie.After-truth4 Inv-loop2 μ-loop2 Inv-loop μ-loop → Placed
+abbrev skipped : tie.After-truth3 Inv-loop2 μ-loop2 Inv-loop μ-loop → Placed
 skipped c = skipping (c .before .before .before .before)
 
 -- where the arms meet: what is passed over and what is left are those of the definition
@@ -485,7 +485,7 @@ none-yet c =
     record {
       upto = omega arith;
       many = refl;
-      full = refl;
+      full = c .cleared .ensures;
       told = tabled-none (keysIn (a .list .now)) (a .blocks .now) (c .before .entry-size .result) (a .entries .now) (a .answers .now);
     }
 

@@ -8,7 +8,10 @@ use Rattle.paper.specs.Tokens.{mostTokens}
 use Rattle.tokens.specs.Tape.{rowWords}
 use Rattle.tokens.specs.declared.Cut.{Cut}
 use Rattle.tokens.specs.declared.Cut.the-variants as C
-use Rattle.reading.specs.Grown.{Room, ShortRoom, shortText, CutOn, CutFits}
+use Rattle.reading.specs.declared.tried.Scratch.{Scratch}
+use Rattle.reading.specs.declared.tried.Scratch.the-variants as S
+use Rattle.reading.specs.declared.tried.Tried.{Tried}
+use Rattle.reading.specs.Grown.{Room, Brief, briefText, ShortRoom, shortText, RoomFor, Settled, Settles, CutOn, CutFits}
 
 -- a slice of a length has room for a text: `Room`, by the length
 abbrev pub Enough : List ℕ → ℕ → Type 0
@@ -17,6 +20,20 @@ Enough text size = (n : ℕ) → n ≤ mostTokens → n ≤ length text → n * 
 -- rows for as many tokens as any text can have
 pub room-for-all : (text : List ℕ) (size : ℕ) → size ≡ mostTokens * rowWords → Enough text size
 room-for-all text size e n few short = omega arith
+
+-- and for as many as a brief text can have
+pub room-for-brief : (text : List ℕ) (size : ℕ) → size ≡ briefText * rowWords → Brief text → Enough text size
+room-for-brief text size e brief n few short = omega arith
+
+-- whichever scratch is lent, a brief text has room in it, and where there is room it is answered
+
+pub brief-room : (scratch : Scratch) (text rows : List ℕ) → Brief text → RoomFor scratch text rows → Room text rows
+brief-room S.Short text rows brief room = λ n few short. omega arith
+brief-room S.Long text rows brief room = room
+
+pub brief-settles : (scratch : Scratch) (r : Tried) → Settled r → Settles scratch r
+brief-settles S.Short r settled = tt
+brief-settles S.Long r settled = settled
 
 module _ (text tape nodes : List ℕ) where
   -- nodes with room for the text have it for its tokens

@@ -14,7 +14,7 @@ ghost use Prim.Native.Nat.{_*_, _≤_};
 ghost use lib.ListN.{length};
 ghost use Rattle.paper.specs.Tokens.{mostText};
 ghost use Rattle.parts.specs.Found.{Taped, Noded, Finds};
-ghost use Rattle.reading.specs.Grown.{Room, ShortRoom, RoomFor, CutOn, CutFits, CountedOn, Told, Settled, Settles, ofTree, Grows, RowRoom, Sows};
+ghost use Rattle.reading.specs.Grown.{Room, Brief, ShortRoom, RoomFor, CutOn, CutFits, CountedOn, Told, Settled, Settles, ofTree, Grows, RowRoom, Sows};
 ghost use Rattle.reading.specs.Restricted.{Types, Restricts};
 ghost use Rattle.reading.specs.Parted.{Readies, RestrictsParts};
 ghost use Rattle.reading.specs.Tried.{TriesTree, Tries, TriesParts};
@@ -42,6 +42,12 @@ pub const MOST_NODES: usize = MOST_TOKENS;
 
 // The words of a text's nodes.
 pub const NODE_WORDS: usize = Node::WORDS * MOST_NODES;
+
+// A text of at most so many bytes is brief, a comparison or two. Where little is done with a text, clearing scratch is most of it.
+pub const BRIEF_TEXT: usize = 64;
+
+// The words of its nodes.
+pub const BRIEF_NODE_WORDS: usize = Node::WORDS * BRIEF_TEXT;
 
 // A text of at most so many bytes is short. It has no more tokens than bytes, so that small scratch is enough for it.
 pub const SHORT_TEXT: usize = 256;
@@ -99,8 +105,19 @@ fn grow(text: &[u8], tape: &[u32], tokenized: Cut, nodes: &mut [u32], rows: &mut
     }
 }
 
-// Two functions cut the text, each on a tape of its own length. That makes them too large for the compiler to put them into their callers, so
+// Three functions cut the text, each on a tape of its own length. That makes them too large for the compiler to put them into their callers, so
 // that no walk over the tree has a tape under it.
+
+fn read_brief(text: &[u8], nodes: &mut [u32], rows: &mut [u32]) -> Grown
+    requires { ⌜ Brief (now text) ⌝ }
+    requires { ⌜ Room (now text) (now nodes) ⌝ }
+    ensures { λ r. ⌜ Settled (ofTree r) × Told (Grows (now (text .entry)) (now (nodes .exit))) (ofTree r) ⌝ }
+    ensures { λ r. ⌜ Sows (now (text .entry)) (now (nodes .exit)) (now (rows .exit)) r ⌝ }
+{
+    let mut tape = [0u32; Row::WORDS * BRIEF_TEXT];
+    let tokenized = tokens::tokenize(text, &mut tape);
+    grow(text, &tape, tokenized, nodes, rows)
+}
 
 fn read_short(text: &[u8], nodes: &mut [u32], rows: &mut [u32]) -> Grown
     requires { ⌜ length (now text) ≤ mostText ⌝ }
@@ -130,6 +147,9 @@ fn read_parts(text: &[u8], scratch: Scratch, nodes: &mut [u32], rows: &mut [u32]
     ensures { λ r. ⌜ Settles scratch (ofTree r) × Told (Grows (now (text .entry)) (now (nodes .exit))) (ofTree r) ⌝ }
     ensures { λ r. ⌜ Sows (now (text .entry)) (now (nodes .exit)) (now (rows .exit)) r ⌝ }
 {
+    if text.len() <= BRIEF_TEXT {
+        return read_brief(text, nodes, rows);
+    }
     match scratch {
         Scratch::Short => read_short(text, nodes, rows),
         Scratch::Long => read_long(text, nodes, rows),

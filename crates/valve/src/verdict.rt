@@ -6,6 +6,7 @@ ghost use lib.ListN.{length};
 ghost use Rattle.paper.specs.Answers.{ok, judgementSays};
 ghost use Rattle.paper.specs.Promised.{JudgePromised};
 ghost use Rattle.operands.specs.Conforming.{Conforming};
+ghost use Rattle.reading.specs.Grown.{Brief};
 ghost use Rattle.reading.specs.Restricted.{Rooted, Restricts};
 use paper::Checking;
 use paper::Counted;
@@ -54,6 +55,15 @@ fn judge_told(list: &[u8], entry: &[u8], nodes: &[u32], restricted: Counted) -> 
     }
 }
 
+fn judge_brief(text: &[u8], list: &[u8], entry: &[u8]) -> Judgement
+    requires { ⌜ Brief (now text) ⌝ }
+    ensures { λ r. ⌜ JudgePromised (now (text .entry)) (now (list .entry)) (now (entry .entry)) r ⌝ }
+{
+    let mut nodes = [0u32; reading::BRIEF_NODE_WORDS];
+    let restricted = reading::restrict(text, list, &mut nodes);
+    judge_told(list, entry, &nodes, restricted)
+}
+
 fn judge_long(text: &[u8], list: &[u8], entry: &[u8]) -> Judgement
     ensures { λ r. ⌜ JudgePromised (now (text .entry)) (now (list .entry)) (now (entry .entry)) r ⌝ }
 {
@@ -62,10 +72,13 @@ fn judge_long(text: &[u8], list: &[u8], entry: &[u8]) -> Judgement
     judge_told(list, entry, &nodes, restricted)
 }
 
-// What the text says of an entry.
+// What the text says of an entry. A brief text is judged in less time than nodes for a longer one are cleared.
 pub fn judge(text: &[u8], list: &[u8], entry: &[u8]) -> Judgement
     ensures { λ r. ⌜ JudgePromised (now (text .entry)) (now (list .entry)) (now (entry .entry)) r ⌝ }
 {
+    if text.len() <= reading::BRIEF_TEXT {
+        return judge_brief(text, list, entry);
+    }
     let mut nodes = [0u32; reading::SHORT_NODE_WORDS];
     let tried = reading::try_restrict(text, list, &mut nodes);
     let Tried::Answered(restricted) = tried else {

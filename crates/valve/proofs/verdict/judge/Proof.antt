@@ -1,4 +1,4 @@
--- `valve::judge` meets its contract: it goes on from what `try_restrict` answers with few nodes (`judge_told`), and where that is over it lends more
+-- `valve::judge` meets its contract: a brief text it leaves to `judge_brief`; of another it goes on from what `try_restrict` answers with few nodes (`judge_told`), and where that is over it lends more
 -- (`judge_long`).
 use borrow.Author.Needs.{needs}
 use Rattle.valve.proofs.Tries.{answered}
@@ -18,7 +18,7 @@ answer-stands c κs =
     let t = tried-at at-answer .try-restrict in
     (_, answered _ (t .result) (t .ensures) (at-answer .tried .given .1))
 
-judges : tie.Need-returns-2
+judges : tie.Need-returns-3
 judges c =
     let at-answer = answered-at (c .before) in
     let t = tried-at at-answer .try-restrict in
@@ -28,6 +28,8 @@ pub judge-spec : {M : Type 1} → statement M
 judge-spec =
     tie.close
     (tie.spec
+    (λ c κs. c .if1 .taken)
+    (λ c. search needs)
     (λ c. search needs)
     (λ c κs. search needs)
     (λ c. search needs)

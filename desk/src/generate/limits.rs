@@ -1,6 +1,7 @@
 //! Texts at the limits: 4,096 bytes, 1,024 tokens, 64 levels, 2^128 − 1, and
 //! one beyond each. Texts of up to 1,536 bytes are read with room for 256
-//! tokens first, so these are limits too, of which no answer may tell.
+//! tokens first, and those of up to 64 bytes with room for 64, so these are
+//! limits too, of which no answer may tell.
 
 use super::rng::Rng;
 use super::spelling::{self, Blanks};
@@ -16,9 +17,13 @@ use crate::reference::tokens::MOST_TOKENS;
 const TRIED_TEXT: usize = 1536;
 const TRIED_TOKENS: usize = 256;
 
-/// A text padded to about 4,096 or 1,536 bytes.
+/// The longest text that is brief. It has no more tokens than bytes, and code
+/// with no more nodes has little room too.
+const BRIEF_TEXT: usize = 64;
+
+/// A text padded to about 4,096, 1,536 or 64 bytes.
 pub fn bytes(rng: &mut Rng, keys: &[NamedKey], entry: &Entry) -> Vec<u8> {
-    let longest = rng.pick(&[LONGEST_TEXT, LONGEST_TEXT, TRIED_TEXT]);
+    let longest = rng.pick(&[LONGEST_TEXT, LONGEST_TEXT, TRIED_TEXT, BRIEF_TEXT]);
     let length = match rng.below(12) {
         0 => longest - 1,
         1..=3 => longest,
@@ -26,7 +31,7 @@ pub fn bytes(rng: &mut Rng, keys: &[NamedKey], entry: &Entry) -> Vec<u8> {
         9 => longest + 2,
         _ => longest + rng.below(1500),
     };
-    let joins = rng.below(20);
+    let joins = rng.below(if longest == BRIEF_TEXT { 2 } else { 20 });
     let tokens = texts::tokens(rng, keys, entry, joins, 0);
     let mut text = spelling::text(rng, &tokens);
     if text.len() >= length {
@@ -51,9 +56,9 @@ pub fn bytes(rng: &mut Rng, keys: &[NamedKey], entry: &Entry) -> Vec<u8> {
     text
 }
 
-/// A text of about 1,024 or 256 tokens.
+/// A text of about 1,024, 256 or 64 tokens.
 pub fn many_tokens(rng: &mut Rng, keys: &[NamedKey], entry: &Entry) -> Vec<u8> {
-    let most = rng.pick(&[MOST_TOKENS, MOST_TOKENS, TRIED_TOKENS]);
+    let most = rng.pick(&[MOST_TOKENS, MOST_TOKENS, TRIED_TOKENS, BRIEF_TEXT]);
     let count = match rng.below(8) {
         0 => most - 1,
         1..=3 => most,

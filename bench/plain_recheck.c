@@ -54,7 +54,7 @@ static struct pollux_answer heard(struct pollux_answer earlier)
     enum { LARGEST_NUMBER = 255 };
     bool refused = earlier.says == POLLUX_REFUSED;
     bool verdict = earlier.says == POLLUX_ACCEPTED || earlier.says == POLLUX_VIOLATED;
-    if (refused && earlier.number <= LARGEST_NUMBER && earlier.input >= POLLUX_TEXT && earlier.input <= POLLUX_BUFFER)
+    if (refused && earlier.number <= LARGEST_NUMBER && earlier.input >= POLLUX_TEXT && earlier.input <= POLLUX_TABLE)
         return earlier;
     if (verdict && earlier.number == 0 && earlier.input == 0 && earlier.value == 0)
         return earlier;

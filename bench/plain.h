@@ -50,6 +50,11 @@ struct pollux_rechecked plain_recheck(const uint8_t *text, size_t text_length,
                                       struct pollux_answer earlier,
                                       const uint8_t *new_entry, size_t new_length);
 
+struct pollux_counts plain_count(const uint8_t *text, size_t text_length,
+                                 const uint8_t *list, size_t list_length,
+                                 const uint8_t *entries, size_t entries_length,
+                                 uint64_t parts[POLLUX_MAX_PARTS]);
+
 struct plain_ran {
     bool accepted;
     size_t steps;

@@ -181,4 +181,20 @@ size_t find_parts(const struct tokens *tokens, const struct tree *tree, struct p
 /* Is the tree at a node, which is a bool, true of an entry that conforms? (plain_judge.c) */
 bool holds_at(const struct tree *tree, const uint8_t *list, const uint8_t *entry, size_t node);
 
+/* ---- Counts (plain_count.c). */
+
+/* A text that passed with its key list: its tree, and the roots of its parts, by which entries are counted. */
+struct rule {
+    struct tree tree;
+    uint16_t roots[POLLUX_MAX_PARTS];
+    size_t count;
+};
+
+bool read_rule(const uint8_t *text, size_t text_length, const uint8_t *list, size_t list_length, struct rule *rule,
+               struct pollux_answer *answer);
+
+/* Adds one whole entry to the totals, and to the number of each part that is false for it. */
+void count_entry(const struct rule *rule, const uint8_t *list, size_t list_length, const uint8_t *entry, size_t size,
+                 struct pollux_counts *counts, uint64_t parts[POLLUX_MAX_PARTS]);
+
 #endif

@@ -8,23 +8,17 @@
 
 #include "../plain_parts.h"
 
-enum { BUFFER = 65536, MOST_ENTRIES = 1000000, ENTRIES_MANY = 25, MOST_LIST = 32 * POLLUX_KEY_SIZE };
+enum { BUFFER = 65536 };
 
 struct file {
     uint8_t at[POLLUX_MAX_TEXT + 1];
     size_t held, size;
 };
 
-struct rule {
-    struct tree tree;
-    struct part parts[POLLUX_MAX_PARTS];
-    size_t count;
-};
-
-struct counts {
+struct counted {
     uint64_t parts[POLLUX_MAX_PARTS];
-    uint64_t accepted, violated, refused;
-    size_t whole, cut;
+    struct pollux_counts totals;
+    size_t whole;
 };
 
 static _Noreturn void cannot_read(const char *path)
@@ -60,73 +54,56 @@ static size_t true_offset(const struct file *file, size_t at)
     return at == file->held ? file->size : at;
 }
 
-static void count_entry(const struct rule *rule, const struct file *list, const uint8_t *entry, size_t size, struct counts *counts)
-{
-    struct pollux_answer answer;
-    if (!check_entry(list->at, list->held, entry, size, &answer)) {
-        counts->refused++;
-        return;
-    }
-    bool all = true;
-    for (size_t k = 0; k < rule->count; k++)
-        if (!holds_at(&rule->tree, list->at, entry, rule->parts[k].root)) {
-            counts->parts[k]++;
-            all = false;
-        }
-    *(all ? &counts->accepted : &counts->violated) += 1;
-}
-
 /* Whether there are not too many. */
-static bool count_file(const struct rule *rule, const struct file *list, FILE *from, struct counts *counts)
+static bool count_file(const struct rule *rule, const struct file *list, FILE *from, struct counted *counted)
 {
     static uint8_t buffer[BUFFER];
     size_t size = POLLUX_ENTRY_SIZE(list->held / POLLUX_KEY_SIZE), want = sizeof buffer - sizeof buffer % size, got;
     do {
         got = fread(buffer, 1, want, from);
-        counts->whole += got / size;
-        if (counts->whole > MOST_ENTRIES)
+        counted->whole += got / size;
+        if (counted->whole > POLLUX_MAX_ENTRIES)
             return false;
         for (size_t at = 0; at + size <= got; at += size)
-            count_entry(rule, list, buffer + at, size, counts);
-        counts->cut = got % size;
+            count_entry(rule, list->at, list->held, buffer + at, size, &counted->totals, counted->parts);
+        counted->totals.cut = got % size;
     } while (got == want);
     return true;
 }
 
-static void print_counts(const struct rule *rule, const struct counts *counts)
+static void print_counts(const struct rule *rule, const struct counted *counted)
 {
+    const struct pollux_counts *totals = &counted->totals;
     for (size_t k = 0; k < rule->count; k++)
-        printf("part %zu %llu\n", k + 1, (unsigned long long)counts->parts[k]);
-    printf("accepted %llu\nviolated %llu\nrefused %llu\n", (unsigned long long)counts->accepted,
-           (unsigned long long)counts->violated, (unsigned long long)counts->refused);
-    if (counts->cut > 0)
-        printf("cut %zu\n", counts->cut);
+        printf("part %zu %llu\n", k + 1, (unsigned long long)counted->parts[k]);
+    printf("accepted %llu\nviolated %llu\nrefused %llu\n", (unsigned long long)totals->accepted,
+           (unsigned long long)totals->violated, (unsigned long long)totals->refused);
+    if (totals->cut > 0)
+        printf("cut %llu\n", (unsigned long long)totals->cut);
 }
 
 int main(int argc, char **argv)
 {
     static struct file text, list;
-    static struct tokens tokens;
     static struct rule rule;
-    static struct counts counts;
+    static struct counted counted;
     struct pollux_answer answer;
     if (argc != 4) {
         printf("usage: plain TEXT KEYS ENTRIES\n");
         return 3;
     }
     read_file(argv[1], &text, POLLUX_MAX_TEXT + 1);
-    read_file(argv[2], &list, MOST_LIST + 1);
-    if (!checked_tree(text.at, text.held, list.at, list.held, &tokens, &rule.tree, &answer)) {
+    read_file(argv[2], &list, POLLUX_MAX_LIST + 1);
+    if (!read_rule(text.at, text.held, list.at, list.held, &rule, &answer)) {
         printf("refusal %u %zu\n", (unsigned)answer.number, true_offset(answer.input == POLLUX_LIST ? &list : &text, answer.value));
         return 0;
     }
-    rule.count = find_parts(&tokens, &rule.tree, rule.parts);
     FILE *entries = opened(argv[3]);
-    if (!count_file(&rule, &list, entries, &counts))
-        printf("refusal %d\n", ENTRIES_MANY);
+    if (!count_file(&rule, &list, entries, &counted))
+        printf("refusal %d\n", POLLUX_ENTRIES_MANY);
     else if (ferror(entries))
         cannot_read(argv[3]);
     else
-        print_counts(&rule, &counts);
+        print_counts(&rule, &counted);
     return 0;
 }

@@ -37,6 +37,18 @@ struct pollux_table plain_run_all(const uint8_t *list, size_t list_length,
 struct pollux_answer plain_print(const uint8_t *text, size_t text_length,
                                  uint8_t *buffer, size_t buffer_length);
 
+struct pollux_answer plain_fix_octal(const uint8_t *text, size_t text_length,
+                                     uint8_t *buffer, size_t buffer_length);
+
+struct pollux_answer plain_pact(const uint8_t *contract, size_t contract_length,
+                                const uint64_t *table, size_t table_count,
+                                const uint8_t *names, size_t names_length,
+                                uint8_t *buffer, size_t buffer_length);
+
+struct pollux_answer plain_compare(const uint8_t *text, size_t text_length,
+                                   const uint8_t *list, size_t list_length,
+                                   const uint8_t *blocks, size_t blocks_length);
+
 struct pollux_reason plain_explain(const uint8_t *text, size_t text_length,
                                    const uint8_t *list, size_t list_length,
                                    const uint8_t *entry, size_t entry_length);

@@ -24,10 +24,18 @@ struct sums {
 
 struct sums block_sums(const uint8_t *block);
 
+/* How many instructions some nodes of a tree that passed have, from the first to the last; a skip counts with its join. (plain_translate.c) */
+size_t instructions_of(const struct tree *tree, size_t first, size_t last);
+
+/* Writes the instructions of a tree that passed where blocks have them. (plain_translate.c) */
+void write_code(const struct tree *tree, uint8_t *blocks);
+
 /* Writes what stands around the instructions of a block. */
 void seal_block(uint8_t *block, size_t index, size_t total, size_t keys);
 
-/* Stages 2 to 4 and 16 to 18; gives the number of instructions. */
+/* Stages 16 to 18, for a list that passed, and with 2 to 4 before them; gives the number of instructions. (plain_load.c) */
+bool check_code(const uint8_t *list, size_t list_length, const uint8_t *blocks, size_t length, size_t *total,
+                struct pollux_answer *answer);
 bool check_blocks(const uint8_t *list, size_t list_length, const uint8_t *blocks, size_t length, size_t *total,
                   struct pollux_answer *answer);
 

@@ -39,7 +39,7 @@ static bool truth_of(const struct judged *judged, size_t index)
     }
 }
 
-static bool check_length(size_t text_length, struct pollux_answer *answer)
+bool check_length(size_t text_length, struct pollux_answer *answer)
 {
     return text_length <= POLLUX_MAX_TEXT || refuse(answer, POLLUX_TEXT_TOO_LONG, POLLUX_TEXT, POLLUX_MAX_TEXT);
 }

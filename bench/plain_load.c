@@ -187,12 +187,12 @@ static size_t first_misfit(const struct followed *it)
     return it->upto;
 }
 
-bool check_blocks(const uint8_t *list, size_t list_length, const uint8_t *blocks, size_t length, size_t *total,
-                  struct pollux_answer *answer)
+bool check_code(const uint8_t *list, size_t list_length, const uint8_t *blocks, size_t length, size_t *total,
+                struct pollux_answer *answer)
 {
     size_t keys = list_length / POLLUX_KEY_SIZE;
     struct followed followed;
-    if (!check_list(list, list_length, answer) || !check_layout(blocks, length, keys, total, answer))
+    if (!check_layout(blocks, length, keys, total, answer))
         return false;
     follow(&followed, list, keys, blocks, *total);
     size_t failing = first_misfit(&followed);
@@ -201,6 +201,12 @@ bool check_blocks(const uint8_t *list, size_t list_length, const uint8_t *blocks
     if (followed.held.count != 1 || !bool_on_top(&followed.held))
         return refuse(answer, POLLUX_INSTRUCTION, POLLUX_BLOCKS, length);
     return true;
+}
+
+bool check_blocks(const uint8_t *list, size_t list_length, const uint8_t *blocks, size_t length, size_t *total,
+                  struct pollux_answer *answer)
+{
+    return check_list(list, list_length, answer) && check_code(list, list_length, blocks, length, total, answer);
 }
 
 struct pollux_answer plain_load(const uint8_t *list, size_t list_length, const uint8_t *blocks, size_t blocks_length)

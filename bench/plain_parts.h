@@ -119,8 +119,10 @@ struct token {
     uint16_t place;
     uint16_t length;
     uint8_t sign;
-    uint8_t base; /* of a numeral's digits */
+    uint8_t base; /* of a numeral's digits; 0 of any other token */
 };
+
+enum { OCTAL = 8 };
 
 /* The last one is END, at the text's length. */
 struct tokens {
@@ -128,6 +130,9 @@ struct tokens {
 };
 
 bool read_tokens(const uint8_t *text, size_t length, struct tokens *tokens, struct pollux_answer *answer);
+
+/* By the old rules, where a numeral may be octal. */
+bool read_old_tokens(const uint8_t *text, size_t length, struct tokens *tokens, struct pollux_answer *answer);
 
 /* ---- Trees in postfix order (plain_tree.c), and their types (plain_types.c). */
 
@@ -162,10 +167,15 @@ bool can_compare(unsigned comparison, struct type type);
 bool check_types(const uint8_t *text, const struct tokens *tokens, struct tree *tree, const uint8_t *list, size_t list_length,
                  struct pollux_answer *answer);
 
-/* The stages that need no key list, 1 and 5 to 10; and stages 1 to 14 (plain_judge.c). */
+/* Stage 1; the stages that need no key list, 1 and 5 to 10; and stages 1 to 14 (plain_judge.c). */
+bool check_length(size_t text_length, struct pollux_answer *answer);
 bool text_tree(const uint8_t *text, size_t text_length, struct tokens *tokens, struct tree *tree, struct pollux_answer *answer);
 bool checked_tree(const uint8_t *text, size_t text_length, const uint8_t *list, size_t list_length, struct tokens *tokens,
                   struct tree *tree, struct pollux_answer *answer);
+
+/* The print of a tree, whose words are tokens of the text (plain_print.c). Gives its length, which may be over the room; then what is written is
+   of no use. */
+size_t print_tree(const uint8_t *text, const struct tokens *tokens, const struct tree *tree, uint8_t print[POLLUX_MAX_PRINT]);
 
 /* ---- Parts (plain_explain.c). */
 

@@ -142,6 +142,13 @@ static void print_node(struct printer *printer, const struct node *node)
     }
 }
 
+size_t print_tree(const uint8_t *text, const struct tokens *tokens, const struct tree *tree, uint8_t print[POLLUX_MAX_PRINT])
+{
+    struct printer printer = { text, tokens, tree, print, 0 };
+    print_operand(&printer, tree->count - 1, SEQUENCES);
+    return printer.length;
+}
+
 struct pollux_answer plain_print(const uint8_t *text, size_t text_length, uint8_t *buffer, size_t buffer_length)
 {
     struct tokens tokens;
@@ -150,12 +157,11 @@ struct pollux_answer plain_print(const uint8_t *text, size_t text_length, uint8_
     uint8_t print[POLLUX_MAX_PRINT];
     if (!text_tree(text, text_length, &tokens, &tree, &answer))
         return answer;
-    struct printer printer = { text, &tokens, &tree, print, 0 };
-    print_operand(&printer, tree.count - 1, SEQUENCES);
-    if (printer.length > POLLUX_MAX_PRINT || printer.length > buffer_length) {
+    size_t length = print_tree(text, &tokens, &tree, print);
+    if (length > POLLUX_MAX_PRINT || length > buffer_length) {
         refuse(&answer, POLLUX_PRINT_LONG, POLLUX_BUFFER, buffer_length);
         return answer;
     }
-    memcpy(buffer, print, printer.length);
-    return done(printer.length);
+    memcpy(buffer, print, length);
+    return done(length);
 }

@@ -1,4 +1,4 @@
-/* Bytes to tokens: refusals 5, 6 and 7. */
+/* Bytes to tokens: refusals 5, 6, 7 and 22. */
 #include "plain_parts.h"
 
 static size_t skip_blanks(const uint8_t *text, size_t length, size_t at)
@@ -49,17 +49,11 @@ static unsigned read_digits(const uint8_t *digits, size_t length, uint8_t base, 
     return too_large ? POLLUX_NUMERAL_LARGE : 0;
 }
 
-/* A numeral is refused for being octal whatever its size, and only if all its digits are. */
-static unsigned refuse_octal(const uint8_t *digits, size_t length, struct token *token)
-{
-    return read_digits(digits, length, 8, token) == POLLUX_NO_TOKEN ? POLLUX_NO_TOKEN : POLLUX_OCTAL;
-}
-
 static unsigned read_numeral(const uint8_t *run, size_t length, struct token *token)
 {
     switch (length >= 2 && run[0] == '0' ? run[1] : 0) {
     case 'b': case 'B': return read_digits(run + 2, length - 2, 2, token);
-    case 'o': case 'O': return refuse_octal(run + 2, length - 2, token);
+    case 'o': case 'O': return read_digits(run + 2, length - 2, OCTAL, token);
     case 'd': case 'D': return read_digits(run + 2, length - 2, 10, token);
     case 'x': case 'X': return read_digits(run + 2, length - 2, 16, token);
     default: return read_digits(run, length, 10, token);
@@ -125,12 +119,15 @@ static unsigned read_token(const uint8_t *at, size_t length, struct token *token
     return end == 0 ? POLLUX_NO_TOKEN : 0;
 }
 
-bool read_tokens(const uint8_t *text, size_t length, struct tokens *tokens, struct pollux_answer *answer)
+/* A numeral that has a base is well-formed: where octal goes, it is refused for that whatever its size. */
+static inline bool cut(const uint8_t *text, size_t length, bool octal_goes, struct tokens *tokens, struct pollux_answer *answer)
 {
     size_t count = 0, at = skip_blanks(text, length, 0);
     while (at < length) {
         struct token token = { .place = (uint16_t)at };
         unsigned why = read_token(text + at, length - at, &token);
+        if (octal_goes && token.base == OCTAL)
+            why = POLLUX_OCTAL;
         if ((why == 0 || why == POLLUX_OCTAL) && count == POLLUX_MAX_TOKENS)
             why = POLLUX_TOKENS_MANY;
         if (why != 0)
@@ -140,4 +137,14 @@ bool read_tokens(const uint8_t *text, size_t length, struct tokens *tokens, stru
     }
     tokens->at[count] = (struct token){ .sign = END, .place = (uint16_t)length };
     return true;
+}
+
+bool read_tokens(const uint8_t *text, size_t length, struct tokens *tokens, struct pollux_answer *answer)
+{
+    return cut(text, length, true, tokens, answer);
+}
+
+bool read_old_tokens(const uint8_t *text, size_t length, struct tokens *tokens, struct pollux_answer *answer)
+{
+    return cut(text, length, false, tokens, answer);
 }

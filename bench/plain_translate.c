@@ -55,22 +55,25 @@ static void set_landing(struct writer *writer, size_t left)
     set_short(writer->blocks + instruction_place(skip) + 2, (unsigned)(writer->count - skip));
 }
 
-static void write_nodes(struct writer *writer, const struct tree *tree)
+void write_code(const struct tree *tree, uint8_t *blocks)
 {
+    struct writer writer;
+    writer.blocks = blocks;
+    writer.count = 0;
     for (size_t i = 0; i < tree->count; i++) {
         const struct node *node = &tree->at[i];
         if (joins(node->what))
-            set_landing(writer, node->left);
-        write_node(writer, node);
+            set_landing(&writer, node->left);
+        write_node(&writer, node);
         if (joins(node->above))
-            write_skip(writer, i, node->above);
+            write_skip(&writer, i, node->above);
     }
 }
 
-static size_t instructions_of(const struct tree *tree)
+size_t instructions_of(const struct tree *tree, size_t first, size_t last)
 {
-    size_t count = tree->count;
-    for (size_t i = 0; i < tree->count; i++)
+    size_t count = last + 1 - first;
+    for (size_t i = first; i <= last; i++)
         count += (tree->at[i].converted.width != 0) + joins(tree->at[i].what);
     return count;
 }
@@ -95,17 +98,14 @@ struct pollux_answer plain_translate(const uint8_t *text, size_t text_length, co
     struct pollux_answer answer;
     if (!checked_tree(text, text_length, list, list_length, &tokens, &tree, &answer))
         return answer;
-    size_t total = instructions_of(&tree);
+    size_t total = instructions_of(&tree, 0, tree.count - 1);
     size_t needed = POLLUX_BLOCKS_SIZE(total);
     if (buffer_length < needed) {
         refuse(&answer, POLLUX_BUFFER_SHORT, POLLUX_BUFFER, buffer_length);
         return answer;
     }
     memset(buffer, 0, needed);
-    struct writer writer;
-    writer.blocks = buffer;
-    writer.count = 0;
-    write_nodes(&writer, &tree);
+    write_code(&tree, buffer);
     for (size_t index = 0; index < needed / POLLUX_BLOCK_SIZE; index++)
         seal_block(buffer + index * POLLUX_BLOCK_SIZE, index, total, list_length / POLLUX_KEY_SIZE);
     return done(total);

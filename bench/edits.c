@@ -106,19 +106,31 @@ bool make_edit(struct edit *edit, const struct table *table, bool named)
 
 /* ---- Each new entry rechecked, and judged. */
 
-static uint64_t recheck_all(const void *with)
+typedef struct pollux_rechecked recheck(const uint8_t *, size_t, const uint8_t *, size_t, const uint8_t *, size_t, struct pollux_answer,
+                                        const uint8_t *, size_t);
+
+static uint64_t recheck_all(const struct edit *edit, recheck *recheck)
 {
-    const struct edit *edit = with;
     const struct table *table = &edit->table;
     uint64_t sum = 0;
     for (size_t i = 0; i < EDITED; i++) {
         struct input old = entry_at(edit->old, table, i), new = entry_at(edit->new, table, i);
         struct pollux_answer earlier = { .says = edit->earlier[i] };
-        sum += pollux_recheck(table->text.at, table->text.length, table->list.at, table->list.length, old.at, old.length, earlier, new.at,
-                              new.length)
+        sum += recheck(table->text.at, table->text.length, table->list.at, table->list.length, old.at, old.length, earlier, new.at,
+                       new.length)
                    .says;
     }
     return sum;
+}
+
+static uint64_t recheck_pollux(const void *with)
+{
+    return recheck_all(with, pollux_recheck);
+}
+
+static uint64_t recheck_plain(const void *with)
+{
+    return recheck_all(with, plain_recheck);
 }
 
 static uint64_t judge_all(const void *with)
@@ -141,26 +153,30 @@ static double time_of(job *all, const struct edit *edit)
 
 static void measure_edit(const struct edit *edit, const struct column columns[])
 {
-    enum { TIMES = 5 };
-    double recheck = 0, judge = 0;
-    for (int i = 0; i < TIMES; i++) {
-        double rechecked = time_of(recheck_all, edit), judged = time_of(judge_all, edit);
-        recheck = i == 0 || rechecked < recheck ? rechecked : recheck;
-        judge = i == 0 || judged < judge ? judged : judge;
-    }
+    enum { RECHECK, PLAIN, JUDGE, JOBS, TIMES = 5 };
+    static job *const jobs[JOBS] = { recheck_pollux, recheck_plain, judge_all };
+    double best[JOBS];
+    for (int i = 0; i < TIMES; i++)
+        for (int j = 0; j < JOBS; j++) {
+            double now = time_of(jobs[j], edit);
+            best[j] = i == 0 || now < best[j] ? now : best[j];
+        }
     sheet_word(&columns[0], edit->table.name);
     sheet_word(&columns[1], edit->named ? "named" : "not named");
-    sheet_time(&columns[2], recheck);
-    sheet_time(&columns[3], judge);
-    sheet_number(&columns[4], recheck / judge, 2);
+    sheet_time(&columns[2], best[RECHECK]);
+    sheet_time(&columns[3], best[PLAIN]);
+    sheet_number(&columns[4], best[RECHECK] / best[PLAIN], 2);
+    sheet_time(&columns[5], best[JUDGE]);
+    sheet_number(&columns[6], best[RECHECK] / best[JUDGE], 2);
     sheet_end();
 }
 
 void measure_edits(const struct edit *edits, size_t count)
 {
-    static const struct column columns[] = { { "restriction", -13 }, { "the key is", -10 }, { "recheck", 10 }, { "judge", 10 }, { "ratio", 6 } };
-    printf("\nOne key of %d entries changes: nanoseconds an entry, Polluxvalve alone, and how many times longer it takes to recheck the new\n"
-           "entries than to judge them.\n", EDITED);
+    static const struct column columns[] = { { "restriction", -13 }, { "the key is", -10 }, { "recheck", 10 }, { "plain C", 10 },
+                                             { "ratio", 6 },         { "judge", 10 },       { "ratio", 6 } };
+    printf("\nOne key of %d entries changes: nanoseconds an entry to recheck the new entries, and how many times longer Polluxvalve takes than\n"
+           "plain C; and to judge them by Polluxvalve, and how many times longer it takes to recheck them.\n", EDITED);
     sheet_head(columns, sizeof columns / sizeof columns[0]);
     for (size_t i = 0; i < count; i++)
         measure_edit(&edits[i], columns);

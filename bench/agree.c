@@ -5,7 +5,6 @@
 
 #include "plain.h"
 
-/* Plain C has no fix_octal, no pact, no compare and no count: no time is compared with theirs. */
 static const struct calls plain_calls = {
     .read = plain_read,
     .check = plain_check,
@@ -17,24 +16,24 @@ static const struct calls plain_calls = {
     .explain = plain_explain,
     .summarize = plain_summarize,
     .recheck = plain_recheck,
+    .fix_octal = plain_fix_octal,
+    .pact = plain_pact,
+    .compare = plain_compare,
+    .count = plain_count,
     .run_all = plain_run_all,
 };
-
-static bool plain_has(unsigned call)
-{
-    return call <= RECHECK || call == RUN_ALL;
-}
 
 /* ---- The requests that show what every version answers, in one order. */
 
 typedef void with_request(struct request *request, const struct table *table);
 
-static void each_entry(const struct table *table, with_request *use)
+static void each_entry(const struct table *table, struct input parts, with_request *use)
 {
     for (size_t i = 0; i < entry_count(table); i++) {
         struct input entry = entry_of(table, i);
         use(&(struct request){ .call = JUDGE, .inputs = { table->text, table->list, entry } }, table);
         use(&(struct request){ .call = EXPLAIN, .inputs = { table->text, table->list, entry } }, table);
+        use(&(struct request){ .call = COUNT, .inputs = { table->text, table->list, entry, parts } }, table);
         use(&(struct request){ .call = RUN, .inputs = { table->list, table->code.blocks, entry } }, table);
         use(&(struct request){ .call = RUN, .inputs = { table->list, table->unskipped.blocks, entry } }, table);
     }
@@ -54,11 +53,12 @@ static void each_request(const struct table *table, with_request *use)
     use(&(struct request){ .call = SUMMARIZE, .inputs = { table->text, table->list, nothing } }, table);
     use(&(struct request){ .call = TRANSLATE, .inputs = { table->text, table->list, whole } }, table);
     use(&(struct request){ .call = COMPARE, .inputs = { table->text, table->list, table->code.blocks } }, table);
+    use(&(struct request){ .call = COMPARE, .inputs = { table->text, table->list, table->unskipped.blocks } }, table);
     use(&(struct request){ .call = COUNT, .inputs = { table->text, table->list, table->entries, parts } }, table);
     use(&(struct request){ .call = LOAD, .inputs = { table->list, table->code.blocks, nothing } }, table);
     use(&(struct request){ .call = LOAD, .inputs = { table->list, table->unskipped.blocks, nothing } }, table);
     use(&(struct request){ .call = RUN_ALL, .inputs = { table->list, table->code.blocks, table->entries, answers } }, table);
-    each_entry(table, use);
+    each_entry(table, parts, use);
 }
 
 static void each_recheck(const struct edit *edit, with_request *use)
@@ -70,6 +70,39 @@ static void each_recheck(const struct edit *edit, with_request *use)
         use(&(struct request){ RECHECK, { table->text, table->list, new, old }, edit->earlier[i] }, table);
         use(&(struct request){ .call = JUDGE, .inputs = { table->text, table->list, new } }, table);
     }
+}
+
+/* No table has an octal numeral, so a text of its own shows how one is turned: in a string and in a comment it stays. */
+static void octal_request(with_request *use)
+{
+    static char octal[] = "a == 0o7640 // 0o7640\n&& b != 0O0017 || c::mask == 0o3777777777777777777777777777777777777777777 -> ipv4('0o7')";
+    static uint8_t buffer[POLLUX_MAX_TEXT];
+    const struct input text = { (uint8_t *)octal, sizeof octal - 1 };
+    use(&(struct request){ .call = FIX_OCTAL, .inputs = { text, { buffer, 0 }, { buffer, sizeof buffer } } },
+        &(struct table){ .name = "octal numerals" });
+}
+
+static void order_request(const struct order *order, with_request *use)
+{
+    use(&(struct request){ .call = COMPARE, .inputs = { order->text, order->list, order->blocks } }, &(struct table){ .name = order->name });
+}
+
+static void contract_request(const struct contract *contract, with_request *use)
+{
+    static uint8_t buffer[POLLUX_MAX_TEXT];
+    const struct input whole = { buffer, sizeof buffer };
+    use(&(struct request){ .call = PACT, .inputs = { contract->bytes, contract->names, whole, [TABLE] = contract->numbers } },
+        &(struct table){ .name = contract->name });
+}
+
+/* What stands in no table. */
+static void each_other(const struct measured_work *work, with_request *use)
+{
+    octal_request(use);
+    for (int i = 0; i < ORDERS; i++)
+        order_request(&work->orders[i], use);
+    for (int i = 0; i < CONTRACTS; i++)
+        contract_request(&work->contracts[i], use);
 }
 
 static void write_one(struct request *request, const struct table *table)
@@ -84,6 +117,7 @@ void write_requests(const struct measured_work *work)
         each_request(&work->tables[i], write_one);
     for (size_t i = 0; i < work->edit_count; i++)
         each_recheck(&work->edits[i], write_one);
+    each_other(work, write_one);
 }
 
 /* ---- Agreement with the reference. */
@@ -139,13 +173,12 @@ static void hold_all(struct request *request, const struct table *table)
     }
     line[strcspn(line, "\n")] = '\0';
     hold(request, table, "Polluxvalve", &pollux_calls, line);
-    if (plain_has(request->call))
-        hold(request, table, "plain C", &plain_calls, line);
+    hold(request, table, "plain C", &plain_calls, line);
     if (request->call == RUN)
         hold_unchecked(request, table, line);
 }
 
-/* ---- The long tables that are measured: what the unchecked interpreter says, which was held to the reference entry by entry. */
+/* ---- The long tables that are measured: what the unchecked interpreter and a count say of each entry, which was held to the reference. */
 
 static void hold_long(const struct table *table, struct input entries, const char *who, const struct calls *calls)
 {
@@ -159,6 +192,37 @@ static void hold_long(const struct table *table, struct input entries, const cha
     if (told.says == POLLUX_DONE && told.value == MANY && told.steps == steps && memcmp(answers, wanted, MANY) == 0)
         return;
     fprintf(stderr, "%s, run_all: %s does not say of a long table what a run of each entry says\n", table->name, who);
+    exit(1);
+}
+
+/* The counts of each entry by itself, added up. */
+static struct pollux_counts count_each(const struct table *table, struct input entries, uint64_t parts[POLLUX_MAX_PARTS])
+{
+    struct pollux_counts all = { .says = POLLUX_DONE };
+    memset(parts, 0, POLLUX_MAX_PARTS * sizeof parts[0]);
+    for (size_t at = 0; at < entries.length; at += table->entry_size) {
+        uint64_t one[POLLUX_MAX_PARTS];
+        struct pollux_counts counts = plain_count(table->text.at, table->text.length, table->list.at, table->list.length, entries.at + at,
+                                                  table->entry_size, one);
+        all.value = counts.value;
+        all.accepted += counts.accepted;
+        all.violated += counts.violated;
+        for (size_t k = 0; k < counts.value; k++)
+            parts[k] += one[k];
+    }
+    return all;
+}
+
+static void hold_count(const struct table *table, const char *who, const struct calls *calls)
+{
+    uint64_t parts[POLLUX_MAX_PARTS], wanted[POLLUX_MAX_PARTS];
+    struct input entries = table->many_conforming;
+    struct pollux_counts all = count_each(table, entries, wanted);
+    struct pollux_counts told = calls->count(table->text.at, table->text.length, table->list.at, table->list.length, entries.at,
+                                             entries.length, parts);
+    if (memcmp(&told, &all, sizeof told) == 0 && memcmp(parts, wanted, all.value * sizeof parts[0]) == 0)
+        return;
+    fprintf(stderr, "%s, count: %s does not count in a long table what it counts entry by entry\n", table->name, who);
     exit(1);
 }
 
@@ -179,8 +243,11 @@ void hold_to_lines(const struct measured_work *work, const char *path)
         each_request(&work->tables[i], hold_all);
         hold_both(&work->tables[i], work->tables[i].many_accepted);
         hold_both(&work->tables[i], work->tables[i].many_violated);
+        hold_count(&work->tables[i], "Polluxvalve", &pollux_calls);
+        hold_count(&work->tables[i], "plain C", &plain_calls);
     }
     for (size_t i = 0; i < work->edit_count; i++)
         each_recheck(&work->edits[i], hold_all);
+    each_other(work, hold_all);
     fclose(lines);
 }

@@ -2,14 +2,18 @@
 #ifndef AGREE_H
 #define AGREE_H
 
+#include "contracts.h"
 #include "edits.h"
+#include "orders.h"
 #include "tables.h"
 
-/* All tables, and the edits of them. */
+/* All tables and the edits of them, the texts of many parts, and the contracts. */
 struct measured_work {
     struct table tables[TABLES];
     struct edit edits[MOST_EDITS];
     size_t edit_count;
+    struct order orders[ORDERS];
+    struct contract contracts[CONTRACTS];
 };
 
 /* Writes the requests for the reference, which answers each by a line. */

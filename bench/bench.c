@@ -5,13 +5,12 @@
  *   bench FOLDER LINES                        holds every version to the reference's lines, then measures and prints tables
  *   bench repeat FOLDER TABLE CALL SECONDS    makes one call of Polluxvalve again and again, for a profiler to look at
  *
- * FOLDER has NAME.text, NAME.list and NAME.entries for each table of examples/.
+ * FOLDER has NAME.text, NAME.list and NAME.entries for each table of examples/, and terms.contract, terms.list and terms.numbers.
  */
 #include <stdlib.h>
 #include <string.h>
 
 #include "agree.h"
-#include "orders.h"
 #include "rates.h"
 
 static struct measured_work work;
@@ -47,8 +46,11 @@ int main(int count, char **words)
     if (count != 3)
         return usage();
     bool requests = strcmp(words[1], "requests") == 0;
-    make_tables(work.tables, words[requests ? 2 : 1]);
+    const char *folder = words[requests ? 2 : 1];
+    make_tables(work.tables, folder);
     make_edits();
+    make_orders(work.orders);
+    make_contracts(work.contracts, folder);
     if (requests) {
         write_requests(&work);
         return 0;
@@ -56,6 +58,7 @@ int main(int count, char **words)
     hold_to_lines(&work, words[2]);
     measure_rates(work.tables);
     measure_edits(work.edits, work.edit_count);
-    measure_orders();
+    measure_orders(work.orders);
+    measure_contracts(work.contracts);
     return 0;
 }

@@ -11,11 +11,11 @@ struct order {
     enum pollux_says says; /* what a comparison says of them */
 };
 
-enum { ORDERS = 3 };
+enum { ORDERS = 5 };
 
 void make_orders(struct order orders[ORDERS]);
 
 /* Prints how long it takes to compare them, and to translate their texts. */
-void measure_orders(void);
+void measure_orders(const struct order orders[ORDERS]);
 
 #endif

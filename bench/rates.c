@@ -53,6 +53,7 @@ WORK(run_all_unchecked, plain_unchecked_all(table->list.at, table->code.blocks.a
                                             entries.length / table->entry_size, table->entry_size, answers))
 WORK(run_all_by_hand, each_by_hand(table, entries))
 WORK(count_pollux, pollux_count(TEXT, LIST, ENTRIES, parts).accepted)
+WORK(count_plain, plain_count(TEXT, LIST, ENTRIES, parts).accepted)
 WORK(judge_pollux, pollux_judge(TEXT, LIST, ENTRIES).says)
 WORK(judge_plain, plain_judge(TEXT, LIST, ENTRIES).says)
 WORK(explain_pollux, pollux_explain(TEXT, LIST, ENTRIES).start)
@@ -64,6 +65,7 @@ WORK(load_unskipped_plain, plain_load(LIST, UNSKIPPED).value)
 WORK(translate_pollux, pollux_translate(TEXT, LIST, BUFFER).value)
 WORK(translate_plain, plain_translate(TEXT, LIST, BUFFER).value)
 WORK(compare_pollux, pollux_compare(TEXT, LIST, BLOCKS).says)
+WORK(compare_plain, plain_compare(TEXT, LIST, BLOCKS).says)
 WORK(check_pollux, pollux_check(TEXT, LIST).says)
 WORK(check_plain, plain_check(TEXT, LIST).says)
 WORK(summarize_pollux, pollux_summarize(TEXT, LIST).keys)
@@ -73,6 +75,7 @@ WORK(read_plain, plain_read(TEXT).value)
 WORK(print_pollux, pollux_print(TEXT, BUFFER).value)
 WORK(print_plain, plain_print(TEXT, BUFFER).value)
 WORK(fix_octal_pollux, pollux_fix_octal(TEXT, BUFFER).value)
+WORK(fix_octal_plain, plain_fix_octal(TEXT, BUFFER).value)
 
 enum { POLLUX, PLAIN, UNCHECKED, BY_HAND, VERSIONS };
 enum entries { CONFORMING, ACCEPTED, VIOLATED, MANY_CONFORMING, MANY_ACCEPTED, MANY_VIOLATED };
@@ -93,14 +96,14 @@ static const struct measured {
     { "load-unskipped", CONFORMING, WITHOUT_SKIPS, { load_unskipped_pollux, load_unskipped_plain, NULL, NULL } },
     { "judge", CONFORMING, TRANSLATED, { judge_pollux, judge_plain, NULL, NULL } },
     { "explain", CONFORMING, TRANSLATED, { explain_pollux, explain_plain, NULL, NULL } },
-    { "count", MANY_CONFORMING, TRANSLATED, { count_pollux, NULL, NULL, NULL } },
+    { "count", MANY_CONFORMING, TRANSLATED, { count_pollux, count_plain, NULL, NULL } },
     { "check", CONFORMING, TRANSLATED, { check_pollux, check_plain, NULL, NULL } },
     { "summarize", CONFORMING, TRANSLATED, { summarize_pollux, summarize_plain, NULL, NULL } },
     { "translate", CONFORMING, TRANSLATED, { translate_pollux, translate_plain, NULL, NULL } },
-    { "compare", CONFORMING, TRANSLATED, { compare_pollux, NULL, NULL, NULL } },
+    { "compare", CONFORMING, TRANSLATED, { compare_pollux, compare_plain, NULL, NULL } },
     { "read", CONFORMING, TRANSLATED, { read_pollux, read_plain, NULL, NULL } },
     { "print", CONFORMING, TRANSLATED, { print_pollux, print_plain, NULL, NULL } },
-    { "fix-octal", CONFORMING, TRANSLATED, { fix_octal_pollux, NULL, NULL, NULL } },
+    { "fix-octal", CONFORMING, TRANSLATED, { fix_octal_pollux, fix_octal_plain, NULL, NULL } },
 };
 
 static struct input measured_entries(const struct measured *measured, const struct table *table)

@@ -16,6 +16,7 @@ function span(of) { return sprintf(least[of] == most[of] ? "%.2f" : "%.2f to %.2
 # A table of times: restriction, call, Polluxvalve, plain C, ratio, unchecked C, ratio and more.
 $2 == "restriction" { kind = $3 == "call" ? "times" : $3 == "print" ? "prints" : ""; next }
 $2 == "parts" { kind = "orders"; next }
+$2 == "contract" { kind = ""; next }
 /^\|-/ { next }
 kind == "times" && NF > 8 {
     name = $2; call = $3

@@ -75,16 +75,30 @@ static void each_recheck(const struct edit *edit, with_request *use)
 /* No table has an octal numeral, so a text of its own shows how one is turned: in a string and in a comment it stays. */
 static void octal_request(with_request *use)
 {
-    static char octal[] = "a == 0o7640 // 0o7640\n&& b != 0O0017 || c::mask == 0o3777777777777777777777777777777777777777777 -> ipv4('0o7')";
+    static char octal[] = "a == 0o7640 // 0o7640\n"
+                          "&& b != 0O0017 || c::mask == 0o3777777777777777777777777777777777777777777 -> ipv4('0o7')";
     static uint8_t buffer[POLLUX_MAX_TEXT];
     const struct input text = { (uint8_t *)octal, sizeof octal - 1 };
     use(&(struct request){ .call = FIX_OCTAL, .inputs = { text, { buffer, 0 }, { buffer, sizeof buffer } } },
         &(struct table){ .name = "octal numerals" });
 }
 
+/* No entry of a table breaks two parts, and none is cut. Here 7 breaks one and 12 two, one is refused, and three bytes are left. */
+static void count_request(with_request *use)
+{
+    static char text[] = "::priority < 10; true; ::priority < 5";
+    static uint8_t entries[] = { 0, 0, 0, 3, 0, 0, 0, 7, 0, 0, 0, 12, 128, 0, 0, 0, 0, 0, 0 };
+    static uint64_t numbers[POLLUX_MAX_PARTS];
+    use(&(struct request){ .call = COUNT,
+                           .inputs = { { (uint8_t *)text, sizeof text - 1 }, { entries, 0 }, { entries, sizeof entries },
+                                       [PARTS] = { (uint8_t *)numbers, sizeof numbers } } },
+        &(struct table){ .name = "priorities" });
+}
+
 static void order_request(const struct order *order, with_request *use)
 {
-    use(&(struct request){ .call = COMPARE, .inputs = { order->text, order->list, order->blocks } }, &(struct table){ .name = order->name });
+    use(&(struct request){ .call = COMPARE, .inputs = { order->text, order->list, order->blocks } },
+        &(struct table){ .name = order->name });
 }
 
 static void contract_request(const struct contract *contract, with_request *use)
@@ -99,6 +113,7 @@ static void contract_request(const struct contract *contract, with_request *use)
 static void each_other(const struct measured_work *work, with_request *use)
 {
     octal_request(use);
+    count_request(use);
     for (int i = 0; i < ORDERS; i++)
         order_request(&work->orders[i], use);
     for (int i = 0; i < CONTRACTS; i++)

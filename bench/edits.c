@@ -175,8 +175,8 @@ void measure_edits(const struct edit *edits, size_t count)
 {
     static const struct column columns[] = { { "restriction", -13 }, { "the key is", -10 }, { "recheck", 10 }, { "plain C", 10 },
                                              { "ratio", 6 },         { "judge", 10 },       { "ratio", 6 } };
-    printf("\nOne key of %d entries changes: nanoseconds an entry to recheck the new entries, and how many times longer Polluxvalve takes than\n"
-           "plain C; and to judge them by Polluxvalve, and how many times longer it takes to recheck them.\n", EDITED);
+    printf("\nOne key of %d entries changes: nanoseconds an entry to recheck the new entries, and how many times longer Polluxvalve takes\n"
+           "than plain C; and to judge them by Polluxvalve, and how many times longer it takes to recheck them.\n", EDITED);
     sheet_head(columns, sizeof columns / sizeof columns[0]);
     for (size_t i = 0; i < count; i++)
         measure_edit(&edits[i], columns);

@@ -147,8 +147,8 @@ void measure_orders(const struct order orders[ORDERS])
 {
     static const struct column columns[] = { { "parts", -21 },  { "number", 7 }, { "it says", -8 },   { "compare", 8 },
                                              { "plain C", 8 }, { "ratio", 6 },  { "translate", 10 } };
-    printf("\nBlocks are compared with a text of many parts: in the text's own order, which takes Polluxvalve longest, and reversed, which takes\n"
-           "plain C longest. Milliseconds a call, how many times longer Polluxvalve takes, and beside it those of a translation of the text.\n");
+    printf("\nBlocks are compared with a text of many parts: in the text's own order, which takes Polluxvalve longest, and reversed,\n"
+           "which takes plain C longest. Milliseconds a call, how many times longer Polluxvalve takes, and those of a translation.\n");
     sheet_head(columns, sizeof columns / sizeof columns[0]);
     for (int i = 0; i < ORDERS; i++)
         measure_order(&orders[i], columns);

@@ -24,10 +24,9 @@ struct sums {
 
 struct sums block_sums(const uint8_t *block);
 
-/* How many instructions some nodes of a tree that passed have, from the first to the last; a skip counts with its join. (plain_translate.c) */
+/* How many instructions the nodes of a tree that passed have, from the first to the last; a skip counts with its join. And writes all of
+   the tree's where blocks have them (plain_translate.c). */
 size_t instructions_of(const struct tree *tree, size_t first, size_t last);
-
-/* Writes the instructions of a tree that passed where blocks have them. (plain_translate.c) */
 void write_code(const struct tree *tree, uint8_t *blocks);
 
 /* Writes what stands around the instructions of a block. */

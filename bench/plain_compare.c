@@ -53,7 +53,7 @@ static void translate_parts(const struct tokens *tokens, const struct tree *tree
 
 /*
  * Uses up a part that has this very code, if there is one. The last is tried first: the blocks are read from their end, so that those
- * in the text's own order take one try for each. There are 512 parts at most, so even the worst order takes no time to speak of.
+ * in the text's own order take one try for each. There are 512 parts at most, so even the worst order takes a fraction of a millisecond.
  */
 static bool use_up(struct parts *parts, const struct code *code, size_t start, size_t size)
 {

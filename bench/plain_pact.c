@@ -37,7 +37,7 @@ static inline unsigned right_index(uint8_t byte)
     return byte & 15;
 }
 
-/* ---- The tree. Each node is a token of the text, so a tree over the limit of tokens need not be made: any node stands for the rest of it. */
+/* ---- The tree. Each node is a token of the text, so one over the limit of tokens need not be made: any node stands for the rest. */
 
 static int add(struct drafter *drafter, struct node node)
 {

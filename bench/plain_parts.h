@@ -173,8 +173,7 @@ bool text_tree(const uint8_t *text, size_t text_length, struct tokens *tokens, s
 bool checked_tree(const uint8_t *text, size_t text_length, const uint8_t *list, size_t list_length, struct tokens *tokens,
                   struct tree *tree, struct pollux_answer *answer);
 
-/* The print of a tree, whose words are tokens of the text (plain_print.c). Gives its length, which may be over the room; then what is written is
-   of no use. */
+/* Prints a tree, whose words are tokens of the text (plain_print.c). Gives the print's length; over the room, it is only counted. */
 size_t print_tree(const uint8_t *text, const struct tokens *tokens, const struct tree *tree, uint8_t print[POLLUX_MAX_PRINT]);
 
 /* ---- Parts (plain_explain.c). */

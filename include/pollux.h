@@ -45,8 +45,8 @@ extern "C" {
  * The version of Polluxvalve: of this interface, the archive and the programs. The number is major * 1,000,000 + minor * 1,000 + patch, so
  * that a later version has a larger one.
  */
-#define POLLUX_VERSION "2.0.2"
-#define POLLUX_VERSION_NUMBER 2000002
+#define POLLUX_VERSION "2.0.3"
+#define POLLUX_VERSION_NUMBER 2000003
 
 /* The number of the archive that a program is linked with. An archive of another major version than the header's must not be called. */
 uint64_t pollux_version(void);

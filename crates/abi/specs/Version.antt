@@ -7,7 +7,7 @@ pub record Version : Type 0 where
   pub patch : ℕ
 
 abbrev pub version : Version
-version = record { major = 2; minor = 0; patch = 2 }
+version = record { major = 2; minor = 0; patch = 3 }
 
 -- as one number, which has three decimal digits for each of the last two
 abbrev pub versionNumber : Version → ℕ

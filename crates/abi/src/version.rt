@@ -6,7 +6,7 @@ const MAJOR: u64 = 2;
 
 const MINOR: u64 = 0;
 
-const PATCH: u64 = 2;
+const PATCH: u64 = 3;
 
 // As one number: a version that is later has a larger one.
 pub(crate) fn number() -> u64

@@ -1,23 +1,41 @@
--- The three words of the definition, in its order.
-use mathlib.Core.Path.{sym, _∙_}
+-- `addresses::scheme_of` meets its contract: the three words of the definition are tried in its order, and a word is told once those before
+-- it were found to be others (`not-ipv4`, `not-ipv6`).
+use mathlib.Core.Bool.{false}
+use mathlib.Core.Path.{_≡_, sym, _∙_}
 use borrow.Author.Needs.{needs}
+use Rattle.paper.specs.Tokens.{bytes, sameBytes}
 use Rattle.addresses.proofs.scheme_of.Statement.{statement}
 use Rattle.addresses.proofs.scheme_of.Tie as tie
 
-returns-2 : tie.Need-returns-2
-returns-2 c =
-    rw
-    (sym (c .before .before .before .before .same-bytes .ensures) ∙ c .before .before .before .if1 .left, sym (c .before .same-bytes2 .ensures) ∙ c .if2 .taken)
+-- where the word is not "ipv4", and where it is not "ipv6" either
 
-returns-3 : tie.Need-returns-3
-returns-3 c =
-    rw
-    (sym (c .before .before .before .before .before .before .before .same-bytes .ensures) ∙ c .before .before .before .before .before .before .if1 .left, sym (c .before .before .before .before .same-bytes2 .ensures) ∙ c .before .before .before .if2 .left, sym (c .before .same-bytes3 .ensures) ∙ c .if3 .taken)
+abbrev start : tie.Else1 → tie.Start
+start c = c .before .before .before .before
 
-returns-4 : tie.Need-returns-4
-returns-4 c =
-    rw
-    (sym (c .before .before .before .before .before .before .before .same-bytes .ensures) ∙ c .before .before .before .before .before .before .if1 .left, sym (c .before .before .before .before .same-bytes2 .ensures) ∙ c .before .before .before .if2 .left, sym (c .before .same-bytes3 .ensures) ∙ c .if3 .left)
+not-ipv4 : (c : tie.Else1) → sameBytes (start c .args .word .now) (bytes "ipv4") ≡ false
+not-ipv4 c = sym (c .before .same-bytes .ensures) ∙ c .if1 .left
+
+abbrev past-ipv4 : tie.Else2 → tie.Else1
+past-ipv4 c = c .before .before .before
+
+not-ipv6 : (c : tie.Else2) → sameBytes (start (past-ipv4 c) .args .word .now) (bytes "ipv6") ≡ false
+not-ipv6 c = sym (c .before .same-bytes2 .ensures) ∙ c .if2 .left
+
+is-ipv6 : tie.Need-returns-2
+is-ipv6 c = rw (not-ipv4 (c .before .before .before), sym (c .before .same-bytes2 .ensures) ∙ c .if2 .taken)
+
+abbrev past-ipv6 : tie.After-same-bytes3 → tie.Else2
+past-ipv6 c = c .before .before
+
+is-mac : tie.Need-returns-3
+is-mac c =
+    let p = past-ipv6 (c .before) in
+    rw (not-ipv4 (past-ipv4 p), not-ipv6 p, sym (c .before .same-bytes3 .ensures) ∙ c .if3 .taken)
+
+is-other : tie.Need-returns-4
+is-other c =
+    let p = past-ipv6 (c .before) in
+    rw (not-ipv4 (past-ipv4 p), not-ipv6 p, sym (c .before .same-bytes3 .ensures) ∙ c .if3 .left)
 
 pub scheme-of-spec : {M : Type 1} → statement M
 scheme-of-spec =
@@ -28,8 +46,8 @@ scheme-of-spec =
     (λ c. rw (sym (c .before .same-bytes .ensures) ∙ c .if1 .taken))
     (λ c. search needs)
     (λ c κs. search needs)
-    returns-2
+    is-ipv6
     (λ c. search needs)
     (λ c κs. search needs)
-    returns-3
-    returns-4)
+    is-mac
+    is-other)

@@ -21,10 +21,29 @@ Inv-loop blocks keys size n total k₀ k = (k ≤ n) × (inTurn (blockTest keys 
 abbrev μ-loop : tie.MeasureT-loop
 μ-loop blocks keys size n total k₀ k = n - k
 
+-- where the length is one of whole blocks: what was given
+
+abbrev given : tie.Else2 Inv-loop μ-loop → tie.Start Inv-loop μ-loop
+given c = c .before .before .before
+
+-- refusal 16, by the length alone
+
+empty : tie.Need-returns Inv-loop μ-loop
+empty c = let a = c .before .before .args in sym (laid-empty (a .keys) (a .blocks .now) (c .if1 .taken))
+
+broken : tie.Need-returns-2 Inv-loop μ-loop
+broken c = let a = c .before .before .before .args in sym (laid-broken (a .keys) (a .blocks .now) (c .if2 .taken) (omega arith))
+
+long : tie.Need-returns-3 Inv-loop μ-loop
+long c = let a = given (c .before) .args in sym (laid-long (a .keys) (a .blocks .now) (c .if3 .taken) (c .before .if2 .left))
+
 -- at the loop: what was given, the number of blocks, and how many of them are passed
 
+abbrev tested : tie.At-loop Inv-loop μ-loop → tie.Else2 Inv-loop μ-loop
+tested l = l .before .before .before
+
 abbrev start : tie.At-loop Inv-loop μ-loop → tie.Start Inv-loop μ-loop
-start l = l .before .before .before .before .before .before
+start l = given (tested l)
 
 abbrev blocks : tie.At-loop Inv-loop μ-loop → List ℕ
 blocks l = start l .args .blocks .now
@@ -45,7 +64,7 @@ test l = blockTest (keys l) (blocks l)
 decided : (l : tie.At-loop Inv-loop μ-loop) {a : Answer (Unit {0})} → inTurn (test l) (k l) (n l - k l) ≡ a
     → laidOut (keys l) (blocks l) ≡ (a >>= λ _. ok (totalOf (blocks l)))
 decided l e =
-    laid-through (keys l) (blocks l) (omega arith) (l .before .before .before .if2 .left) (omega arith)
+    laid-through (keys l) (blocks l) (omega arith) (tested l .if2 .left) (omega arith)
     ∙ ap (λ (a : Answer (Unit {0})). a >>= λ _. ok (totalOf (blocks l))) (sym (l .loop .inv .1) ∙ e)
 
 -- the loop that a look at a block stands in
@@ -59,8 +78,8 @@ looked c =
     let total = l .before .total-of in
     block-there (keys l) (blocks l) (k l) (total .result) (k l * 512) (total .ensures) refl ∙ sym (c .block-right .ensures)
 
-returns-4 : tie.Need-returns-4 Inv-loop μ-loop
-returns-4 c =
+block-refused : tie.Need-returns-4 Inv-loop μ-loop
+block-refused c =
     let l = loop-of (c .before) in
     let bad = looked (c .before) ∙ not-true _ (c .if4 .taken) in
     sym (decided l (stops (test l) (n l) (k l) (omega arith) (rw bad)))
@@ -71,8 +90,8 @@ loop-again c =
     let good = looked (c .before) ∙ not-false _ (c .if4 .left) in
     (omega arith, sym (goes-on (test l) (n l) (k l) (omega arith) (rw good)) ∙ l .loop .inv .1)
 
-returns-5 : tie.Need-returns-5 Inv-loop μ-loop
-returns-5 c =
+all-passed : tie.Need-returns-5 Inv-loop μ-loop
+all-passed c =
     let l = c .before in
     sym (decided l (is-over (test l) (n l) (k l) (omega arith)) ∙ ap ok (sym (l .before .total-of .ensures)))
 
@@ -80,10 +99,10 @@ pub layout-spec : {M : Type 1} → statement M
 layout-spec =
     tie.close
     (tie.spec Inv-loop μ-loop
-    (λ c. sym (laid-empty (c .before .before .args .keys) (c .before .before .args .blocks .now) (c .if1 .taken)))
-    (λ c. sym (laid-broken (c .before .before .before .args .keys) (c .before .before .before .args .blocks .now) (c .if2 .taken) (omega arith)))
+    empty
+    broken
     (λ c. omega arith)
-    (λ c. sym (laid-long (c .before .before .before .before .args .keys) (c .before .before .before .before .args .blocks .now) (c .if3 .taken) (c .before .if2 .left)))
+    long
     (λ c κs. (omega arith, omega arith))
     (λ c. (omega arith, rw sub-zero))
     (λ c. omega arith)
@@ -94,8 +113,8 @@ layout-spec =
     (λ c. omega arith)
     (λ c. omega arith)
     (λ c κs. search needs)
-    returns-4
+    block-refused
     (λ c. omega arith)
     (λ c. omega arith)
     loop-again
-    returns-5)
+    all-passed)

@@ -1,4 +1,5 @@
--- The loop's invariant: the first k blocks stand over what was lent, and every later byte is as it was. The measure is how many blocks are left.
+-- `blocks::writing::write_blocks` meets its contract. The invariant of its loop: the first k blocks stand over what was lent, and every later
+-- byte is as it was. A turn puts block k after them (`row-on`). The measure is how many blocks are left.
 use Prim.Native.Nat.{ℕ, _*_, _-_, _/_, _≤_}
 use native.Mathlib.Omega.{arith}
 use mathlib.Core.Path.{_≡_, refl, _∙_, ap}
@@ -22,27 +23,50 @@ Inv-loop code keys buffer₀ total n k₀ buffer k =
 abbrev μ-loop : tie.MeasureT-loop
 μ-loop code keys buffer₀ total n k₀ buffer k = n - k
 
+-- a turn: how many blocks there are, and what the function was given
+
+abbrev Turn : Type 0
+Turn = tie.At-loop Inv-loop μ-loop
+
+abbrev needed : Turn → tie.After-needed Inv-loop μ-loop
+needed t = t .before
+
+abbrev start : Turn → tie.Start Inv-loop μ-loop
+start t = needed t .before .before .before
+
+abbrev code : Turn → List ℕ
+code t = start t .args .code .now
+
+abbrev buffer : Turn → List ℕ
+buffer t = start t .args .buffer .now
+
+-- the blocks of the code, each of one size
+abbrev blocks : Turn → ℕ → List ℕ
+blocks t = block (code t) (start t .args .keys)
+
+one-size : (t : Turn) (k : ℕ) → length (blocks t k) ≡ 512
+one-size t = block-length (length (code t) / 20) (start t .args .keys) (code t)
+
+abbrev turn : tie.After-put-block Inv-loop μ-loop → Turn
+turn c = c .before .before .before
+
 loop-again : tie.Need-loop-again Inv-loop μ-loop
 loop-again c =
-    let a = c .before .before .before .before .before .before .before .before .before .args in
-    let l = c .before .before .before .before .before .loop in
-    let code = a .code .now in
-    let needed = c .before .before .before .before .before .before .needed .ensures in (
+    let put = c .before .before in
+    let t = turn put in
+    let l = t .loop in (
       omega arith,
       search needs,
-      c .before .before .put-block .ensures
-          ∙ row-on (block code (a .keys)) (block-length (length code / 20) (a .keys) code) (a .buffer .now) (l .k) (l .buffer) (omega (arith, needed)) (l .inv .2),
+      put .put-block .ensures
+          ∙ row-on (blocks t) (one-size t) (buffer t) (l .k) (l .buffer) (omega (arith, needed t .needed .ensures)) (l .inv .2),
     )
 
-returns : tie.Need-returns Inv-loop μ-loop
-returns c =
-    let a = c .before .before .before .before .before .args in
-    let l = c .before .loop in
-    let code = a .code .now in
-    let all : l .k ≡ c .before .before .needed .result = omega arith in
-    let needed = all ∙ c .before .before .needed .ensures in
-    l .inv .2 ∙ ap (λ (n : ℕ). inRow (block code (a .keys)) 0 n ++ drop (n * 512) (a .buffer .now)) needed
-    ∙ row-through (block code (a .keys)) (block-length (length code / 20) (a .keys) code) (a .buffer .now) (blocksNeeded (length code / 20))
+all-written : tie.Need-returns Inv-loop μ-loop
+all-written c =
+    let t = c .before in
+    let all : t .loop .k ≡ needed t .needed .result = omega arith in
+    t .loop .inv .2 ∙ ap (λ (n : ℕ). inRow (blocks t) 0 n ++ drop (n * 512) (buffer t)) (all ∙ needed t .needed .ensures)
+    ∙ row-through (blocks t) (one-size t) (buffer t) (blocksNeeded (length (code t) / 20))
 
 pub write-blocks-spec : {M : Type 1} → statement M
 write-blocks-spec =
@@ -55,4 +79,4 @@ write-blocks-spec =
     (λ c. omega arith)
     loop-again
     (λ c. c .before .loop .inv .1)
-    returns)
+    all-written)

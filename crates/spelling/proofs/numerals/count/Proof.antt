@@ -1,8 +1,10 @@
--- The digits from here on, after the number so far, count what all of them count.
-use Prim.Native.Nat.{_+_, _*_, _-_, _^_, _≤_}
-use mathlib.Core.Path.{_≡_, sym, _∙_}
+-- `spelling::numerals::count` meets its contract. The invariant of its loop: the number so far fits, and the digits from here on, after it,
+-- count what all of them count. A turn puts the next digit after the number (`onward`): where that does not fit, neither do all of them
+-- (`grown-over`). The measure is how many digits are left.
+use Prim.Native.Nat.{ℕ, _+_, _*_, _-_, _^_, _≤_}
+use mathlib.Core.Path.{_≡_, sym, _∙_, ap}
 use mathlib.Core.Bool.{true}
-use mathlib.Core.List.{map, []}
+use mathlib.Core.List.{List, map, []}
 use lib.Dec.{ltb}
 use lib.ListN.{length, drop}
 use borrow.Author.Needs.{needs}
@@ -23,44 +25,71 @@ Inv-loop digits base number₀ i₀ number i =
 abbrev μ-loop : tie.MeasureT-loop
 μ-loop digits base number₀ i₀ number i = length digits - i
 
-loop-holds : tie.Need-loop-holds Inv-loop μ-loop
-loop-holds c = (search needs, rw (c .zero .ensures), rw (c .zero .ensures))
+-- a turn: what the function was given, what all digits count, and the number so far
 
--- the digits after the one that was read
-onward : (c : tie.After-digit-of Inv-loop μ-loop)
-    → digitsAfter (c .before .before .before .before .before .before .args .base) (value (c .before .before .before .loop .number) * c .before .before .before .before .before .before .args .base + c .digit-of .result) (map digitOf (drop (c .before .before .before .loop .i + 1) (c .before .before .before .before .before .before .args .digits .now)))
-    ≡ inBase (c .before .before .before .before .before .before .args .base) (map digitOf (c .before .before .before .before .before .before .args .digits .now))
+abbrev Turn : Type 0
+Turn = tie.At-loop Inv-loop μ-loop
+
+abbrev start : Turn → tie.Start Inv-loop μ-loop
+start t = t .before .before .before
+
+abbrev base : Turn → ℕ
+base t = start t .args .base
+
+abbrev digits : Turn → List ℕ
+digits t = start t .args .digits .now
+
+abbrev all : Turn → ℕ
+all t = inBase (base t) (map digitOf (digits t))
+
+abbrev so-far : Turn → ℕ
+so-far t = value (t .loop .number)
+
+-- where the turn's digit is known: those after it, after the number with it
+
+abbrev Digit : Type 0
+Digit = tie.After-digit-of Inv-loop μ-loop
+
+abbrev turn : Digit → Turn
+turn c = c .before .before .before
+
+abbrev digit : Digit → ℕ
+digit c = c .digit-of .result
+
+abbrev later : Digit → List ℕ
+later c = map digitOf (drop (turn c .loop .i + 1) (digits (turn c)))
+
+onward : (c : Digit) → let t = turn c in digitsAfter (base t) (so-far t * base t + digit c) (later c) ≡ all t
 onward c =
-    let a = c .before .before .before .before .before .before .args in
-    let l = c .before .before .before .loop in
-    rw (c .digit-of .ensures) (sym (digits-on (a .base) (value (l .number)) (a .digits .now) (l .i) (search needs)) ∙ l .inv .2)
+    let t = turn c in
+    ap (λ (d : ℕ). digitsAfter (base t) (so-far t * base t + d) (later c)) (c .digit-of .ensures)
+    ∙ sym (digits-on (base t) (so-far t) (digits t) (t .loop .i) (search needs)) ∙ t .loop .inv .2
 
-returns : tie.Need-returns Inv-loop μ-loop
-returns c =
-    let a = c .before .before .before .before .before .before .before .before .before .args in
-    let l = c .before .before .before .before .before .before .loop in
-    let g = c .before .before .grow in
-    rw (onward (c .before .before .before)) at
-    (grown-over (a .base) (value (l .number)) (c .before .before .before .digit-of .result) (map digitOf (drop (l .i + 1) (a .digits .now))) (g .result) (g .ensures) (search needs) (not-true _ (c .if1 .taken)))
+too-large : tie.Need-returns Inv-loop μ-loop
+too-large c =
+    let grown = c .before .before in
+    let d = grown .before in
+    let t = turn d in
+    rw (onward d) at
+    (grown-over (base t) (so-far t) (digit d) (later d) (grown .grow .result) (grown .grow .ensures) (search needs) (not-true _ (c .if1 .taken)))
 
 loop-again : tie.Need-loop-again Inv-loop μ-loop
 loop-again c =
-    let a = c .before .before .before .before .before .before .before .before .before .before .args in
-    let l = c .before .before .before .before .before .before .before .loop in
-    let g = c .before .before .before .grow in
-    let d = c .before .before .before .before .digit-of .result in
-    let e = not-false (g .result .ok) (c .before .if1 .left) in (
+    let grown = c .before .before .before in
+    let d = grown .before in
+    let t = turn d in
+    let g = grown .grow in
+    let fits = not-false (g .result .ok) (c .before .if1 .left) in (
       search needs,
-      grown-fits (a .base) (value (l .number)) d [] (g .result) (g .ensures) e,
-      rw (grown-on (a .base) (value (l .number)) d [] (g .result) (g .ensures) e) (onward (c .before .before .before .before)),
+      grown-fits (base t) (so-far t) (digit d) [] (g .result) (g .ensures) fits,
+      rw (grown-on (base t) (so-far t) (digit d) [] (g .result) (g .ensures) fits) (onward d),
     )
 
-returns-2 : tie.Need-returns-2 Inv-loop μ-loop
-returns-2 c =
-    let a = c .before .before .before .before .args in
-    let l = c .before .loop in
-    let e : value (l .number) ≡ inBase (a .base) (map digitOf (a .digits .now)) = sym (digits-end (a .base) (value (l .number)) (a .digits .now) (l .i) (c .loop-test .left)) ∙ l .inv .2 in
-    record { told = sym (rw e at (l .inv .1)); held = λ _. e }
+all-counted : tie.Need-returns-2 Inv-loop μ-loop
+all-counted c =
+    let t = c .before in
+    let counts : so-far t ≡ all t = sym (digits-end (base t) (so-far t) (digits t) (t .loop .i) (c .loop-test .left)) ∙ t .loop .inv .2 in
+    record { told = sym (rw counts at (t .loop .inv .1)); held = λ _. counts }
 
 pub count-spec : {M : Type 1} → statement M
 count-spec =
@@ -69,13 +98,13 @@ count-spec =
     Inv-loop
     μ-loop
     (λ c κs. search needs)
-    loop-holds
+    (λ c. (search needs, rw (c .zero .ensures), rw (c .zero .ensures)))
     (λ c. search needs)
     (λ c κs. search needs)
     (λ c. search needs)
     (λ c κs. search needs)
-    returns
+    too-large
     (λ c. search needs)
     (λ c. search needs)
     loop-again
-    returns-2)
+    all-counted)

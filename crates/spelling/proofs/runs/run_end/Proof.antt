@@ -1,7 +1,9 @@
--- The run from here on ends where the whole run ends.
-use Prim.Native.Nat.{_+_, _-_, _≤_}
+-- `spelling::runs::run_end` meets its contract. The invariant of its loop: the run from here on ends where the whole run ends. A byte of the
+-- run is passed (`span-on`), another one ends it (`span-stop`), and so does the text's end (`span-end`). The measure is how many bytes are left.
+use Prim.Native.Nat.{ℕ, _+_, _-_, _≤_}
 use mathlib.Core.Path.{_≡_, refl, sym, _∙_}
-use mathlib.Core.Bool.{true, false}
+use mathlib.Core.Bool.{Bool}
+use mathlib.Core.List.{List}
 use native.Mathlib.Omega.{arith}
 use lib.ListN.{length, drop, getD}
 use borrow.Author.Needs.{needs}
@@ -18,24 +20,46 @@ Inv-loop text at run i₀ i = (i ≤ length text) × (i + span (inRun run) (drop
 abbrev μ-loop : tie.MeasureT-loop
 μ-loop text at run i₀ i = length text - i
 
-returns : tie.Need-returns Inv-loop μ-loop
-returns c =
-    let a = c .before .before .before .before .before .before .args in
-    let i = c .before .before .before .before .loop .i in
-    let e : inRun (a .run) (getD (a .text .now) i 0) ≡ false = sym (c .before .goes-on .ensures) ∙ not-true _ (c .if1 .taken) in
-    omega (arith, span-stop (inRun (a .run)) (a .text .now) i (search needs) e)
+-- a turn: the text, the test of the run's bytes, and where the turn starts
+
+abbrev Turn : Type 0
+Turn = tie.At-loop Inv-loop μ-loop
+
+abbrev start : Turn → tie.Start Inv-loop μ-loop
+start t = t .before .before
+
+abbrev text : Turn → List ℕ
+text t = start t .args .text .now
+
+abbrev belongs : Turn → ℕ → Bool
+belongs t = inRun (start t .args .run)
+
+abbrev i : Turn → ℕ
+i t = t .loop .i
+
+-- where the turn's byte has been tested
+
+abbrev Tested : Type 0
+Tested = tie.After-goes-on Inv-loop μ-loop
+
+abbrev turn : Tested → Turn
+turn c = c .before .before .before
+
+tested : (c : Tested) {b : Bool} → c .goes-on .result ≡ b → belongs (turn c) (getD (text (turn c)) (i (turn c)) 0) ≡ b
+tested c e = sym (c .goes-on .ensures) ∙ e
+
+ends-here : tie.Need-returns Inv-loop μ-loop
+ends-here c =
+    let t = turn (c .before) in
+    omega (arith, span-stop (belongs t) (text t) (i t) (search needs) (tested (c .before) (not-true _ (c .if1 .taken))))
 
 loop-again : tie.Need-loop-again Inv-loop μ-loop
 loop-again c =
-    let a = c .before .before .before .before .before .before .args in
-    let i = c .before .before .before .before .loop .i in
-    let e : inRun (a .run) (getD (a .text .now) i 0) ≡ true = sym (c .before .goes-on .ensures) ∙ not-false _ (c .if1 .left) in
-    omega (arith, span-on (inRun (a .run)) (a .text .now) i (search needs) e)
+    let t = turn (c .before) in
+    omega (arith, span-on (belongs t) (text t) (i t) (search needs) (tested (c .before) (not-false _ (c .if1 .left))))
 
-returns-2 : tie.Need-returns-2 Inv-loop μ-loop
-returns-2 c =
-    let a = c .before .before .before .args in
-    omega (arith, span-end (inRun (a .run)) (a .text .now) (c .before .loop .i) (c .loop-test .left))
+ends-with-text : tie.Need-returns-2 Inv-loop μ-loop
+ends-with-text c = let t = c .before in omega (arith, span-end (belongs t) (text t) (i t) (c .loop-test .left))
 
 pub run-end-spec : {M : Type 1} → statement M
 run-end-spec =
@@ -46,8 +70,8 @@ run-end-spec =
     (λ c. (search needs, refl))
     (λ c. search needs)
     (λ c κs. search needs)
-    returns
+    ends-here
     (λ c. search needs)
     (λ c. search needs)
     loop-again
-    returns-2)
+    ends-with-text)

@@ -1,16 +1,35 @@
--- The lowest W bits, limb by limb: each limb keeps those of its own bits that are below W (`mod-limbs`).
+-- `number::Magnitude::lowest` meets its contract: the lowest W bits, limb by limb, since each limb keeps those of its own bits that are below
+-- W (`mod-limbs`).
 use borrow.Author.Needs.{needs}
 use Rattle.number.specs.Values.{value}
+use Rattle.number.proofs.Limbs.{Held}
 use Rattle.number.proofs.Powers.{mod-limbs}
 use Rattle.number.proofs.magnitude.Magnitude.lowest.Statement.{statement}
 use Rattle.number.proofs.magnitude.Magnitude.lowest.Tie as tie
 
-returns : tie.Need-returns
+-- the limbs of the number given fit
+held : (s : tie.Start) → Held (s .args .t1)
+held s = search needs
+
+-- the places: where the bits of each limb are known, from limb 3 down to limb 0, and what was given
+limb-by-limb : tie.Need-returns
 unfolding value
-returns c =
-    let a = c .before .before .before .before .before .before .before .before .before .before .before .args in
-    rw (c .before .before .before .before .before .before .before .before .before .low .ensures, c .before .before .before .before .before .before .low2 .ensures, c .before .before .before .before .before .before .before .past .ensures, c .before .before .before .low3 .ensures, c .before .before .before .before .past2 .ensures, c .low4 .ensures, c .before .past3 .ensures)
-    (mod-limbs (a .w) (a .t1) (search needs))
+limb-by-limb c =
+    let limb3 = c in
+    let limb2 = limb3 .before .before .before in
+    let limb1 = limb2 .before .before .before in
+    let limb0 = limb1 .before .before .before in
+    let start = limb0 .before .before in
+    let a = start .args in
+    rw (
+      limb0 .low .ensures,
+      limb1 .low2 .ensures,
+      limb1 .before .past .ensures,
+      limb2 .low3 .ensures,
+      limb2 .before .past2 .ensures,
+      limb3 .low4 .ensures,
+      limb3 .before .past3 .ensures,
+    ) (mod-limbs (a .w) (a .t1) (held start))
 
 pub lowest-spec : {M : Type 1} → statement M
 lowest-spec =
@@ -27,4 +46,4 @@ lowest-spec =
     (λ c. search needs)
     (λ c κs. search needs)
     (λ c κs. search needs)
-    returns)
+    limb-by-limb)

@@ -1,43 +1,59 @@
--- Two whole numbers with one sign are the same where their sizes are (`sizes-same`); with two signs they never are (`same-apart`).
+-- `number::Whole::equal` meets its contract: the code looks at both signs, and answers in each of the four cases what the numbers' comparison by
+-- signs and sizes does (`same-by-signs`).
 use borrow.Author.Needs.{needs}
-use mathlib.Core.Bool.{not}
-use mathlib.Core.Path.{_∙_, sym, ap}
+use mathlib.Core.Bool.{true, false}
+use mathlib.Core.Path.{_≡_, _∙_, sym}
+use Rattle.number.specs.declared.whole.Whole.{Whole}
 use Rattle.number.specs.Values.{wholeOf}
-use Rattle.number.proofs.Signs.{same-apart, sizes-same}
+use Rattle.number.proofs.Signs.{below, SameBySigns, same-by-signs}
 use Rattle.number.proofs.whole.Whole.equal.Statement.{statement}
 use Rattle.number.proofs.whole.Whole.equal.Tie as tie
 
-returns : tie.Need-returns
-returns c =
-    let v = c .before .before .before .before .before .before .before .args .self in
-    let w = c .before .before .before .before .before .before .before .args .other in
-    let e = sym (c .before .before .before .before .below-zero .ensures) ∙ c .before .before .before .if1 .taken in
-    let f = sym (c .before .before .below-zero2 .ensures) ∙ c .before .if2 .taken in
-    c .equal .ensures ∙ sizes-same v w (e ∙ sym f)
+-- where the first number has been looked at
 
-returns-2 : tie.Need-returns-2
-returns-2 c =
-    let v = c .before .before .before .before .before .before .args .self in
-    let w = c .before .before .before .before .before .before .args .other in
-    let e = sym (c .before .before .before .below-zero .ensures) ∙ c .before .before .if1 .taken in
-    let f = sym (c .before .below-zero2 .ensures) ∙ c .if2 .left in
-    same-apart (wholeOf v) (wholeOf w) (e ∙ ap not (sym f))
+abbrev Looked : Type 0
+Looked = tie.After-below-zero
 
-returns-3 : tie.Need-returns-3
-returns-3 c =
-    let v = c .before .before .before .before .before .before .args .self in
-    let w = c .before .before .before .before .before .before .args .other in
-    let e = sym (c .before .before .before .below-zero .ensures) ∙ c .before .before .if1 .left in
-    let f = sym (c .before .below-zero3 .ensures) ∙ c .if3 .taken in
-    same-apart (wholeOf v) (wholeOf w) (e ∙ ap not (sym f))
+abbrev self : Looked → Whole
+self l = l .before .before .before .args .self
 
-returns-4 : tie.Need-returns-4
-returns-4 c =
-    let v = c .before .before .before .before .before .before .before .args .self in
-    let w = c .before .before .before .before .before .before .before .args .other in
-    let e = sym (c .before .before .before .before .below-zero .ensures) ∙ c .before .before .before .if1 .left in
-    let f = sym (c .before .before .below-zero3 .ensures) ∙ c .before .if3 .left in
-    c .equal2 .ensures ∙ sizes-same v w (e ∙ sym f)
+abbrev other : Looked → Whole
+other l = l .before .before .before .args .other
+
+by-signs : (l : Looked) → SameBySigns (self l) (other l)
+by-signs l = same-by-signs (self l) (other l)
+
+-- where it is below zero
+
+self-below : (c : tie.Then1) → below (wholeOf (self (c .before))) ≡ true
+self-below c = sym (c .before .below-zero .ensures) ∙ c .if1 .taken
+
+both-below : tie.Need-returns
+both-below c =
+    let looked = c .before .before in
+    let first = looked .before in
+    c .equal .ensures ∙ by-signs (first .before) .both-below (self-below first) (sym (looked .below-zero2 .ensures) ∙ c .before .if2 .taken)
+
+self-alone : tie.Need-returns-2
+self-alone c =
+    let first = c .before .before in
+    by-signs (first .before) .first-below (self-below first) (sym (c .before .below-zero2 .ensures) ∙ c .if2 .left)
+
+-- where it is not
+
+self-not : (c : tie.Else1) → below (wholeOf (self (c .before))) ≡ false
+self-not c = sym (c .before .below-zero .ensures) ∙ c .if1 .left
+
+other-alone : tie.Need-returns-3
+other-alone c =
+    let first = c .before .before in
+    by-signs (first .before) .second-below (self-not first) (sym (c .before .below-zero3 .ensures) ∙ c .if3 .taken)
+
+neither-below : tie.Need-returns-4
+neither-below c =
+    let looked = c .before .before in
+    let first = looked .before in
+    c .equal2 .ensures ∙ by-signs (first .before) .neither-below (self-not first) (sym (looked .below-zero3 .ensures) ∙ c .before .if3 .left)
 
 pub equal-spec : {M : Type 1} → statement M
 equal-spec =
@@ -46,9 +62,9 @@ equal-spec =
     (λ c κs. search needs)
     (λ c κs. search needs)
     (λ c κs. search needs)
-    returns
-    returns-2
+    both-below
+    self-alone
     (λ c κs. search needs)
-    returns-3
+    other-alone
     (λ c κs. search needs)
-    returns-4)
+    neither-below)

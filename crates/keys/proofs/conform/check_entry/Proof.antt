@@ -5,7 +5,6 @@ use mathlib.Core.Path.{_≡_, sym, _∙_}
 use mathlib.Core.List.{List}
 use native.Mathlib.Nat.{sub-zero}
 use native.Mathlib.Omega.{arith}
-use denote.Ref.{now}
 use borrow.Author.Needs.{needs}
 use Rattle.paper.specs.Answers.{Answer, inTurn}
 use Rattle.paper.specs.Keys.{recordsIn}
@@ -24,17 +23,20 @@ Inv-loop list entry n size k₀ k =
 abbrev μ-loop : tie.MeasureT-loop
 μ-loop list entry n size k₀ k = n - k
 
-returns : tie.Need-returns Inv-loop μ-loop
-returns c =
-    let a = c .before .before .before .args in
-    sym (wrong-length (now (a .list)) (now (a .entry)) (c .if1 .taken))
+-- where the priority has been read: what the function was given
 
-returns-2 : tie.Need-returns-2 Inv-loop μ-loop
-returns-2 c =
+abbrev start : tie.After-read Inv-loop μ-loop → tie.Start Inv-loop μ-loop
+start r = r .before .before .before .before
+
+wrong-size : tie.Need-returns Inv-loop μ-loop
+wrong-size c = let a = c .before .before .before .args in sym (wrong-length (a .list .now) (a .entry .now) (c .if1 .taken))
+
+priority-high : tie.Need-returns-2 Inv-loop μ-loop
+priority-high c =
     let r = c .before .before in
-    let a = r .before .before .before .before .args in
-    let high : 2 ^ 31 ≤ priorityOf (now (a .entry)) = omega (arith, r .read .ensures) in
-    sym (too-high (now (a .list)) (now (a .entry)) (search needs) high)
+    let a = start r .args in
+    let high : 2 ^ 31 ≤ priorityOf (a .entry .now) = omega (arith, r .read .ensures) in
+    sym (too-high (a .list .now) (a .entry .now) (search needs) high)
 
 -- at the loop: the priority as it was read, the list and the entry, the number of keys, and how many of them are passed
 
@@ -42,10 +44,10 @@ abbrev read-of : tie.At-loop Inv-loop μ-loop → tie.After-read Inv-loop μ-loo
 read-of l = l .before .before .before
 
 abbrev list : tie.At-loop Inv-loop μ-loop → List ℕ
-list l = now (read-of l .before .before .before .before .args .list)
+list l = start (read-of l) .args .list .now
 
 abbrev entry : tie.At-loop Inv-loop μ-loop → List ℕ
-entry l = now (read-of l .before .before .before .before .args .entry)
+entry l = start (read-of l) .args .entry .now
 
 abbrev n : tie.At-loop Inv-loop μ-loop → ℕ
 n l = recordsIn (list l)
@@ -67,8 +69,8 @@ decided l e =
 abbrev loop-of : tie.After-match-ok Inv-loop μ-loop → tie.At-loop Inv-loop μ-loop
 loop-of m = m .before .before .before .before
 
-returns-3 : tie.Need-returns-3 Inv-loop μ-loop
-returns-3 c =
+rule-fails : tie.Need-returns-3 Inv-loop μ-loop
+rule-fails c =
     let m = c .before in
     let l = loop-of m in
     let key = m .before .before .read2 in
@@ -85,8 +87,8 @@ loop-again c =
     let passes = rule-kept (list l) (entry l) (k l) (search needs) (m .before .match-at .ensures .0) (key .result) (key .ensures) good in
     (search needs, sym (goes-on (test l) (n l) (k l) (search needs) passes) ∙ l .loop .inv .1)
 
-returns-4 : tie.Need-returns-4 Inv-loop μ-loop
-returns-4 c = let l = c .before in sym (decided l (is-over (test l) (n l) (k l) (search needs)))
+all-pass : tie.Need-returns-4 Inv-loop μ-loop
+all-pass c = let l = c .before in sym (decided l (is-over (test l) (n l) (k l) (search needs)))
 
 pub check-entry-spec : {M : Type 1} → statement M
 check-entry-spec =
@@ -96,17 +98,17 @@ check-entry-spec =
     μ-loop
     (λ c. search needs)
     (λ c. search needs)
-    returns
+    wrong-size
     (λ c κs. search needs)
-    returns-2
+    priority-high
     (λ c. (search needs, rw sub-zero))
     (λ c κs. search needs)
     (λ c κs. search needs)
     (λ c κs. search needs)
     (λ c. search needs)
     (λ c. search needs)
-    returns-3
+    rule-fails
     (λ c. search needs)
     (λ c. search needs)
     loop-again
-    returns-4)
+    all-pass)

@@ -1,9 +1,10 @@
--- What is found from index k on is what is found from the start: the keys before k have other names (`find-here`, `find-on`,
--- `find-end`).
-use Prim.Native.Nat.{_-_, _≤_}
+-- `keys::find::find_among` meets its contract. The invariant of its loop: the keys before key k have other names, so what is found from key k on
+-- is what is found from the start. A turn finds key k (`find-here`) or passes it (`find-on`), and past the last key there is none (`find-end`).
+-- The measure is how many keys are left.
+use Prim.Native.Nat.{ℕ, _-_, _≤_}
 use mathlib.Core.Path.{_≡_, sym, _∙_}
+use mathlib.Core.List.{List}
 use native.Mathlib.Nat.{sub-zero}
-use denote.Ref.{now}
 use borrow.Author.Needs.{needs}
 use Rattle.paper.specs.Keys.{keysFrom, find}
 use Rattle.keys.proofs.Lookup.{findOn, find-here, find-on, find-end}
@@ -16,29 +17,55 @@ Inv-loop list n word k₀ k = (k ≤ n) × (findOn list word n k ≡ find (keysF
 abbrev μ-loop : tie.MeasureT-loop
 μ-loop list n word k₀ k = n - k
 
-returns : tie.Need-returns Inv-loop μ-loop
-returns c =
-    let a = c .before .before .before .before .before .before .before .before .args in
-    let l = c .before .before .before .before .before .loop in
-    sym (find-here (now (a .list)) (now (a .word)) (a .n) (l .k) (search needs)
-    (c .before .before .before .record-at .ensures .0) (c .before .before .name-of .ensures)
-    (sym (c .before .same-bytes .ensures) ∙ c .if1 .taken)) ∙ l .inv .1
+-- a turn: the list, the word that is looked for, how many keys there are, and how many of them are passed
+
+abbrev Turn : Type 0
+Turn = tie.At-loop Inv-loop μ-loop
+
+abbrev start : Turn → tie.Start Inv-loop μ-loop
+start t = t .before .before .before
+
+abbrev list : Turn → List ℕ
+list t = start t .args .list .now
+
+abbrev word : Turn → List ℕ
+word t = start t .args .word .now
+
+abbrev n : Turn → ℕ
+n t = start t .args .n
+
+abbrev k : Turn → ℕ
+k t = t .loop .k
+
+-- where the name of key k has been read and compared
+
+abbrev Compared : Type 0
+Compared = tie.After-same-bytes Inv-loop μ-loop
+
+abbrev named : Compared → tie.After-name-of Inv-loop μ-loop
+named c = c .before
+
+abbrev turn : Compared → Turn
+turn c = named c .before .before .before
+
+found-here : tie.Need-returns Inv-loop μ-loop
+found-here c =
+    let same = c .before in
+    let t = turn same in
+    sym (find-here (list t) (word t) (n t) (k t) (search needs) (named same .before .record-at .ensures .0) (named same .name-of .ensures)
+    (sym (same .same-bytes .ensures) ∙ c .if1 .taken)) ∙ t .loop .inv .1
 
 loop-again : tie.Need-loop-again Inv-loop μ-loop
 loop-again c =
-    let a = c .before .before .before .before .before .before .before .before .args in
-    let l = c .before .before .before .before .before .loop in (
+    let other = c .before in
+    let t = turn other in (
       search needs,
-      sym (find-on (now (a .list)) (now (a .word)) (a .n) (l .k) (search needs)
-          (c .before .before .before .record-at .ensures .0) (c .before .before .name-of .ensures)
-          (sym (c .before .same-bytes .ensures) ∙ c .if1 .left)) ∙ l .inv .1,
+      sym (find-on (list t) (word t) (n t) (k t) (search needs) (named other .before .record-at .ensures .0) (named other .name-of .ensures)
+          (sym (other .same-bytes .ensures) ∙ c .if1 .left)) ∙ t .loop .inv .1,
     )
 
-returns-2 : tie.Need-returns-2 Inv-loop μ-loop
-returns-2 c =
-    let a = c .before .before .before .before .args in
-    let l = c .before .loop in
-    sym (find-end (now (a .list)) (now (a .word)) (a .n) (l .k) (c .loop-test .left)) ∙ l .inv .1
+none-found : tie.Need-returns-2 Inv-loop μ-loop
+none-found c = let t = c .before in sym (find-end (list t) (word t) (n t) (k t) (c .loop-test .left)) ∙ t .loop .inv .1
 
 pub find-among-spec : {M : Type 1} → statement M
 find-among-spec =
@@ -50,8 +77,8 @@ find-among-spec =
     (λ c κs. search needs)
     (λ c κs. search needs)
     (λ c κs. search needs)
-    returns
+    found-here
     (λ c. search needs)
     (λ c. search needs)
     loop-again
-    returns-2)
+    none-found)

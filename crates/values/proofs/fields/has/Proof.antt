@@ -1,3 +1,5 @@
+-- `values::fields::has` meets its contract: each arm tests the kinds that have its field (`has-value` to `has-bound`), and a number that the first
+-- three arms do not name is that of a bound, which only a range has.
 use borrow.Author.Tests.{ne-eqb}
 use Rattle.values.proofs.Numbered.{has-value, has-mask, has-length, has-bound}
 use lib.Dec.{eqb}

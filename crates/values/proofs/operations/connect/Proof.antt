@@ -1,3 +1,5 @@
+-- `values::operations::connect` meets its contract: each arm is the connective that its number names, and a number that the first two arms do
+-- not name is read as the last.
 use borrow.Author.Tests.{ne-eqb}
 use Rattle.values.proofs.operations.connect.Statement.{statement}
 use Rattle.values.proofs.operations.connect.Tie as tie

@@ -1,3 +1,5 @@
+-- `values::Cell::compared` meets its contract: the cell holds the truth that `holds` finds of the two values, and that is what the comparison
+-- gives wherever the paper lets it compare their types (`is-compared`).
 use Rattle.paper.specs.Code.{comparisonOf}
 use Rattle.values.proofs.Held.{is-compared}
 use Rattle.values.specs.Held.{held}

@@ -1,3 +1,5 @@
+-- `values::Cell::converted` meets its contract: the cell holds the match of one number, the one that the value is in the width, and that is what
+-- the conversion gives wherever the paper lets the kind take the value's type (`is-converted`).
 use Rattle.paper.specs.Keys.{kindOf}
 use Rattle.values.proofs.Held.{is-converted}
 use Rattle.values.specs.Held.{held}

@@ -1,6 +1,8 @@
--- What the last line of a kind gives, as it stands after a colon or as words.
+-- `cases::inputs::put_input` meets its contract: the command of the last line of the kind ends at a colon, and what stands behind it is put as it
+-- stands, or at another byte, and the words behind it are put (`end-byte`).
 use Prim.Native.Nat.{ℕ, _+_}
 use mathlib.Core.Path.{_≡_, sym, ap, ap₂, _∙_}
+use mathlib.Core.List.{List}
 use borrow.Author.Needs.{needs}
 use borrow.Author.Tests.{eq-eqb, ne-eqb}
 use Rattle.paper.specs.Numbers.{byteAt}
@@ -11,33 +13,49 @@ use Rattle.cases.proofs.Rooms.{put-as}
 use Rattle.cases.proofs.inputs.put_input.Statement.{statement}
 use Rattle.cases.proofs.inputs.put_input.Tie as tie
 
--- where the command of the last line ends
-ends-there : (c : tie.After-scan) → let a = c .before .before .before .before .args in
-    c .scan .result ≡ nameEnd (a .file .now) (lastLine (a .file .now) (a .at) (a .input))
-ends-there c =
-    let a = c .before .before .before .before .args in
-    c .scan .ensures .here ∙ ap (nameEnd (a .file .now)) (c .before .last .ensures .0)
+-- where the end of the command of the last line is known
+
+abbrev Ended : Type 0
+Ended = tie.After-scan
+
+abbrev start : Ended → tie.Start
+start e = e .before .before .before .before
+
+abbrev file : Ended → List ℕ
+file e = start e .args .file .now
+
+abbrev end : Ended → ℕ
+end e = nameEnd (file e) (lastLine (file e) (start e .args .at) (start e .args .input))
+
+ends-there : (e : Ended) → e .scan .result ≡ end e
+ends-there e = e .scan .ensures .here ∙ ap (nameEnd (file e)) (e .before .last .ensures .0)
+
+-- and the byte there
+end-byte : (b : tie.After-byte-at) → b .byte-at .result ≡ byteAt (file (b .before)) (end (b .before))
+end-byte b = b .byte-at .ensures ∙ ap (byteAt (file (b .before))) (ends-there (b .before))
 
 as-it-stands : tie.Need-returns
 as-it-stands c =
-    let b = c .before .before .before .before .before .before in
-    let a = b .before .before .before .before .before .args in
-    let file = a .file .now in
-    let there = ends-there (b .before) in
-    let byte = sym (b .byte-at .ensures ∙ ap (byteAt file) there) ∙ c .before .before .before .before .before .if1 .taken in
-    let line = c .before .before .before .before .scan2 .ensures .here ∙ ap (λ (e : ℕ). stopFrom file e 10) there in
+    let put = c .before .before in
+    let line = put .before .before in
+    let colon = line .before in
+    let b = colon .before in
+    let e = b .before in
+    let line-end = line .scan2 .ensures .here ∙ ap (λ (n : ℕ). stopFrom (file e) n 10) (ends-there e) in
     put-as
-    (ap₂ (λ (e t : ℕ). spelled 1 file (e + 2) t) there line ∙ sym (rw (eq-eqb (byteAt file (nameEnd file (lastLine file (a .at) (a .input)))) 58 byte)))
-    (c .before .before .put .ensures)
+    (ap₂ (λ (n t : ℕ). spelled 1 (file e) (n + 2) t) (ends-there e) line-end
+    ∙ sym (rw (eq-eqb (byteAt (file e) (end e)) 58 (sym (end-byte b) ∙ colon .if1 .taken))))
+    (put .put .ensures)
 
 as-words : tie.Need-returns-2
 as-words c =
-    let b = c .before .before .before .before .before in
-    let a = b .before .before .before .before .before .args in
-    let file = a .file .now in
-    let there = ends-there (b .before) in
-    put-as (ap (lineBytes file) there ∙ sym (rw (ne-eqb (byteAt file (nameEnd file (lastLine file (a .at) (a .input)))) 58 (λ e. c .before .before .before .before .if1 .left (b .byte-at .ensures ∙ ap (byteAt file) there ∙ e)))))
-    (c .before .before .put-words .ensures)
+    let put = c .before .before in
+    let no-colon = put .before .before in
+    let b = no-colon .before in
+    let e = b .before in
+    put-as
+    (ap (lineBytes (file e)) (ends-there e) ∙ sym (rw (ne-eqb (byteAt (file e) (end e)) 58 (λ same. no-colon .if1 .left (end-byte b ∙ same)))))
+    (put .put-words .ensures)
 
 pub put-input-spec : {M : Type 1} → statement M
 put-input-spec =

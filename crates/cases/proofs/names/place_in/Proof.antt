@@ -1,4 +1,6 @@
--- The place among all words is as many as were passed, and the place among those from here on.
+-- `cases::names::place_in` meets its contract. The invariant of its loop: the place among all words is as many as were passed, and the place among
+-- those from here on. A turn cuts off the first of them (`cut-here`), which is the word (`found`) or is passed (`passed`). The measure is how many
+-- bytes are left.
 use Prim.Native.Nat.{ℕ, suc, _+_, _-_, _≤_}
 use mathlib.Core.Path.{_≡_, sym, _∙_}
 use mathlib.Core.Bool.{true, false}
@@ -29,35 +31,57 @@ passed : (words word : List ℕ) (at end : ℕ) → sameBytes (take (end - at) (
     → placeIn (wordsOf (drop at words)) word ≡ suc (placeIn (wordsOf (drop (end + 1) words)) word)
 passed words word at end same cut = rw (cut, same)
 
-cut-here : (c : tie.After-scan Inv-loop μ-loop)
-    → wordsOf (drop (c .before .before .loop .at) (c .before .before .before .before .before .args .words .now))
-    ≡ take (c .scan .result - c .before .before .loop .at) (drop (c .before .before .loop .at) (c .before .before .before .before .before .args .words .now))
-    ∷ wordsOf (drop (c .scan .result + 1) (c .before .before .before .before .before .args .words .now))
-cut-here c =
-    first-word (c .before .before .before .before .before .args .words .now) (c .before .before .loop .at) (c .scan .result) (c .before .loop-test .taken) (c .scan .ensures .here)
+-- a turn: the words, the one that is looked for, and where the turn starts
+
+abbrev Turn : Type 0
+Turn = tie.At-loop Inv-loop μ-loop
+
+abbrev start : Turn → tie.Start Inv-loop μ-loop
+start t = t .before .before .before
+
+abbrev words : Turn → List ℕ
+words t = start t .args .words .now
+
+abbrev word : Turn → List ℕ
+word t = start t .args .word .now
+
+abbrev at : Turn → ℕ
+at t = t .loop .at
+
+-- where the end of the turn's word is known
+
+abbrev Cut : Type 0
+Cut = tie.After-scan Inv-loop μ-loop
+
+abbrev turn : Cut → Turn
+turn c = c .before .before
+
+abbrev end : Cut → ℕ
+end c = c .scan .result
+
+cut-here : (c : Cut) → let t = turn c in
+    wordsOf (drop (at t) (words t)) ≡ take (end c - at t) (drop (at t) (words t)) ∷ wordsOf (drop (end c + 1) (words t))
+cut-here c = let t = turn c in first-word (words t) (at t) (end c) (c .before .loop-test .taken) (c .scan .ensures .here)
 
 this-word : tie.Need-returns Inv-loop μ-loop
 this-word c =
     let s = c .before .before .before in
-    let a = s .before .before .before .before .before .args in
-    let l = s .before .before .loop in
-    let here = found (a .words .now) (a .word .now) (l .at) (s .scan .result) (sym (c .before .same-bytes .ensures) ∙ c .if1 .taken) (cut-here s) in
-    omega (arith, l .inv .1)
+    let t = turn s in
+    let here = found (words t) (word t) (at t) (end s) (sym (c .before .same-bytes .ensures) ∙ c .if1 .taken) (cut-here s) in
+    omega (arith, t .loop .inv .1)
 
 next-word : tie.Need-loop-again Inv-loop μ-loop
 next-word c =
     let s = c .before .before .before in
-    let a = s .before .before .before .before .before .args in
-    let l = s .before .before .loop in
-    let on = passed (a .words .now) (a .word .now) (l .at) (s .scan .result) (sym (c .before .same-bytes .ensures) ∙ c .if1 .left) (cut-here s) in
-    (omega (arith, s .scan .ensures .onward), omega (arith, l .inv .1))
+    let t = turn s in
+    let on = passed (words t) (word t) (at t) (end s) (sym (c .before .same-bytes .ensures) ∙ c .if1 .left) (cut-here s) in
+    (omega (arith, s .scan .ensures .onward), omega (arith, t .loop .inv .1))
 
 no-word : tie.Need-returns-2 Inv-loop μ-loop
 no-word c =
-    let a = c .before .before .before .before .args in
-    let l = c .before .loop in
-    let none : placeIn (wordsOf (drop (l .at) (a .words .now))) (a .word .now) ≡ 0 = rw (drop-of-length-le (a .words .now) (c .loop-test .left)) in
-    omega (arith, l .inv .1)
+    let t = c .before in
+    let none : placeIn (wordsOf (drop (at t) (words t))) (word t) ≡ 0 = rw (drop-of-length-le (words t) (c .loop-test .left)) in
+    omega (arith, t .loop .inv .1)
 
 pub place-in-spec : {M : Type 1} → statement M
 place-in-spec =

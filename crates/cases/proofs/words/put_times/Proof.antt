@@ -1,4 +1,5 @@
--- As many copies are put as turns were taken.
+-- `cases::words::put_times` meets its contract. The invariant of its loop: as many copies are put as turns were taken. A turn puts one more
+-- (`put-copy`). The measure is how many are left.
 use Prim.Native.Nat.{ℕ, _+_, _-_, _≤_}
 use mathlib.Core.Path.{_≡_, refl, ap₂}
 use native.Mathlib.Omega.{arith}
@@ -22,18 +23,32 @@ loop-holds c =
     let none : times - times ≡ 0 = omega arith in
     (refl, omega arith, rw none (put-none _ _))
 
+-- a turn: what the function was given
+
+abbrev Turn : Type 0
+Turn = tie.At-loop Inv-loop μ-loop
+
+abbrev start : Turn → tie.Start Inv-loop μ-loop
+start t = t .before .before .before .before
+
+-- where the turn's copy has been put
+
+abbrev turning : tie.After-put Inv-loop μ-loop → tie.In-loop Inv-loop μ-loop
+turning c = c .before .before
+
 one-more : tie.Need-loop-again Inv-loop μ-loop
 one-more c =
-    let l = c .before .before .before .before .before .loop in
-    let a = c .before .before .before .before .before .before .before .before .before .args in
-    (search needs, omega arith, put-copy (a .times) (l .left) (c .before .before .before .before .loop-test .taken) (l .inv .1) (l .inv .2) (c .before .before .put .ensures))
+    let put = c .before .before in
+    let t = turning put .before in
+    let l = t .loop in
+    (search needs, omega arith, put-copy (start t .args .times) (l .left) (turning put .loop-test .taken) (l .inv .1) (l .inv .2) (put .put .ensures))
 
 all-put : tie.Need-returns Inv-loop μ-loop
 all-put c =
-    let l = c .before .loop in
-    let a = c .before .before .before .before .before .args in
-    let all : a .times - l .left ≡ a .times = omega arith in
-    put-as (ap₂ (λ (n q : ℕ). copies n (spelled (2 - q) (a .s .now) (a .from + q) (a .to))) all (c .before .before .quotes-at .ensures .0)) (l .inv .2)
+    let t = c .before in
+    let a = start t .args in
+    let all : a .times - t .loop .left ≡ a .times = omega arith in
+    put-as (ap₂ (λ (n q : ℕ). copies n (spelled (2 - q) (a .s .now) (a .from + q) (a .to))) all (t .before .quotes-at .ensures .0)) (t .loop .inv .2)
 
 pub put-times-spec : {M : Type 1} → statement M
 put-times-spec =

@@ -46,8 +46,11 @@ list-short s = most-bytes (s .args .list .now) (s .pre .0 .1 .rooted .listed)
 abbrev Sized : Type 0
 Sized = tie.After-entry-size Inv-loop μ-loop
 
+abbrev lent : Sized → tie.After-shared-slice-known3 Inv-loop μ-loop
+lent c = c .before .before .before
+
 abbrev given : Sized → Start
-given c = c .before .before .before .before .before .before
+given c = lent c .before .before .before
 
 abbrev size : Sized → ℕ
 size c = c .entry-size .result
@@ -113,9 +116,13 @@ held-length c = sym (c .read-full .ensures .1)
 held-whole : (c : Read) → wholeIn (ks (sized (at c))) (take (got c) (part c)) ≡ got c / size (sized (at c))
 held-whole c = ap₂ (λ (m : ℕ) (k : ℕ). m / k) (held-length c) (sym (sized (at c) .entry-size .ensures))
 
+-- what is held is too many
+abbrev over : tie.Then1 Inv-loop μ-loop → Read
+over c = c .before .before .before .before
+
 one-too-many : tie.Need-returns Inv-loop μ-loop
 one-too-many c =
-    let rd : Read = c .before .before .before .before in
+    let rd = over c in
     let l = at rd in
     let at-size = sized l in
     let a = given at-size .args in
@@ -134,8 +141,11 @@ one-too-many c =
 abbrev Held : Type 0
 Held = tie.After-add-held-arg Inv-loop μ-loop
 
+abbrev not-too-many : Held → tie.Else1 Inv-loop μ-loop
+not-too-many c = c .before .before .before
+
 abbrev read : Held → Read
-read c = c .before .before .before .before .before .before .before
+read c = not-too-many c .before .before .before .before
 
 abbrev held : Held → List ℕ
 held c = c .before .start .result .now
@@ -147,7 +157,7 @@ few-still : (c : Held) → let l = at (read c) in l .loop .course .whole + whole
 few-still c =
     let l = at (read c) in
     let same = ap (λ (h : List ℕ). wholeIn (ks (sized l)) h) (held-is c) in
-    omega (arith, same, held-whole (read c), c .before .before .before .if1 .left, l .loop .inv .2)
+    omega (arith, same, held-whole (read c), not-too-many c .if1 .left, l .loop .inv .2)
 
 can-add : tie.Need-add-held-requires Inv-loop μ-loop
 can-add c κs =
@@ -247,11 +257,11 @@ count-turns-spec =
     (λ c. search needs)
     none-yet
     (λ c κs. search needs)
-    (λ c. c .before .before .before .before .before .before .loop .inv .2)
-    (λ c. some-size (sized (c .before .before .before .before .before .before)))
-    (λ c. omega (arith, small-size (sized (at (c .before .before .before .before)))))
-    (λ c. let rd : Read = c .before .before .before .before in omega (arith, rd .read-full .kept, at rd .loop .inv .0))
-    (λ c. let l : At = at (c .before .before .before .before) in omega (arith, l .loop .inv .1, cleared l .clear .kept))
+    (λ c. at (c .before .before .before) .loop .inv .2)
+    (λ c. some-size (sized (at (c .before .before .before))))
+    (λ c. omega (arith, small-size (sized (at (over c)))))
+    (λ c. omega (arith, over c .read-full .kept, at (over c) .loop .inv .0))
+    (λ c. let l = at (over c) in omega (arith, l .loop .inv .1, cleared l .clear .kept))
     one-too-many
     (λ c κs. search needs)
     can-add

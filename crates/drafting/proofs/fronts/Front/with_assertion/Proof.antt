@@ -11,12 +11,16 @@ use Rattle.drafting.proofs.Clauses.{is-closable, room-behind, linkable,
 use Rattle.drafting.proofs.fronts.Front.with_assertion.Statement.{statement}
 use Rattle.drafting.proofs.fronts.Front.with_assertion.Tie as tie
 
--- where a clause is found, and where none is, what the function was given
+-- before the clause is looked at: what the function was given
+abbrev given : tie.After-slice-known → tie.Start
+given c = c .before .before .before
+
+-- the same where a clause is found, and where none is
 abbrev start : tie.After-clause → tie.Start
-start c = c .before .before .before .before .before
+start c = given (c .before .before)
 
 abbrev start-of-all : tie.After-enum-told → tie.Start
-start-of-all c = c .before .before .before .before .before
+start-of-all c = given (c .before .before)
 
 -- its list, its table, its nodes and its assertion
 module _ (s : tie.Start) where
@@ -39,11 +43,15 @@ first-of-all c f h =
     let s = start-of-all told in
     rw (c .at .ensures) (begins-all (list s) (table s) (ns s) (s .args .self) f h (a s) (told .enum-told .given .1) _ _ (put .put-assertion .ensures))
 
--- a clause is closed
+-- a clause is closed, and another one begins
+
+-- where no conjunction waits behind the clause that is found
+abbrev ended : tie.After-enum-told2 → tie.After-clause
+ended c = c .before .before .before
 
 can-close : tie.Need-put-closed-requires
 can-close c κs =
-    let found : tie.After-clause = c .before .before .before .before in
+    let found = ended (c .before) in
     let s = start found in
     let r = s .pre .1 in
     is-closable (list s) (table s) (ns s) (s .args .self) (r .front) (r .stands) (r .room) _ (found .clause .given .1)
@@ -51,7 +59,7 @@ can-close c κs =
 can-begin : tie.Need-put-assertion-requires-2
 can-begin c κs =
     let closed : tie.After-put-closed = c .before .before .before in
-    let found : tie.After-clause = closed .before .before .before .before .before in
+    let found = ended (closed .before .before) in
     let s = start found in
     let r = s .pre .1 in
     let g = all-closed (list s) (table s) (ns s) (s .args .self) (r .front) (r .stands) _ (found .clause .given .1) (closed .put-closed .ensures (list s)) in
@@ -62,7 +70,7 @@ begins-another c f h =
     let begun : tie.After-put-assertion2 = c .before .before .before in
     let closed : tie.After-put-closed = begun .before .before .before .before in
     let told : tie.After-enum-told2 = closed .before .before in
-    let found : tie.After-clause = told .before .before .before in
+    let found = ended told in
     let s = start found in
     rw (c .at2 .ensures)
     (closes (list s) (table s) (ns s) (s .args .self) f h (a s) _ (found .clause .given .1) (told .enum-told2 .given .1)
@@ -70,9 +78,13 @@ begins-another c f h =
 
 -- a clause goes on
 
+-- where a conjunction waits behind the clause that is found
+abbrev linked-to : tie.After-link → tie.After-clause
+linked-to c = c .before .before .before
+
 can-follow : tie.Need-put-assertion-requires-3
 can-follow c κs =
-    let found : tie.After-clause = c .before .before .before .before .before in
+    let found = linked-to (c .before .before) in
     let s = start found in
     let r = s .pre .1 in
     (s .pre .0, room-behind (list s) (table s) (ns s) (s .args .self) (r .front) (r .stands) _ (found .clause .given .1) (r .room))
@@ -80,7 +92,7 @@ can-follow c κs =
 can-link : tie.Need-put-link-requires
 can-link c κs =
     let next : tie.After-put-assertion3 = c .before .before .before in
-    let found : tie.After-clause = next .before .before .before .before .before .before in
+    let found = linked-to (next .before .before .before) in
     let s = start found in
     let r = s .pre .1 in
     linkable (list s) (table s) (ns s) (s .args .self) (r .front) (r .stands) (a s) _ (found .clause .given .1) (r .room) (next .put-assertion3 .ensures)
@@ -90,7 +102,7 @@ follows c f h =
     let linked : tie.After-put-link = c .before .before .before in
     let next : tie.After-put-assertion3 = linked .before .before .before .before in
     let waits : tie.After-link = next .before .before .before in
-    let found : tie.After-clause = waits .before .before .before in
+    let found = linked-to waits in
     let s = start found in
     rw (c .at3 .ensures)
     (goes-on (list s) (table s) (ns s) (s .args .self) f h (a s) _ (found .clause .given .1) (waits .link .given .1)

@@ -23,7 +23,7 @@ kind == "times" && NF > 8 {
     if (call ~ /^(load|run-accepted|run-violated)$/) take((name == "small" ? "small " : "other ") (call == "load" ? "load" : "run"), number($6))
     if (call ~ /^run-all-/ && examples(name)) take("run-all", number($8))
     if (call == "run-all-accepted" && name == "acl") each = 1e3 / number($4)
-    if ((call == "judge" || call == "translate") && name == "acl") take(call, number($6))
+    if ((call == "judge" || call == "translate") && (name == "acl" || name == "small")) take(name " " call, number($6))
 }
 kind == "prints" && NF > 4 { take("print", number($5)) }
 kind == "orders" && NF > 5 { take("compare", number($5)) }
@@ -36,8 +36,10 @@ END {
     print "| `run` beside plain C, at `small` | 1.0 | " span("small run") " |"
     print "| `run` beside plain C, elsewhere | 1.3 | " span("other run") " |"
     print "| an entry of `run_all` beside unchecked C, on the examples | 2.5 | " span("run-all") " |"
-    print "| `judge` beside plain C, at `acl` | 1.3 | " span("judge") " |"
-    print "| `translate` beside plain C, at `acl` | 1.3 | " span("translate") " |"
+    print "| `judge` beside plain C, at `small` | 2.0 | " span("small judge") " |"
+    print "| `judge` beside plain C, at `acl` | 1.3 | " span("acl judge") " |"
+    print "| `translate` beside plain C, at `small` | 2.0 | " span("small translate") " |"
+    print "| `translate` beside plain C, at `acl` | 1.3 | " span("acl translate") " |"
     print "| `print` beside `read` | 1.5 | " span("print") " |"
     printf "\nAt `acl` that is %.2f million entries a second by `run_all`. A comparison in the longest orders takes %.2f milliseconds at most.\n", each, most["compare"]
 }

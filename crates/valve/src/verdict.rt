@@ -72,7 +72,7 @@ fn judge_long(text: &[u8], list: &[u8], entry: &[u8]) -> Judgement
     judge_told(list, entry, &nodes, restricted)
 }
 
-// What the text says of an entry. A brief text is judged in less time than nodes for a longer one are cleared.
+// What the text says of an entry. A brief text is lent few nodes, so that less is cleared for it.
 pub fn judge(text: &[u8], list: &[u8], entry: &[u8]) -> Judgement
     ensures { λ r. ⌜ JudgePromised (now (text .entry)) (now (list .entry)) (now (entry .entry)) r ⌝ }
 {

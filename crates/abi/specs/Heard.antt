@@ -7,8 +7,8 @@ use Rattle.paper.specs.declared.Judgement.{Judgement}
 use Rattle.paper.specs.declared.Judgement.TheVariants as J
 use Rattle.abi.specs.declared.answer.PolluxAnswer.{PolluxAnswer}
 
-abbrev pub noAnswer : Judgement
-noAnswer = J.Refused 20 (P.Entry 0)
+abbrev pub no_answer : Judgement
+no_answer = J.Refused 20 (P.Entry 0)
 
 abbrev pub place_in : ℕ → ℕ → Place
 place_in i at =
@@ -18,15 +18,15 @@ place_in i at =
     (cond (eqb i 4) (P.Blocks at) (cond (eqb i 5) (P.Buffer at) (cond (eqb i 6) (P.Contract at) (P.Table at))))))
 
 -- a number that a byte holds, in one of the seven inputs
-abbrev pub refusalIn : PolluxAnswer → Judgement
-refusalIn p = cond (leb p.number 255 && leb 1 p.input && leb p.input 7) (J.Refused p.number (place_in p.input p.value)) noAnswer
+abbrev pub refusal_in : PolluxAnswer → Judgement
+refusal_in p = cond (leb p.number 255 && leb 1 p.input && leb p.input 7) (J.Refused p.number (place_in p.input p.value)) no_answer
 
 -- nothing but a verdict
 abbrev pub plain : PolluxAnswer → Bool
 plain p = eqb p.number 0 && eqb p.input 0 && eqb p.value 0
 
-abbrev pub verdictIn : PolluxAnswer → Judgement
-verdictIn p = cond (plain p) (cond (eqb p.says 1) J.Accepted (cond (eqb p.says 2) J.Violated noAnswer)) noAnswer
+abbrev pub verdict_in : PolluxAnswer → Judgement
+verdict_in p = cond (plain p) (cond (eqb p.says 1) J.Accepted (cond (eqb p.says 2) J.Violated no_answer)) no_answer
 
-abbrev pub heardAs : PolluxAnswer → Judgement
-heardAs p = cond (eqb p.says 0) (refusalIn p) (verdictIn p)
+abbrev pub heard_as : PolluxAnswer → Judgement
+heard_as p = cond (eqb p.says 0) (refusal_in p) (verdict_in p)

@@ -15,18 +15,18 @@
 -- entry stands in the answers that are lent.
 use Rattle.std.specs.Prelude.{ℕ, ◌+◌, ◌-◌, ◌≤◌, ◌≡◌, ◌≢◌, Bool, true, false, cond, eqb, List}
 use Rattle.std.specs.Int.Count.{ones}
-use Rattle.paper.specs.Answers.{Answer, ok, refused, Input, inText, inList, inEntry, inBlocks, inBuffer, inContract, in_table, Ran, readingSays, checkingSays, judgementSays, translationSays, loadingSays, runningSays, printingSays}
+use Rattle.paper.specs.Answers.{Answer, ok, refused, Input, InText, InList, inEntry, inBlocks, inBuffer, inContract, in_table, Ran, reading_says, checking_says, judgement_says, translation_says, loading_says, running_says, printing_says}
 use Rattle.paper.specs.Code.{bit}
-use Rattle.paper.specs.Explained.{Reason, inPart, atKey, nothingToShow, keyIndex, stretchFrom, explanationSays}
-use Rattle.paper.specs.ExplainedRight.{judgementOf}
-use Rattle.paper.specs.Named.{Summary, summarizingSays}
-use Rattle.paper.specs.Rechecking.{Rechecked, reused, recheckingSays}
+use Rattle.paper.specs.Explained.{Reason, in_part, at_key, nothing_to_show, key_index, stretch_from, explanation_says}
+use Rattle.paper.specs.ExplainedRight.{judgement_of}
+use Rattle.paper.specs.Named.{Summary, summarizing_says}
+use Rattle.paper.specs.Rechecking.{Rechecked, reused, rechecking_says}
 use Rattle.paper.specs.Rechecking as Rechecking
-use Rattle.paper.specs.Fixing.{fixingSays}
-use Rattle.paper.specs.Drafting.{draftingSays}
-use Rattle.paper.specs.Comparing.{agreementSays}
-use Rattle.paper.specs.Counting.{Totals, countingSays}
-use Rattle.paper.specs.RunAll.{AllRan, runningAllSays}
+use Rattle.paper.specs.Fixing.{fixing_says}
+use Rattle.paper.specs.Drafting.{drafting_says}
+use Rattle.paper.specs.Comparing.{agreement_says}
+use Rattle.paper.specs.Counting.{Totals, counting_says}
+use Rattle.paper.specs.RunAll.{AllRan, running_all_says}
 use Rattle.paper.specs.Promised.{ReadPromised, CheckPromised, JudgePromised, TranslateResult, TranslatePromised, LoadPromised, RunPromised, RunAllPromised, PrintPromised, FixPromised, DraftPromised, ComparePromised, CountPromised, ExplainPromised, SummarizePromised, RecheckPromised, Sole}
 use Rattle.paper.specs.declared.Judgement.{Judgement}
 use Rattle.paper.specs.declared.Judgement.TheVariants as J
@@ -37,26 +37,26 @@ use Rattle.abi.specs.declared.summary.PolluxSummary.{PolluxSummary}
 use Rattle.abi.specs.declared.recheck.PolluxRechecked.{PolluxRechecked}
 use Rattle.abi.specs.declared.counts.PolluxCounts.{PolluxCounts}
 use Rattle.abi.specs.declared.table.PolluxTable.{PolluxTable}
-use Rattle.abi.specs.Heard.{noAnswer, heardAs}
+use Rattle.abi.specs.Heard.{no_answer, heard_as}
 
-abbrev pub inputNo : Input → ℕ
-inputNo inText = 1
-inputNo inList = 2
-inputNo inEntry = 3
-inputNo inBlocks = 4
-inputNo inBuffer = 5
-inputNo inContract = 6
-inputNo in_table = 7
+abbrev pub input_no : Input → ℕ
+input_no InText = 1
+input_no InList = 2
+input_no inEntry = 3
+input_no inBlocks = 4
+input_no inBuffer = 5
+input_no inContract = 6
+input_no in_table = 7
 
 abbrev pub done : ℕ → PolluxAnswer
 done n = record { says = 3; number = 0; input = 0; value = n }
 
-abbrev pub turnedAway : ℕ → Input → ℕ → PolluxAnswer
-turnedAway n i at = record { says = 0; number = n; input = inputNo i; value = at }
+abbrev pub turned_away : ℕ → Input → ℕ → PolluxAnswer
+turned_away n i at = record { says = 0; number = n; input = input_no i; value = at }
 
 abbrev pub told : {A : Type 0} → (A → PolluxAnswer) → Answer A → PolluxAnswer
 told say (ok a) = say a
-told say (refused n i at) = turnedAway n i at
+told say (refused n i at) = turned_away n i at
 
 abbrev pub counted : Answer ℕ → PolluxAnswer
 counted = told done
@@ -65,16 +65,16 @@ abbrev pub passed : Answer (Unit {0}) → PolluxAnswer
 passed = told (λ _. done 0)
 
 -- a verdict, after so many steps
-abbrev pub verdictAfter : ℕ → Bool → PolluxAnswer
-verdictAfter steps true = record { says = 1; number = 0; input = 0; value = steps }
-verdictAfter steps false = record { says = 2; number = 0; input = 0; value = steps }
+abbrev pub verdict_after : ℕ → Bool → PolluxAnswer
+verdict_after steps true = record { says = 1; number = 0; input = 0; value = steps }
+verdict_after steps false = record { says = 2; number = 0; input = 0; value = steps }
 
 -- a judgement from the text takes none
 abbrev pub judged : Answer Bool → PolluxAnswer
-judged = told (verdictAfter 0)
+judged = told (verdict_after 0)
 
 abbrev pub ran : Answer Ran → PolluxAnswer
-ran = told (λ r. verdictAfter r.steps r.accepted)
+ran = told (λ r. verdict_after r.steps r.accepted)
 
 -- whether blocks agree with a text
 abbrev pub agreeing : Bool → PolluxAnswer
@@ -100,9 +100,9 @@ showing a part place start length =
     }
 
 abbrev pub reasoned : Reason → PolluxReason
-reasoned (inPart n at s) = showing (judged (judgementOf (inPart n at s))) n at s.from (s.to - s.from)
-reasoned (atKey at k s) = showing (judged (judgementOf (atKey at k s))) 0 at s.from (s.to - s.from)
-reasoned (nothingToShow a) = showing (judged a) 0 0 0 0
+reasoned (in_part n at s) = showing (judged (judgement_of (in_part n at s))) n at s.from (s.to - s.from)
+reasoned (at_key at k s) = showing (judged (judgement_of (at_key at k s))) 0 at s.from (s.to - s.from)
+reasoned (nothing_to_show a) = showing (judged a) 0 0 0 0
 
 -- what is named, beside the answer of a check
 
@@ -120,7 +120,7 @@ naming a keys priority count =
 
 abbrev pub summarized : Answer Summary → PolluxSummary
 summarized (ok s) = naming (done 0) s.keys (bit s.priority) (ones s.keys)
-summarized (refused n i at) = naming (turnedAway n i at) 0 0 0
+summarized (refused n i at) = naming (turned_away n i at) 0 0 0
 
 -- whether it was reused, beside the judgement
 
@@ -148,16 +148,16 @@ totals a accepted violated refusals cut =
 
 abbrev pub tallied : Answer Totals → PolluxCounts
 tallied (ok t) = totals (done t.parts) t.accepted t.violated t.refused t.cut
-tallied (refused n i at) = totals (turnedAway n i at) 0 0 0 0
+tallied (refused n i at) = totals (turned_away n i at) 0 0 0 0
 
 -- the steps, beside the answer with the count of the entries
 
 abbrev pub stepping : PolluxAnswer → ℕ → PolluxTable
 stepping a steps = record { says = a.says; number = a.number; input = a.input; value = a.value; steps = steps }
 
-abbrev pub ranThrough : Answer AllRan → PolluxTable
-ranThrough (ok t) = stepping (done t.entries) t.steps
-ranThrough (refused n i at) = stepping (turnedAway n i at) 0
+abbrev pub ran_through : Answer AllRan → PolluxTable
+ran_through (ok t) = stepping (done t.entries) t.steps
+ran_through (refused n i at) = stepping (turned_away n i at) 0
 
 -- What C is told by a call: numbers that stand for a result that keeps the call's promise.
 pub record Tells {R N : Type 0} (Promised : R → Type 0) (numbers : R → N) (a : N) : Type 0 where
@@ -166,60 +166,60 @@ pub record Tells {R N : Type 0} (Promised : R → Type 0) (numbers : R → N) (a
   pub same : a ≡ numbers result
 
 abbrev pub ReadTold : List ℕ → PolluxAnswer → Type 0
-ReadTold text = Tells (ReadPromised text) (λ r. counted (readingSays r))
+ReadTold text = Tells (ReadPromised text) (λ r. counted (reading_says r))
 
 abbrev pub CheckTold : List ℕ → List ℕ → PolluxAnswer → Type 0
-CheckTold text list = Tells (CheckPromised text list) (λ r. passed (checkingSays r))
+CheckTold text list = Tells (CheckPromised text list) (λ r. passed (checking_says r))
 
 abbrev pub JudgeTold : List ℕ → List ℕ → List ℕ → PolluxAnswer → Type 0
-JudgeTold text list entry = Tells (JudgePromised text list entry) (λ r. judged (judgementSays r))
+JudgeTold text list entry = Tells (JudgePromised text list entry) (λ r. judged (judgement_says r))
 
 -- with what the buffer holds at exit
 abbrev pub TranslateTold : List ℕ → List ℕ → List ℕ → List ℕ → PolluxAnswer → Type 0
 TranslateTold text list buffer exit =
-    Tells (λ r. TranslatePromised text list buffer (record { answer = r; buffer = exit })) (λ r. counted (translationSays r))
+    Tells (λ r. TranslatePromised text list buffer (record { answer = r; buffer = exit })) (λ r. counted (translation_says r))
 
 abbrev pub LoadTold : List ℕ → List ℕ → PolluxAnswer → Type 0
-LoadTold list blocks = Tells (LoadPromised list blocks) (λ r. counted (loadingSays r))
+LoadTold list blocks = Tells (LoadPromised list blocks) (λ r. counted (loading_says r))
 
 abbrev pub RunTold : List ℕ → List ℕ → List ℕ → PolluxAnswer → Type 0
-RunTold list blocks entry = Tells (RunPromised list blocks entry) (λ r. ran (runningSays r))
+RunTold list blocks entry = Tells (RunPromised list blocks entry) (λ r. ran (running_says r))
 
 -- with what the answers are at exit
 abbrev pub RunAllTold : List ℕ → List ℕ → List ℕ → List ℕ → List ℕ → PolluxTable → Type 0
 RunAllTold list blocks entries answers exit =
-    Tells (λ r. RunAllPromised list blocks entries answers (record { answer = r; bytes = exit })) (λ r. ranThrough (runningAllSays r))
+    Tells (λ r. RunAllPromised list blocks entries answers (record { answer = r; bytes = exit })) (λ r. ran_through (running_all_says r))
 
 -- with what the buffer holds at exit
 abbrev pub PrintTold : List ℕ → List ℕ → List ℕ → PolluxAnswer → Type 0
-PrintTold text buffer exit = Tells (λ r. PrintPromised text buffer (record { answer = r; buffer = exit })) (λ r. counted (printingSays r))
+PrintTold text buffer exit = Tells (λ r. PrintPromised text buffer (record { answer = r; buffer = exit })) (λ r. counted (printing_says r))
 
 -- with what the buffer holds at exit
 abbrev pub FixTold : List ℕ → List ℕ → List ℕ → PolluxAnswer → Type 0
-FixTold text buffer exit = Tells (λ r. FixPromised text buffer (record { answer = r; buffer = exit })) (λ r. counted (fixingSays r))
+FixTold text buffer exit = Tells (λ r. FixPromised text buffer (record { answer = r; buffer = exit })) (λ r. counted (fixing_says r))
 
 -- with what the buffer holds at exit
 abbrev pub DraftTold : List ℕ → List ℕ → List ℕ → List ℕ → List ℕ → PolluxAnswer → Type 0
 DraftTold contract table list buffer exit =
-    Tells (λ r. DraftPromised contract table list buffer (record { answer = r; buffer = exit })) (λ r. counted (draftingSays r))
+    Tells (λ r. DraftPromised contract table list buffer (record { answer = r; buffer = exit })) (λ r. counted (drafting_says r))
 
 abbrev pub CompareTold : List ℕ → List ℕ → List ℕ → PolluxAnswer → Type 0
-CompareTold text list blocks = Tells (ComparePromised text list blocks) (λ r. compared (agreementSays r))
+CompareTold text list blocks = Tells (ComparePromised text list blocks) (λ r. compared (agreement_says r))
 
 -- with what the numbers for the parts are at exit
 abbrev pub CountTold : List ℕ → List ℕ → List ℕ → List ℕ → List ℕ → PolluxCounts → Type 0
 CountTold text list entries numbers exit =
-    Tells (λ r. CountPromised text list entries numbers (record { answer = r; numbers = exit })) (λ r. tallied (countingSays r))
+    Tells (λ r. CountPromised text list entries numbers (record { answer = r; numbers = exit })) (λ r. tallied (counting_says r))
 
 abbrev pub ExplainTold : List ℕ → List ℕ → List ℕ → PolluxReason → Type 0
-ExplainTold text list entry = Tells (ExplainPromised text list entry) (λ r. reasoned (explanationSays r))
+ExplainTold text list entry = Tells (ExplainPromised text list entry) (λ r. reasoned (explanation_says r))
 
 abbrev pub SummarizeTold : List ℕ → List ℕ → PolluxSummary → Type 0
-SummarizeTold text list = Tells (SummarizePromised text list) (λ r. summarized (summarizingSays r))
+SummarizeTold text list = Tells (SummarizePromised text list) (λ r. summarized (summarizing_says r))
 
 -- with the judgement that C means by four numbers
 abbrev pub RecheckTold : List ℕ → List ℕ → List ℕ → PolluxAnswer → List ℕ → PolluxRechecked → Type 0
-RecheckTold text list old earlier new = Tells (RecheckPromised text list old (heardAs earlier) new) (λ r. rechecked (recheckingSays r))
+RecheckTold text list old earlier new = Tells (RecheckPromised text list old (heard_as earlier) new) (λ r. rechecked (rechecking_says r))
 
 -- so for all inputs C is told one thing, and no second; of `translate`, `print`, `fix_octal` and `pact`, one answer with one buffer at exit, of
 -- `run_all` one with one list of answers, and of `count` one with one list of numbers
@@ -231,7 +231,7 @@ pub record OneAnswerForC : Type 0 where
       → TranslateTold text list buffer other b → (a ≡ b) × (exit ≡ other)
   pub load : (list blocks : List ℕ) → Sole (LoadTold list blocks)
   pub run : (list blocks entry : List ℕ) → Sole (RunTold list blocks entry)
-  pub runAll : (list blocks entries answers exit other : List ℕ) (a b : PolluxTable) → RunAllTold list blocks entries answers exit a
+  pub run_all : (list blocks entries answers exit other : List ℕ) (a b : PolluxTable) → RunAllTold list blocks entries answers exit a
       → RunAllTold list blocks entries answers other b → (a ≡ b) × (exit ≡ other)
   pub print : (text buffer exit other : List ℕ) (a b : PolluxAnswer) → PrintTold text buffer exit a → PrintTold text buffer other b
       → (a ≡ b) × (exit ≡ other)
@@ -248,54 +248,54 @@ pub record OneAnswerForC : Type 0 where
 
 -- the way back, by which a caller reads an answer
 
-abbrev pub inputFrom : ℕ → Input
-inputFrom n =
-    cond (eqb n 1) inText
-    (cond (eqb n 2) inList
+abbrev pub input_from : ℕ → Input
+input_from n =
+    cond (eqb n 1) InText
+    (cond (eqb n 2) InList
     (cond (eqb n 3) inEntry (cond (eqb n 4) inBlocks (cond (eqb n 5) inBuffer (cond (eqb n 6) inContract in_table)))))
 
 abbrev pub heard : {A : Type 0} → (PolluxAnswer → A) → PolluxAnswer → Answer A
-heard means p = cond (eqb p.says 0) (refused p.number (inputFrom p.input) p.value) (ok (means p))
+heard means p = cond (eqb p.says 0) (refused p.number (input_from p.input) p.value) (ok (means p))
 
-abbrev pub heardJudged : PolluxAnswer → Answer Bool
-heardJudged = heard (λ p. eqb p.says 1)
+abbrev pub heard_judged : PolluxAnswer → Answer Bool
+heard_judged = heard (λ p. eqb p.says 1)
 
-abbrev pub ranIn : PolluxAnswer → Ran
-ranIn p = record { accepted = eqb p.says 1; steps = p.value }
+abbrev pub ran_in : PolluxAnswer → Ran
+ran_in p = record { accepted = eqb p.says 1; steps = p.value }
 
-abbrev pub heardRan : PolluxAnswer → Answer Ran
-heardRan = heard ranIn
+abbrev pub heard_ran : PolluxAnswer → Answer Ran
+heard_ran = heard ran_in
 
-abbrev pub heardCompared : PolluxAnswer → Answer Bool
-heardCompared = heard (λ p. eqb p.says 4)
+abbrev pub heard_compared : PolluxAnswer → Answer Bool
+heard_compared = heard (λ p. eqb p.says 4)
 
 abbrev pub answer_in : PolluxReason → PolluxAnswer
 answer_in p = record { says = p.says; number = p.number; input = p.input; value = p.value }
 
 -- what is shown has a byte, and a part's number is not 0
-abbrev pub heardReason : PolluxReason → Reason
-heardReason p =
-    let stretch = stretchFrom p.start (p.start + p.length) in
-    cond (eqb p.length 0) (nothingToShow (heardJudged (answer_in p)))
-    (cond (eqb p.part 0) (atKey p.place (keyIndex p.place) stretch) (inPart p.part p.place stretch))
+abbrev pub heard_reason : PolluxReason → Reason
+heard_reason p =
+    let stretch = stretch_from p.start (p.start + p.length) in
+    cond (eqb p.length 0) (nothing_to_show (heard_judged (answer_in p)))
+    (cond (eqb p.part 0) (at_key p.place (key_index p.place) stretch) (in_part p.part p.place stretch))
 
-abbrev pub heardSummary : PolluxSummary → Answer Summary
-heardSummary p =
+abbrev pub heard_summary : PolluxSummary → Answer Summary
+heard_summary p =
     heard (λ _. record { keys = p.keys; priority = eqb p.priority 1 })
     (record { says = p.says; number = p.number; input = p.input; value = p.value })
 
-abbrev pub heardRecheck : PolluxRechecked → Rechecked
-heardRecheck p =
-    let judgement = heardJudged (record { says = p.says; number = p.number; input = p.input; value = p.value }) in
+abbrev pub heard_recheck : PolluxRechecked → Rechecked
+heard_recheck p =
+    let judgement = heard_judged (record { says = p.says; number = p.number; input = p.input; value = p.value }) in
     cond (eqb p.reused 1) (reused judgement) (Rechecking.judged judgement)
 
-abbrev pub heardCounts : PolluxCounts → Answer Totals
-heardCounts p =
+abbrev pub heard_counts : PolluxCounts → Answer Totals
+heard_counts p =
     heard (λ a. record { parts = a.value; accepted = p.accepted; violated = p.violated; refused = p.refused; cut = p.cut })
     (record { says = p.says; number = p.number; input = p.input; value = p.value })
 
-abbrev pub heardTable : PolluxTable → Answer AllRan
-heardTable p =
+abbrev pub heard_table : PolluxTable → Answer AllRan
+heard_table p =
     heard (λ a. record { entries = a.value; steps = p.steps })
     (record { says = p.says; number = p.number; input = p.input; value = p.value })
 
@@ -308,20 +308,20 @@ Numbered (J.Refused n p) = n ≤ 255
 pub record TellsAll : Type 0 where
   pub counts : (x : Answer ℕ) → heard (λ p. p.value) (counted x) ≡ x
   pub passes : (x : Answer (Unit {0})) → heard (λ _. tt) (passed x) ≡ x
-  pub verdicts : (x : Answer Bool) → heardJudged (judged x) ≡ x
-  pub runs : (x : Answer Ran) → heardRan (ran x) ≡ x
-  pub agreements : (x : Answer Bool) → heardCompared (compared x) ≡ x
+  pub verdicts : (x : Answer Bool) → heard_judged (judged x) ≡ x
+  pub runs : (x : Answer Ran) → heard_ran (ran x) ≡ x
+  pub agreements : (x : Answer Bool) → heard_compared (compared x) ≡ x
   pub reasons : (text list entry : List ℕ) (r : Explanation) → ExplainPromised text list entry r
-      → heardReason (reasoned (explanationSays r)) ≡ explanationSays r
-  pub summaries : (x : Answer Summary) → heardSummary (summarized x) ≡ x
-  pub rechecks : (x : Rechecked) → heardRecheck (rechecked x) ≡ x
-  pub tallies : (x : Answer Totals) → heardCounts (tallied x) ≡ x
-  pub tables : (x : Answer AllRan) → heardTable (ranThrough x) ≡ x
+      → heard_reason (reasoned (explanation_says r)) ≡ explanation_says r
+  pub summaries : (x : Answer Summary) → heard_summary (summarized x) ≡ x
+  pub rechecks : (x : Rechecked) → heard_recheck (rechecked x) ≡ x
+  pub tallies : (x : Answer Totals) → heard_counts (tallied x) ≡ x
+  pub tables : (x : Answer AllRan) → heard_table (ran_through x) ≡ x
 
 -- an earlier judgement, handed in by its four numbers, is heard as it was told; and any other numbers as refused with 20 at entry 0
 pub record EarlierHeard : Type 0 where
-  pub as-told : (j : Judgement) → Numbered j → heardAs (judged (judgementSays j)) ≡ j
-  pub or-none : (p : PolluxAnswer) → ((j : Judgement) → Numbered j → p ≢ judged (judgementSays j)) → heardAs p ≡ noAnswer
+  pub as_told : (j : Judgement) → Numbered j → heard_as (judged (judgement_says j)) ≡ j
+  pub or_none : (p : PolluxAnswer) → ((j : Judgement) → Numbered j → p ≢ judged (judgement_says j)) → heard_as p ≡ no_answer
 
 -- a reason's first four numbers are those of the judgement
 abbrev pub ReasonsAsJudged : Type 0

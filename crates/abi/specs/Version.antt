@@ -10,5 +10,5 @@ abbrev pub version : Version
 version = record { major = 2; minor = 0; patch = 3 }
 
 -- as one number, which has three decimal digits for each of the last two
-abbrev pub versionNumber : Version → ℕ
-versionNumber v = v.major * 1000000 + v.minor * 1000 + v.patch
+abbrev pub version_number : Version → ℕ
+version_number v = v.major * 1000000 + v.minor * 1000 + v.patch

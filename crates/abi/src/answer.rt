@@ -1,10 +1,10 @@
 // An answer as four numbers.
 ghost use Rattle.std.specs.Prelude.{◌≡◌};
-ghost use Rattle.paper.specs.Answers.{input_of, offset_of, readingSays, checkingSays, judgementSays, translationSays, loadingSays, runningSays, printingSays};
-ghost use Rattle.paper.specs.Fixing.{fixingSays};
-ghost use Rattle.paper.specs.Drafting.{draftingSays};
-ghost use Rattle.paper.specs.Comparing.{agreementSays};
-ghost use Rattle.abi.specs.Told.{turnedAway, counted, passed, judged, ran, compared};
+ghost use Rattle.paper.specs.Answers.{input_of, offset_of, reading_says, checking_says, judgement_says, translation_says, loading_says, running_says, printing_says};
+ghost use Rattle.paper.specs.Fixing.{fixing_says};
+ghost use Rattle.paper.specs.Drafting.{drafting_says};
+ghost use Rattle.paper.specs.Comparing.{agreement_says};
+ghost use Rattle.abi.specs.Told.{turned_away, counted, passed, judged, ran, compared};
 
 use paper::{
     Agreement, Checking, Drafting, Fixing, Judgement, Loading, Place, Printing, Reading, Running,
@@ -43,7 +43,7 @@ fn refused_in(number: u8, input: u64, at: usize) -> PolluxAnswer
 }
 
 fn refusal(number: u8, place: Place) -> PolluxAnswer
-    ensures { result ≡ turnedAway number (input_of place) (offset_of place) }
+    ensures { result ≡ turned_away number (input_of place) (offset_of place) }
 {
     match place {
         Place::Text(at) => refused_in(number, 1, at),
@@ -57,7 +57,7 @@ fn refusal(number: u8, place: Place) -> PolluxAnswer
 }
 
 pub(crate) fn of_reading(r: Reading) -> PolluxAnswer
-    ensures { result ≡ counted (readingSays r) }
+    ensures { result ≡ counted (reading_says r) }
 {
     match r {
         Reading::Read(n) => answer(3, n),
@@ -66,7 +66,7 @@ pub(crate) fn of_reading(r: Reading) -> PolluxAnswer
 }
 
 pub(crate) fn of_checking(r: Checking) -> PolluxAnswer
-    ensures { result ≡ passed (checkingSays r) }
+    ensures { result ≡ passed (checking_says r) }
 {
     match r {
         Checking::Passed => answer(3, 0),
@@ -75,7 +75,7 @@ pub(crate) fn of_checking(r: Checking) -> PolluxAnswer
 }
 
 pub(crate) fn of_judgement(r: Judgement) -> PolluxAnswer
-    ensures { result ≡ judged (judgementSays r) }
+    ensures { result ≡ judged (judgement_says r) }
 {
     match r {
         Judgement::Accepted => answer(1, 0),
@@ -85,7 +85,7 @@ pub(crate) fn of_judgement(r: Judgement) -> PolluxAnswer
 }
 
 pub(crate) fn of_translation(r: Translation) -> PolluxAnswer
-    ensures { result ≡ counted (translationSays r) }
+    ensures { result ≡ counted (translation_says r) }
 {
     match r {
         Translation::Written(n) => answer(3, n),
@@ -94,7 +94,7 @@ pub(crate) fn of_translation(r: Translation) -> PolluxAnswer
 }
 
 pub(crate) fn of_loading(r: Loading) -> PolluxAnswer
-    ensures { result ≡ counted (loadingSays r) }
+    ensures { result ≡ counted (loading_says r) }
 {
     match r {
         Loading::Loaded(n) => answer(3, n),
@@ -103,7 +103,7 @@ pub(crate) fn of_loading(r: Loading) -> PolluxAnswer
 }
 
 pub(crate) fn of_running(r: Running) -> PolluxAnswer
-    ensures { result ≡ ran (runningSays r) }
+    ensures { result ≡ ran (running_says r) }
 {
     match r {
         Running::Accepted(steps) => answer(1, steps),
@@ -113,7 +113,7 @@ pub(crate) fn of_running(r: Running) -> PolluxAnswer
 }
 
 pub(crate) fn of_printing(r: Printing) -> PolluxAnswer
-    ensures { result ≡ counted (printingSays r) }
+    ensures { result ≡ counted (printing_says r) }
 {
     match r {
         Printing::Printed(n) => answer(3, n),
@@ -122,7 +122,7 @@ pub(crate) fn of_printing(r: Printing) -> PolluxAnswer
 }
 
 pub(crate) fn of_fixing(r: Fixing) -> PolluxAnswer
-    ensures { result ≡ counted (fixingSays r) }
+    ensures { result ≡ counted (fixing_says r) }
 {
     match r {
         Fixing::Fixed(n) => answer(3, n),
@@ -131,7 +131,7 @@ pub(crate) fn of_fixing(r: Fixing) -> PolluxAnswer
 }
 
 pub(crate) fn of_drafting(r: Drafting) -> PolluxAnswer
-    ensures { result ≡ counted (draftingSays r) }
+    ensures { result ≡ counted (drafting_says r) }
 {
     match r {
         Drafting::Drafted(n) => answer(3, n),
@@ -140,7 +140,7 @@ pub(crate) fn of_drafting(r: Drafting) -> PolluxAnswer
 }
 
 pub(crate) fn of_agreement(r: Agreement) -> PolluxAnswer
-    ensures { result ≡ compared (agreementSays r) }
+    ensures { result ≡ compared (agreement_says r) }
 {
     match r {
         Agreement::Agrees => answer(4, 0),

@@ -1,6 +1,6 @@
 // A count as eight numbers: the four of an answer, whose value is how many parts the text has, and four of the entries.
 ghost use Rattle.std.specs.Prelude.{◌≡◌};
-ghost use Rattle.paper.specs.Counting.{countingSays};
+ghost use Rattle.paper.specs.Counting.{counting_says};
 ghost use Rattle.abi.specs.Told as spec;
 
 use crate::answer;
@@ -43,7 +43,7 @@ fn totals(
 }
 
 pub(crate) fn of_counting(r: Counting) -> PolluxCounts
-    ensures { result ≡ spec.tallied (countingSays r) }
+    ensures { result ≡ spec.tallied (counting_says r) }
 {
     match r {
         Counting::Counted(parts, accepted, violated, refused, cut) => {

@@ -7,7 +7,7 @@ use paper::{Judgement, Place, refused};
 
 // What numbers are heard as that no judgement is told by.
 fn no_answer() -> Judgement
-    ensures { result ≡ spec.noAnswer }
+    ensures { result ≡ spec.no_answer }
 {
     Judgement::Refused(refused::ENTRY_RULE, Place::Entry(0))
 }
@@ -28,7 +28,7 @@ fn place_in(input: u64, at: usize) -> Place
 
 // A number that a byte holds, in one of the seven inputs.
 fn refusal(a: PolluxAnswer) -> Judgement
-    ensures { result ≡ spec.refusalIn a }
+    ensures { result ≡ spec.refusal_in a }
 {
     if 255 < a.number {
         return no_answer();
@@ -56,7 +56,7 @@ fn plain(a: PolluxAnswer) -> bool
 }
 
 fn verdict(a: PolluxAnswer) -> Judgement
-    ensures { result ≡ spec.verdictIn a }
+    ensures { result ≡ spec.verdict_in a }
 {
     if !plain(a) {
         return no_answer();
@@ -70,7 +70,7 @@ fn verdict(a: PolluxAnswer) -> Judgement
 }
 
 pub(crate) fn judgement(a: PolluxAnswer) -> Judgement
-    ensures { result ≡ spec.heardAs a }
+    ensures { result ≡ spec.heard_as a }
 {
     if a.says == 0 {
         return refusal(a);

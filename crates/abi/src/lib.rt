@@ -16,7 +16,7 @@ mod version;
 
 ghost use Rattle.abi.specs.Told.{ReadTold, CheckTold, JudgeTold, TranslateTold, LoadTold, RunTold, RunAllTold, PrintTold, FixTold, DraftTold, CompareTold, CountTold, ExplainTold, SummarizeTold, RecheckTold};
 ghost use Rattle.std.specs.Prelude.{◌≡◌};
-ghost use Rattle.abi.specs.Version.{version, versionNumber};
+ghost use Rattle.abi.specs.Version.{version, version_number};
 
 use crate::answer::PolluxAnswer;
 use crate::counts::PolluxCounts;
@@ -28,7 +28,7 @@ use crate::table::PolluxTable;
 // Which version of the product the archive is. A program that links with it can hold this to the number in its header.
 #[unsafe(no_mangle)]
 pub extern "C" fn pollux_version() -> u64
-    ensures { result ≡ versionNumber version }
+    ensures { result ≡ version_number version }
 {
     version::number()
 }

@@ -1,6 +1,6 @@
 // A reason as eight numbers: the four of the judgement, and four of what is shown.
 ghost use Rattle.std.specs.Prelude.{◌-◌, ◌≡◌};
-ghost use Rattle.paper.specs.Explained.{explanationSays};
+ghost use Rattle.paper.specs.Explained.{explanation_says};
 ghost use Rattle.abi.specs.Told.{showing, reasoned};
 
 use crate::answer;
@@ -53,7 +53,7 @@ fn length(from: usize, to: usize) -> usize
 }
 
 pub(crate) fn of_explanation(r: Explanation) -> PolluxReason
-    ensures { result ≡ reasoned (explanationSays r) }
+    ensures { result ≡ reasoned (explanation_says r) }
 {
     match r {
         Explanation::Part(number, place, from, to) => {

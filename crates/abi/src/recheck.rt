@@ -1,6 +1,6 @@
 // A recheck as five numbers: the four of the judgement, and whether it was reused.
 ghost use Rattle.std.specs.Prelude.{◌≡◌};
-ghost use Rattle.paper.specs.Rechecking.{recheckingSays};
+ghost use Rattle.paper.specs.Rechecking.{rechecking_says};
 ghost use Rattle.abi.specs.Told as spec;
 
 use crate::answer;
@@ -31,7 +31,7 @@ fn saying(judged: PolluxAnswer, reused: u64) -> PolluxRechecked
 }
 
 pub(crate) fn of_rechecking(r: Rechecking) -> PolluxRechecked
-    ensures { result ≡ spec.rechecked (recheckingSays r) }
+    ensures { result ≡ spec.rechecked (rechecking_says r) }
 {
     match r {
         Rechecking::Reused(earlier) => saying(answer::of_judgement(earlier), 1),

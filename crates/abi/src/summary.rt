@@ -1,7 +1,7 @@
 // A summary as seven numbers: the four of an answer, and three of what the text names.
 ghost use Rattle.std.specs.Prelude.{◌≡◌};
 ghost use Rattle.paper.specs.Code.{bit};
-ghost use Rattle.paper.specs.Named.{summarizingSays};
+ghost use Rattle.paper.specs.Named.{summarizing_says};
 ghost use Rattle.abi.specs.Told as spec;
 
 use crate::answer;
@@ -45,7 +45,7 @@ fn naming(checked: PolluxAnswer, keys: u32, priority: u64, count: u32) -> Pollux
 }
 
 pub(crate) fn of_summarizing(r: Summarizing) -> PolluxSummary
-    ensures { result ≡ spec.summarized (summarizingSays r) }
+    ensures { result ≡ spec.summarized (summarizing_says r) }
 {
     match r {
         Summarizing::Refused(number, place) => {

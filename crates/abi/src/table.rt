@@ -1,6 +1,6 @@
 // A table that ran as five numbers: the four of an answer, whose value is how many entries there are, and the steps of all of them.
 ghost use Rattle.std.specs.Prelude.{◌≡◌};
-ghost use Rattle.paper.specs.RunAll.{runningAllSays};
+ghost use Rattle.paper.specs.RunAll.{running_all_says};
 ghost use Rattle.abi.specs.Told as spec;
 
 use crate::answer;
@@ -31,7 +31,7 @@ fn stepping(answered: PolluxAnswer, steps: u64) -> PolluxTable
 }
 
 pub(crate) fn of_running_all(r: RunningAll) -> PolluxTable
-    ensures { result ≡ spec.ranThrough (runningAllSays r) }
+    ensures { result ≡ spec.ran_through (running_all_says r) }
 {
     match r {
         RunningAll::Ran(entries, steps) => {

@@ -9,11 +9,11 @@ use native.Mathlib.Omega.{arith}
 use borrow.Author.Tests.{eqb-true, eq-eqb, ltb-true, leb-true}
 use lib.ListN.{length, length-map, replicate}
 use lib.Dec.{eqb, ltb, leb, lit<}
-use Rattle.paper.specs.Numbers.{digitsAfter, inBase}
-use Rattle.paper.specs.Tokens.{is, span, starts, digitOf}
-use Rattle.paper.specs.Addresses.{Scheme, ipv4, ipv6, mac, allDigits, value_of, every}
+use Rattle.paper.specs.Numbers.{digits_after, in_base}
+use Rattle.paper.specs.Tokens.{is, span, starts, digit_of}
+use Rattle.paper.specs.Addresses.{Scheme, ipv4, ipv6, mac, all_digits, value_of, every}
 use Rattle.spelling.proofs.Tests.{and_both}
-use Rattle.addresses.specs.Reads.{isPart, base_of, scale_of, numbers}
+use Rattle.addresses.specs.Reads.{is_part, base_of, scale_of, numbers}
 
 module _ (base M : ℕ) where
   reduced : (n d : ℕ) → (n * base + d) % M ≡ (n % M * base + d) % M
@@ -26,37 +26,37 @@ module _ (base M : ℕ) where
       let f : n * base + d ≡ r * base + d + M * (q * base) = omega arith in
       ap (λ (x : ℕ). x % M) f ∙ add-mul-mod_self_left (r * base + d) M (q * base)
 
-  pub digit-mod : (n m d : ℕ) → n % M ≡ m % M → (n * base + d) % M ≡ (m * base + d) % M
-  digit-mod n m d e = reduced n d ∙ ap (λ (x : ℕ). (x * base + d) % M) e ∙ sym (reduced m d)
+  pub digit_mod : (n m d : ℕ) → n % M ≡ m % M → (n * base + d) % M ≡ (m * base + d) % M
+  digit_mod n m d e = reduced n d ∙ ap (λ (x : ℕ). (x * base + d) % M) e ∙ sym (reduced m d)
 
-  pub after-mod : (ds : List ℕ) (n m : ℕ) → n % M ≡ m % M → digitsAfter base n ds % M ≡ digitsAfter base m ds % M
-  after-mod [] n m e = e
-  after-mod (d ∷ ds) n m e = after-mod ds (n * base + d) (m * base + d) (digit-mod n m d e)
+  pub after_mod : (ds : List ℕ) (n m : ℕ) → n % M ≡ m % M → digits_after base n ds % M ≡ digits_after base m ds % M
+  after_mod [] n m e = e
+  after_mod (d ∷ ds) n m e = after_mod ds (n * base + d) (m * base + d) (digit_mod n m d e)
 
 -- a digit 0 of some that are left
-pub zero-on : (base M n m left : ℕ) → 0 < left → m ≡ (n * base + 0) % M
-    → digitsAfter base m (replicate (left - 1) 0) % M ≡ digitsAfter base n (replicate left 0) % M
-zero-on base M n m left h e =
+pub zero_on : (base M n m left : ℕ) → 0 < left → m ≡ (n * base + 0) % M
+    → digits_after base m (replicate (left - 1) 0) % M ≡ digits_after base n (replicate left 0) % M
+zero_on base M n m left h e =
     let f : left ≡ suc (left - 1) = omega arith in
-    after-mod base M (replicate (left - 1) 0) m (n * base + 0) (ap (λ (x : ℕ). x % M) e ∙ mod-mod _ _)
-    ∙ sym (ap (λ (l : ℕ). digitsAfter base n (replicate l 0) % M) f)
+    after_mod base M (replicate (left - 1) 0) m (n * base + 0) (ap (λ (x : ℕ). x % M) e ∙ mod-mod _ _)
+    ∙ sym (ap (λ (l : ℕ). digits_after base n (replicate l 0) % M) f)
 
-pub after-append : (base : ℕ) (xs ys : List ℕ) (n : ℕ) → digitsAfter base n (xs ++ ys) ≡ digitsAfter base (digitsAfter base n xs) ys
-after-append base [] ys n = refl
-after-append base (x ∷ xs) ys n = after-append base xs ys (n * base + x)
+pub after_append : (base : ℕ) (xs ys : List ℕ) (n : ℕ) → digits_after base n (xs ++ ys) ≡ digits_after base (digits_after base n xs) ys
+after_append base [] ys n = refl
+after_append base (x ∷ xs) ys n = after_append base xs ys (n * base + x)
 
 -- all digits below the base
 abbrev pub Below : ℕ → List ℕ → Type 0
 Below base [] = Unit {0}
 Below base (d ∷ ds) = (d < base) × Below base ds
 
-pub after-lt : (base : ℕ) (ds : List ℕ) (n : ℕ) → Below base ds → digitsAfter base n ds < (n + 1) * base ^ length ds
-after-lt base [] n h = rw (pow-zero, mul-one) (omega arith)
-after-lt base (d ∷ ds) n h =
+pub after_lt : (base : ℕ) (ds : List ℕ) (n : ℕ) → Below base ds → digits_after base n ds < (n + 1) * base ^ length ds
+after_lt base [] n h = rw (pow-zero, mul-one) (omega arith)
+after_lt base (d ∷ ds) n h =
     let e : (n + 1) * base ≡ n * base + 1 * base = add-mul n 1 base in
     let l : n * base + d + 1 ≤ (n + 1) * base = omega (arith, h.0, zero-mul base) in
     let m : (n * base + d + 1) * base ^ length ds ≤ (n + 1) * base * base ^ length ds = mul-le-mul_right (base ^ length ds) l in
-    let i : digitsAfter base (n * base + d) ds < (n * base + d + 1) * base ^ length ds = after-lt base ds (n * base + d) h.1 in
+    let i : digits_after base (n * base + d) ds < (n * base + d + 1) * base ^ length ds = after_lt base ds (n * base + d) h.1 in
     rw (pow-succ', ← mul_assoc) (omega arith)
 
 -- all bytes pass a test where the first does and all others do
@@ -70,15 +70,15 @@ all_first p b s e = go (p b) refl
         (h, eq-eqb (span p s) (length s) (omega arith))
     go false h = let f : 0 ≡ suc (length s) = eqb-true 0 (suc (length s)) (rw h at e) in absurd (omega arith)
 
-digits-below : (base : ℕ) (s : List ℕ) → allDigits base s ≡ true → Below base (map digitOf s)
-digits-below base [] e = tt
-digits-below base (b ∷ s) e =
-    let f = all_first (λ c. ltb (digitOf c) base) b s e in
-    (ltb-true (digitOf b) base f.0, digits-below base s f.1)
+digits_below : (base : ℕ) (s : List ℕ) → all_digits base s ≡ true → Below base (map digit_of s)
+digits_below base [] e = tt
+digits_below base (b ∷ s) e =
+    let f = all_first (λ c. ltb (digit_of c) base) b s e in
+    (ltb-true (digit_of b) base f.0, digits_below base s f.1)
 
-value-lt : (base : ℕ) (s : List ℕ) → allDigits base s ≡ true → value_of base s < base ^ length s
-value-lt base s e =
-    let l = after-lt base (map digitOf s) 0 (digits-below base s e) in
+value_lt : (base : ℕ) (s : List ℕ) → all_digits base s ≡ true → value_of base s < base ^ length s
+value_lt base s e =
+    let l = after_lt base (map digit_of s) 0 (digits_below base s e) in
     rw (zero-add, one-mul, length-map) at l
 
 between : (most : ℕ) (p : List ℕ) → (leb 1 (length p) && leb (length p) most) ≡ true → most ≤ 4 → (1 ≤ length p) × (length p ≤ 4)
@@ -88,41 +88,41 @@ between most p e h =
     (leb-true 1 (length p) f.0, omega arith)
 
 -- a good part has a byte, and four at most
-pub part-size : (s : Scheme) (p : List ℕ) → isPart s p ≡ true → (1 ≤ length p) × (length p ≤ 4)
-part-size ipv4 p e =
-    let f = and_both (leb 1 (length p) && leb (length p) 3 && allDigits 10 p && (eqb (length p) 1 || not (starts (is "0") p))) (leb (value_of 10 p) 255) e in
-    let g = and_both (leb 1 (length p) && leb (length p) 3 && allDigits 10 p) (eqb (length p) 1 || not (starts (is "0") p)) f.0 in
-    let h = and_both (leb 1 (length p) && leb (length p) 3) (allDigits 10 p) g.0 in
+pub part_size : (s : Scheme) (p : List ℕ) → is_part s p ≡ true → (1 ≤ length p) × (length p ≤ 4)
+part_size ipv4 p e =
+    let f = and_both (leb 1 (length p) && leb (length p) 3 && all_digits 10 p && (eqb (length p) 1 || not (starts (is "0") p))) (leb (value_of 10 p) 255) e in
+    let g = and_both (leb 1 (length p) && leb (length p) 3 && all_digits 10 p) (eqb (length p) 1 || not (starts (is "0") p)) f.0 in
+    let h = and_both (leb 1 (length p) && leb (length p) 3) (all_digits 10 p) g.0 in
     between 3 p h.0 (omega arith)
-part-size ipv6 p e = between 4 p (and_both (leb 1 (length p) && leb (length p) 4) (allDigits 16 p) e).0 (omega arith)
-part-size mac p e =
-    let n = eqb-true (length p) 2 (and_both (eqb (length p) 2) (allDigits 16 p) e).0 in
+part_size ipv6 p e = between 4 p (and_both (leb 1 (length p) && leb (length p) 4) (all_digits 16 p) e).0 (omega arith)
+part_size mac p e =
+    let n = eqb-true (length p) 2 (and_both (eqb (length p) 2) (all_digits 16 p) e).0 in
     omega arith
 
 -- a good part is below what it moves those before it by
-part-lt : (s : Scheme) (p : List ℕ) → isPart s p ≡ true → value_of (base_of s) p < scale_of s
-part-lt ipv4 p e =
-    let long = leb 1 (length p) && leb (length p) 3 && allDigits 10 p && (eqb (length p) 1 || not (starts (is "0") p)) in
+part_lt : (s : Scheme) (p : List ℕ) → is_part s p ≡ true → value_of (base_of s) p < scale_of s
+part_lt ipv4 p e =
+    let long = leb 1 (length p) && leb (length p) 3 && all_digits 10 p && (eqb (length p) 1 || not (starts (is "0") p)) in
     let l = leb-true (value_of 10 p) 255 (and_both long (leb (value_of 10 p) 255) e).1 in
     omega arith
-part-lt ipv6 p e =
-    let f = and_both (leb 1 (length p) && leb (length p) 4) (allDigits 16 p) e in
-    let n = (part-size ipv6 p e).1 in
-    let l = value-lt 16 p f.1 in
+part_lt ipv6 p e =
+    let f = and_both (leb 1 (length p) && leb (length p) 4) (all_digits 16 p) e in
+    let n = (part_size ipv6 p e).1 in
+    let l = value_lt 16 p f.1 in
     let m : 16 ^ length p ≤ 16 ^ 4 = pow-le-pow_right (lit< tt) n in
     omega arith
-part-lt mac p e =
-    let f = and_both (eqb (length p) 2) (allDigits 16 p) e in
+part_lt mac p e =
+    let f = and_both (eqb (length p) 2) (all_digits 16 p) e in
     let n : length p ≡ 2 = eqb-true (length p) 2 f.0 in
-    rw n at (value-lt 16 p f.1)
+    rw n at (value_lt 16 p f.1)
 
-pub parts_below : (s : Scheme) (ps : List (List ℕ)) → every (isPart s) ps ≡ true → Below (scale_of s) (numbers s ps)
+pub parts_below : (s : Scheme) (ps : List (List ℕ)) → every (is_part s) ps ≡ true → Below (scale_of s) (numbers s ps)
 parts_below s [] e = tt
-parts_below s (p ∷ ps) e = let f = and_both (isPart s p) (every (isPart s) ps) e in (part-lt s p f.0, parts_below s ps f.1)
+parts_below s (p ∷ ps) e = let f = and_both (is_part s p) (every (is_part s) ps) e in (part_lt s p f.0, parts_below s ps f.1)
 
-pub parts-lt : (s : Scheme) (ps : List (List ℕ)) → every (isPart s) ps ≡ true → inBase (scale_of s) (numbers s ps) < scale_of s ^ length ps
-parts-lt s ps e =
-    let l = after-lt (scale_of s) (numbers s ps) 0 (parts_below s ps e) in
+pub parts_lt : (s : Scheme) (ps : List (List ℕ)) → every (is_part s) ps ≡ true → in_base (scale_of s) (numbers s ps) < scale_of s ^ length ps
+parts_lt s ps e =
+    let l = after_lt (scale_of s) (numbers s ps) 0 (parts_below s ps e) in
     rw (zero-add, one-mul, length-map) at l
 
 -- up to four digits, each a byte, fit a word
@@ -132,8 +132,8 @@ module _ (v base i : ℕ) (h : v < 272 ^ i) (b : base ≤ 16) where
       let m : v * base ≤ v * 16 = mul-le-mul_left v b in
       rw (add-one, pow-succ') (omega arith)
 
-  pub value-fits : i < 4 → v * base + 256 < 2 ^ 32
-  value-fits l =
+  pub value_fits : i < 4 → v * base + 256 < 2 ^ 32
+  value_fits l =
       let m : v * base ≤ v * 16 = mul-le-mul_left v b in
       let n : 272 ^ i ≤ 272 ^ 3 = pow-le-pow_right (lit< tt) {i = i} {j = 3} (omega arith) in
       omega arith

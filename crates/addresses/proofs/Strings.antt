@@ -9,9 +9,9 @@ use lib.ListN.{length, get_or, take, drop, length-drop, drop_of_length-le}
 use lib.Seq.{drop-drop, take_all}
 use lib.Dec.{eqb}
 use Rattle.paper.specs.Tokens.{is, span}
-use Rattle.paper.specs.Addresses.{parts, beforeGap}
+use Rattle.paper.specs.Addresses.{parts, before_gap}
 use Rattle.spelling.proofs.Spans.{cut}
-use Rattle.addresses.specs.Reads.{gapAt, zeroFirst}
+use Rattle.addresses.specs.Reads.{gap_at, zero_first}
 
 module _ (sep : ℕ → Bool) where
   abbrev inside : ℕ → Bool
@@ -43,15 +43,15 @@ module _ (sep : ℕ → Bool) where
 
   -- the part from an offset up to an end
   module _ (s : List ℕ) (at end : ℕ) (far : end ≡ at + span inside (drop at s)) where
-    pub part-last : end ≡ length s → parts sep (drop at s) ≡ take (end - at) (drop at s) ∷ []
-    part-last e =
+    pub part_last : end ≡ length s → parts sep (drop at s) ≡ take (end - at) (drop at s) ∷ []
+    part_last e =
         let n = length-drop at s in
         let f : span inside (drop at s) ≡ length (drop at s) = omega arith in
         let l : length (drop at s) ≤ end - at = omega arith in
         rw (take_all (end - at) (drop at s) l) (parts_last (drop at s) f)
 
-    pub part-more : end < length s → parts sep (drop at s) ≡ take (end - at) (drop at s) ∷ parts sep (drop (end + 1) s)
-    part-more l =
+    pub part_more : end < length s → parts sep (drop at s) ≡ take (end - at) (drop at s) ∷ parts sep (drop (end + 1) s)
+    part_more l =
         let n = length-drop at s in
         let f : span inside (drop at s) < length (drop at s) = omega arith in
         let e : end - at ≡ span inside (drop at s) = omega arith in
@@ -61,49 +61,49 @@ module _ (sep : ℕ → Bool) where
 -- the first "::"
 
 module _ (s : List ℕ) (i : ℕ) where
-  pub gap_here : i < length s → gapAt (drop i s) ≡ true → beforeGap (drop i s) ≡ 0
+  pub gap_here : i < length s → gap_at (drop i s) ≡ true → before_gap (drop i s) ≡ 0
   gap_here h e = let f = rw (cut s i h) at e in rw (cut s i h, f)
 
-  pub gap-on : i < length s → gapAt (drop i s) ≡ false → beforeGap (drop i s) ≡ suc (beforeGap (drop (i + 1) s))
-  gap-on h e = let f = rw (cut s i h) at e in rw (cut s i h, f)
+  pub gap_on : i < length s → gap_at (drop i s) ≡ false → before_gap (drop i s) ≡ suc (before_gap (drop (i + 1) s))
+  gap_on h e = let f = rw (cut s i h) at e in rw (cut s i h, f)
 
-  pub gap-end : length s ≤ i → beforeGap (drop i s) ≡ 0
-  gap-end h = rw (drop_of_length-le s h)
+  pub gap_end : length s ≤ i → before_gap (drop i s) ≡ 0
+  gap_end h = rw (drop_of_length-le s h)
 
 -- a "::" has two bytes
-pub gap-room : (s : List ℕ) → beforeGap s < length s → beforeGap s + 2 ≤ length s
-gap-room [] l = absurd (omega arith)
-gap-room (b ∷ s) l = go s (gapAt (b ∷ s)) refl l (gap-room s)
+pub gap_room : (s : List ℕ) → before_gap s < length s → before_gap s + 2 ≤ length s
+gap_room [] l = absurd (omega arith)
+gap_room (b ∷ s) l = go s (gap_at (b ∷ s)) refl l (gap_room s)
   where
-    go : (s : List ℕ) (t : Bool) → gapAt (b ∷ s) ≡ t → beforeGap (b ∷ s) < length (b ∷ s)
-        → (beforeGap s < length s → beforeGap s + 2 ≤ length s) → beforeGap (b ∷ s) + 2 ≤ length (b ∷ s)
+    go : (s : List ℕ) (t : Bool) → gap_at (b ∷ s) ≡ t → before_gap (b ∷ s) < length (b ∷ s)
+        → (before_gap s < length s → before_gap s + 2 ≤ length s) → before_gap (b ∷ s) + 2 ≤ length (b ∷ s)
     go [] true e l i = absurd (true≢false (sym e ∙ and-false (is ":" b)))
     go (a ∷ s) true e l i = rw e (omega arith)
     go s false e l i =
-        let f : suc (beforeGap s) < suc (length s) = rw e at l in
+        let f : suc (before_gap s) < suc (length s) = rw e at l in
         let h = i (omega arith) in
         rw e (omega arith)
 
-pub gap-inside : (s : List ℕ) → beforeGap s ≤ length s
-gap-inside [] = omega arith
-gap-inside (b ∷ s) = go (gapAt (b ∷ s)) refl (gap-inside s)
+pub gap_inside : (s : List ℕ) → before_gap s ≤ length s
+gap_inside [] = omega arith
+gap_inside (b ∷ s) = go (gap_at (b ∷ s)) refl (gap_inside s)
   where
-    go : (t : Bool) → gapAt (b ∷ s) ≡ t → beforeGap s ≤ length s → beforeGap (b ∷ s) ≤ length (b ∷ s)
+    go : (t : Bool) → gap_at (b ∷ s) ≡ t → before_gap s ≤ length s → before_gap (b ∷ s) ≤ length (b ∷ s)
     go true e i = rw e (omega arith)
     go false e i = rw e (omega arith)
 
 -- a 0 before another digit
 
-pub zero-short : (s : List ℕ) → length s < 2 → zeroFirst s ≡ false
-zero-short [] h = refl
-zero-short (b ∷ []) h = refl
-zero-short (b ∷ a ∷ s) h = absurd (omega arith)
+pub zero_short : (s : List ℕ) → length s < 2 → zero_first s ≡ false
+zero_short [] h = refl
+zero_short (b ∷ []) h = refl
+zero_short (b ∷ a ∷ s) h = absurd (omega arith)
 
-pub zero-long : (s : List ℕ) → 2 ≤ length s → zeroFirst s ≡ eqb (get_or s 0 0) 48
-zero-long [] h = absurd (omega arith)
-zero-long (b ∷ []) h = absurd (omega arith)
-zero-long (b ∷ a ∷ s) h = rw (ne_eqb (suc (suc (length s))) 1 λ e. omega arith)
+pub zero_long : (s : List ℕ) → 2 ≤ length s → zero_first s ≡ eqb (get_or s 0 0) 48
+zero_long [] h = absurd (omega arith)
+zero_long (b ∷ []) h = absurd (omega arith)
+zero_long (b ∷ a ∷ s) h = rw (ne_eqb (suc (suc (length s))) 1 λ e. omega arith)
 
-pub or-not : (s t : Bool) → (s || not t) ≡ not (not s && t)
-or-not true t = refl
-or-not false t = refl
+pub or_not : (s t : Bool) → (s || not t) ≡ not (not s && t)
+or_not true t = refl
+or_not false t = refl

@@ -8,23 +8,23 @@ use native.Mathlib.Omega.{arith}
 use native.Mathlib.Decide.{dec_lt}
 use lib.ListN.{length, take, drop}
 use lib.Dec.{eqb}
-use Rattle.paper.specs.Numbers.{digitsAfter}
+use Rattle.paper.specs.Numbers.{digits_after}
 use Rattle.paper.specs.Tokens.{span}
 use Rattle.paper.specs.Addresses.{Scheme, parts, every, value_of}
 use Rattle.number.specs.Values.{value}
 use Rattle.addresses.specs.declared.groups.PartsRead.{PartsRead}
-use Rattle.addresses.specs.Reads.{separates, isPart, base_of, scale_of, numbers, within, Grouped, parts_of}
-use Rattle.addresses.proofs.Digits.{after-mod}
-use Rattle.addresses.proofs.Strings.{part-last, part-more}
+use Rattle.addresses.specs.Reads.{separates, is_part, base_of, scale_of, numbers, within, Grouped, parts_of}
+use Rattle.addresses.proofs.Digits.{after_mod}
+use Rattle.addresses.proofs.Strings.{part_last, part_more}
 
 -- so many parts of a string are read after a number, up to an offset
 pub record Going (k : Scheme) (s : List ℕ) (before n count at : ℕ) : Type 0 where
   pub few : count ≤ at
   pub inside : at ≤ length s
-  pub told : every (isPart k) (parts_of k s) ≡ every (isPart k) (parts_of k (drop at s))
+  pub told : every (is_part k) (parts_of k s) ≡ every (is_part k) (parts_of k (drop at s))
   pub counted : length (parts_of k s) ≡ count + length (parts_of k (drop at s))
-  pub grown : digitsAfter (scale_of k) before (numbers k (parts_of k s)) % 2 ^ 128
-      ≡ digitsAfter (scale_of k) n (numbers k (parts_of k (drop at s))) % 2 ^ 128
+  pub grown : digits_after (scale_of k) before (numbers k (parts_of k s)) % 2 ^ 128
+      ≡ digits_after (scale_of k) n (numbers k (parts_of k (drop at s))) % 2 ^ 128
 
 pub going_start : (k : Scheme) (s : List ℕ) (n : ℕ) → Going k s n n 0 0
 going_start k s n = record { few = omega arith; inside = omega arith; told = refl; counted = omega arith; grown = refl }
@@ -34,18 +34,18 @@ module _ {k : Scheme} {s : List ℕ} {before n count at : ℕ} (w : Going k s be
   abbrev part : List ℕ
   part = take (end - at) (drop at s)
 
-  pub going-bad : end ≤ length s → isPart k part ≡ false → every (isPart k) (parts_of k s) ≡ false
-  going-bad l e =
+  pub going_bad : end ≤ length s → is_part k part ≡ false → every (is_part k) (parts_of k s) ≡ false
+  going_bad l e =
       elim (dec_lt end (length s)) [
-        | yes m ↦ w.told ∙ rw (part-more (λ b. eqb b (separates k)) s at end far m, e)
-        | no m ↦ let f : end ≡ length s = omega arith in w.told ∙ rw (part-last (λ b. eqb b (separates k)) s at end far f, e)
+        | yes m ↦ w.told ∙ rw (part_more (λ b. eqb b (separates k)) s at end far m, e)
+        | no m ↦ let f : end ≡ length s = omega arith in w.told ∙ rw (part_last (λ b. eqb b (separates k)) s at end far f, e)
       ]
 
-  module _ (good : isPart k part ≡ true) (m : ℕ) (put : m ≡ (n * scale_of k + value_of (base_of k) part) % 2 ^ 128) where
-    pub going-last : end ≡ length s → (r : PartsRead) → r.ok ≡ true → r.count ≡ count + 1 → value r.number ≡ m
+  module _ (good : is_part k part ≡ true) (m : ℕ) (put : m ≡ (n * scale_of k + value_of (base_of k) part) % 2 ^ 128) where
+    pub going_last : end ≡ length s → (r : PartsRead) → r.ok ≡ true → r.count ≡ count + 1 → value r.number ≡ m
         → Grouped k (parts_of k s) before r
-    going-last l r o c v =
-        let e = part-last (λ b. eqb b (separates k)) s at end far l in
+    going_last l r o c v =
+        let e = part_last (λ b. eqb b (separates k)) s at end far l in
         record {
           told = o ∙ sym (w.told ∙ rw (e, good));
           counted = λ _. c ∙ sym (w.counted ∙ rw e);
@@ -54,7 +54,7 @@ module _ {k : Scheme} {s : List ℕ} {before n count at : ℕ} (w : Going k s be
 
     pub going_on : end < length s → Going k s before m (count + 1) (end + 1)
     going_on l =
-        let e = part-more (λ b. eqb b (separates k)) s at end far l in
+        let e = part_more (λ b. eqb b (separates k)) s at end far l in
         record {
           few = omega (arith, w.few);
           inside = omega arith;
@@ -63,5 +63,5 @@ module _ {k : Scheme} {s : List ℕ} {before n count at : ℕ} (w : Going k s be
           grown =
               w.grown
               ∙ rw e
-              (after-mod (scale_of k) (2 ^ 128) (numbers k (parts_of k (drop (end + 1) s))) _ m (sym (ap (λ (x : ℕ). x % 2 ^ 128) put ∙ mod-mod _ _)));
+              (after_mod (scale_of k) (2 ^ 128) (numbers k (parts_of k (drop (end + 1) s))) _ m (sym (ap (λ (x : ℕ). x % 2 ^ 128) put ∙ mod-mod _ _)));
         }

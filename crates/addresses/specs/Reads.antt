@@ -1,7 +1,7 @@
 -- What the crate's types say in the paper's words, and how the three schemes differ.
 use Rattle.std.specs.Prelude.{ℕ, ◌%◌, ◌^◌, ◌≡◌, Bool, true, false, not, ◌&&◌, List, [], ◌∷◌, map, length, eqb}
 use Rattle.std.proofs.Math.Option.{Option, none, some}
-use Rattle.paper.specs.Numbers.{digitsAfter, inBase}
+use Rattle.paper.specs.Numbers.{digits_after, in_base}
 use Rattle.paper.specs.Tokens.{is, starts}
 use Rattle.paper.specs.Addresses as A
 use Rattle.paper.specs.Addresses.{only, every, value_of}
@@ -40,10 +40,10 @@ separates A.mac = 58
 abbrev pub parts_of : A.Scheme → List ℕ → List (List ℕ)
 parts_of k s = A.parts (λ b. eqb b (separates k)) s
 
-abbrev pub isPart : A.Scheme → List ℕ → Bool
-isPart A.ipv4 s = A.isDecimal s
-isPart A.ipv6 s = A.is_group s
-isPart A.mac s = A.isPair s
+abbrev pub is_part : A.Scheme → List ℕ → Bool
+is_part A.ipv4 s = A.is_decimal s
+is_part A.ipv6 s = A.is_group s
+is_part A.mac s = A.is_pair s
 
 abbrev pub base_of : A.Scheme → ℕ
 base_of A.ipv4 = 10
@@ -62,19 +62,19 @@ abbrev pub within : ℕ → ℕ → Bool
 within separator b = not (eqb b separator)
 
 -- so many parts, all good
-abbrev pub wholeOf : A.Scheme → ℕ → List (List ℕ) → Option ℕ
-wholeOf s wanted ps = only (eqb (length ps) wanted && every (isPart s) ps) (inBase (scale_of s) (numbers s ps))
+abbrev pub whole_of : A.Scheme → ℕ → List (List ℕ) → Option ℕ
+whole_of s wanted ps = only (eqb (length ps) wanted && every (is_part s) ps) (in_base (scale_of s) (numbers s ps))
 
 -- "::" comes first
-abbrev pub gapAt : List ℕ → Bool
-gapAt [] = false
-gapAt (b ∷ s) = is ":" b && starts (is ":") s
+abbrev pub gap_at : List ℕ → Bool
+gap_at [] = false
+gap_at (b ∷ s) = is ":" b && starts (is ":") s
 
-abbrev pub zeroFirst : List ℕ → Bool
-zeroFirst s = not (eqb (length s) 1) && starts (is "0") s
+abbrev pub zero_first : List ℕ → Bool
+zero_first s = not (eqb (length s) 1) && starts (is "0") s
 
 -- parts after a number
 pub record Grouped (s : A.Scheme) (ps : List (List ℕ)) (n : ℕ) (r : PartsRead) : Type 0 where
-  pub told : r.ok ≡ every (isPart s) ps
+  pub told : r.ok ≡ every (is_part s) ps
   pub counted : r.ok ≡ true → r.count ≡ length ps
-  pub grown : r.ok ≡ true → value r.number ≡ digitsAfter (scale_of s) n (numbers s ps) % 2 ^ 128
+  pub grown : r.ok ≡ true → value r.number ≡ digits_after (scale_of s) n (numbers s ps) % 2 ^ 128

@@ -2,7 +2,7 @@
 ghost use Rattle.std.specs.Prelude.{◌≡◌, ◌+◌, ◌≤◌, ◌^◌, length, drop};
 ghost use Rattle.paper.specs.Tokens.{span};
 ghost use Rattle.number.specs.Values.{value};
-ghost use Rattle.addresses.specs.Reads.{scheme, ReadAs, separates, within, parts_of, base_of, scale_of, Grouped, wholeOf};
+ghost use Rattle.addresses.specs.Reads.{scheme, ReadAs, separates, within, parts_of, base_of, scale_of, Grouped, whole_of};
 
 use crate::parts::{is_part, value_of};
 use crate::{Address, Scheme, bad};
@@ -97,7 +97,7 @@ pub(crate) fn groups(kind: Scheme, string: &[u8], before: Magnitude) -> PartsRea
 // Reads a string of so many parts.
 pub(crate) fn whole(kind: Scheme, string: &[u8], wanted: usize) -> Address
     requires { scale_of (scheme kind) ^ wanted ≤ 2 ^ 128 }
-    ensures { ReadAs (wholeOf (scheme kind) wanted (parts_of (scheme kind) string.now)) result }
+    ensures { ReadAs (whole_of (scheme kind) wanted (parts_of (scheme kind) string.now)) result }
 {
     let all = groups(kind, string, Magnitude::zero());
     if !all.ok {

@@ -1,9 +1,9 @@
 // RFC 4291, section 2.2, forms 1 and 2: eight groups, or "::" in the place of those that are missing.
 ghost use Rattle.std.specs.Prelude.{◌≡◌, ◌+◌, ◌%◌, ◌^◌, ◌≤◌, ◌<◌, length, drop, replicate};
-ghost use Rattle.paper.specs.Numbers.{digitsAfter};
+ghost use Rattle.paper.specs.Numbers.{digits_after};
 ghost use Rattle.paper.specs.Addresses as paper;
 ghost use Rattle.number.specs.Values.{value};
-ghost use Rattle.addresses.specs.Reads.{ReadAs, gapAt, Grouped};
+ghost use Rattle.addresses.specs.Reads.{ReadAs, gap_at, Grouped};
 
 use crate::groups::{PartsRead, groups, whole};
 use crate::{Address, Scheme, bad};
@@ -12,7 +12,7 @@ use number::Magnitude;
 // Whether a "::" stands at an offset.
 fn gap_at(string: &[u8], at: usize) -> bool
     requires { at < length string.now }
-    ensures { result ≡ gapAt (drop at string.now) }
+    ensures { result ≡ gap_at (drop at string.now) }
 {
     if string[at] != b':' {
         return false;
@@ -25,7 +25,7 @@ fn gap_at(string: &[u8], at: usize) -> bool
 
 // How many bytes stand before the first "::", or all of them.
 fn before_gap(string: &[u8]) -> usize
-    ensures { result ≡ paper.beforeGap string.now }
+    ensures { result ≡ paper.before_gap string.now }
 {
     let mut i = 0;
     while i < string.len() {
@@ -54,7 +54,7 @@ fn side(string: &[u8], before: Magnitude) -> PartsRead
 
 // A number with so many groups of zeros after it.
 fn with_zeros(before: Magnitude, count: usize) -> Magnitude
-    ensures { value result ≡ digitsAfter 65536 (value before) (replicate count 0) % 2 ^ 128 }
+    ensures { value result ≡ digits_after 65536 (value before) (replicate count 0) % 2 ^ 128 }
 {
     let mut number = before;
     let mut left = count;
@@ -93,7 +93,7 @@ fn gapped(left: &[u8], right: &[u8]) -> Address
 
 // Reads the string of an ipv6 address.
 pub(crate) fn read_ipv6(string: &[u8]) -> Address
-    ensures { ReadAs (paper.ipv6Of string.now) result }
+    ensures { ReadAs (paper.ipv6_of string.now) result }
 {
     let gap = before_gap(string);
     if gap == string.len() {

@@ -1,7 +1,7 @@
 // Addresses: the numbers that ipv4, ipv6 and mac strings stand for, by document 01.
 //
 // `scheme_of` tells which word begins an address, and `read` what its string is: bad, or a number below 2^128. Both
-// take bytes of any length and content, and answer what the definitions give (`schemeOf`, `address`).
+// take bytes of any length and content, and answer what the definitions give (`scheme_of`, `address`).
 mod groups;
 mod ipv6;
 mod parts;
@@ -47,7 +47,7 @@ fn bad() -> Address
 
 // The scheme of which a word begins an address.
 pub fn scheme_of(word: &[u8]) -> SchemeName
-    ensures { named result ≡ paper.schemeOf word.now }
+    ensures { named result ≡ paper.scheme_of word.now }
 {
     if same_bytes(word, b"ipv4") {
         return SchemeName::Is(Scheme::Ipv4);

@@ -1,14 +1,14 @@
 // One part of a string, between two separators.
 ghost use Rattle.std.specs.Prelude.{◌≡◌, ◌≤◌, length};
 ghost use Rattle.paper.specs.Addresses as paper;
-ghost use Rattle.addresses.specs.Reads.{scheme, isPart, zeroFirst};
+ghost use Rattle.addresses.specs.Reads.{scheme, is_part, zero_first};
 
 use crate::Scheme;
 use spelling::bytes::{DECIMAL, HEX, digit_of};
 use spelling::runs::{Run, run_end};
 
 fn all_digits(part: &[u8], base: u8) -> bool
-    ensures { result ≡ paper.allDigits base part.now }
+    ensures { result ≡ paper.all_digits base part.now }
 {
     run_end(part, 0, Run::Digits(base)) == part.len()
 }
@@ -29,7 +29,7 @@ pub(crate) fn value_of(part: &[u8], base: u8) -> u32
 
 // A 0 before another digit.
 fn zero_first(part: &[u8]) -> bool
-    ensures { result ≡ zeroFirst part.now }
+    ensures { result ≡ zero_first part.now }
 {
     if part.len() < 2 {
         return false;
@@ -39,7 +39,7 @@ fn zero_first(part: &[u8]) -> bool
 
 // 0 to 255.
 fn is_decimal(part: &[u8]) -> bool
-    ensures { result ≡ paper.isDecimal part.now }
+    ensures { result ≡ paper.is_decimal part.now }
 {
     if part.len() < 1 {
         return false;
@@ -57,7 +57,7 @@ fn is_decimal(part: &[u8]) -> bool
 }
 
 fn is_pair(part: &[u8]) -> bool
-    ensures { result ≡ paper.isPair part.now }
+    ensures { result ≡ paper.is_pair part.now }
 {
     if part.len() != 2 {
         return false;
@@ -79,7 +79,7 @@ fn is_group(part: &[u8]) -> bool
 
 // Whether bytes are a part of an address of a scheme.
 pub(crate) fn is_part(kind: Scheme, part: &[u8]) -> bool
-    ensures { result ≡ isPart (scheme kind) part.now }
+    ensures { result ≡ is_part (scheme kind) part.now }
 {
     match kind {
         Scheme::Ipv4 => is_decimal(part),

@@ -8,9 +8,9 @@ use native.Mathlib.Omega.{arith}
 use borrow.Rule.Slice.PartMut.{mid_of, put_mid}
 
 -- such a part after a change of it
-pub changed-behind : (change : List ℕ → List ℕ) (a : ℕ) (xs ys : List ℕ) → ys ≡ change (mid_of a (length xs - a) xs)
+pub changed_behind : (change : List ℕ → List ℕ) (a : ℕ) (xs ys : List ℕ) → ys ≡ change (mid_of a (length xs - a) xs)
     → put_mid a (length xs - a) xs ys ≡ take a xs ++ change (drop a xs)
-changed-behind change a xs ys e =
+changed_behind change a xs ys e =
     let fits : length (drop a xs) ≤ length xs - a = rw (length-drop a xs) (omega arith) in
     let whole = take_all (length xs - a) (drop a xs) fits in
     let nothing = drop_of_length-le (drop a xs) fits in

@@ -4,7 +4,7 @@ use Rattle.answers.specs.declared.framing.Received.{Received}
 use Rattle.answers.specs.declared.framing.Received.TheVariants.{Whole, TooLong, Cut}
 
 -- the input ended before it
-abbrev pub isCut : Received → Bool
-isCut (Whole n) = false
-isCut TooLong = false
-isCut Cut = true
+abbrev pub is_cut : Received → Bool
+is_cut (Whole n) = false
+is_cut TooLong = false
+is_cut Cut = true

@@ -1,7 +1,7 @@
 // A call by its number, and its answer as a line.
 ghost use Rattle.std.specs.Prelude.{◌≡◌};
-ghost use Rattle.paper.specs.Calls.{translateBuffer, printBuffer};
-ghost use Rattle.paper.specs.Fixing.{fixBuffer};
+ghost use Rattle.paper.specs.Calls.{translate_buffer, print_buffer};
+ghost use Rattle.paper.specs.Fixing.{fix_buffer};
 ghost use Rattle.answers.specs.Calls.{after_call, written};
 
 use crate::{adler, changes, entries, framing, tables};
@@ -92,21 +92,21 @@ fn reading_call(call: u8, first: &[u8], second: &[u8], third: &[u8]) {
 
 // A translation, a print or a pass over a text on file, with the sum of the whole buffer as it stands after it.
 fn translate(text: &[u8], list: &[u8], buffer: &mut [u8])
-    ensures { buffer.new ≡ translateBuffer text.now list.now buffer.old }
+    ensures { buffer.new ≡ translate_buffer text.now list.now buffer.old }
 {
     lines::say_translation(valve::translate(text, list, buffer));
     say_sum(buffer)
 }
 
 fn print(text: &[u8], buffer: &mut [u8])
-    ensures { buffer.new ≡ printBuffer text.now buffer.old }
+    ensures { buffer.new ≡ print_buffer text.now buffer.old }
 {
     lines::say_printing(valve::print(text, buffer));
     say_sum(buffer)
 }
 
 fn fix_octal(text: &[u8], buffer: &mut [u8])
-    ensures { buffer.new ≡ fixBuffer text.now buffer.old }
+    ensures { buffer.new ≡ fix_buffer text.now buffer.old }
 {
     lines::say_fixing(valve::fix_octal(text, buffer));
     say_sum(buffer)

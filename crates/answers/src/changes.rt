@@ -1,8 +1,8 @@
 // A recheck by its third input, a change of an entry: a byte for the earlier answer (1 accepted, 2 violated, any other refused with 20 at
 // entry 0), the old entry's length in four bytes, the old entry, and the new one.
 ghost use Rattle.std.specs.Prelude.{◌≡◌};
-ghost use Rattle.paper.specs.Answers.{judgementSays};
-ghost use Rattle.answers.specs.Changes.{earlierAnswer};
+ghost use Rattle.paper.specs.Answers.{judgement_says};
+ghost use Rattle.answers.specs.Changes.{earlier_answer};
 
 use paper::refused::ENTRY_RULE;
 use paper::{Judgement, Place};
@@ -15,7 +15,7 @@ const VIOLATED: u8 = 2;
 const HEAD: usize = 5;
 
 fn earlier_answer(byte: u8) -> Judgement
-    ensures { judgementSays result ≡ earlierAnswer byte }
+    ensures { judgement_says result ≡ earlier_answer byte }
 {
     match byte {
         ACCEPTED => Judgement::Accepted,

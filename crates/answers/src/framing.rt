@@ -1,7 +1,7 @@
 // One input of a request: its length in four bytes, then its bytes.
 ghost use Rattle.std.specs.Prelude.{◌≤◌, ◌<◌, ◌≡◌, true, length};
 ghost use Rattle.paper.specs.Numbers.{number_at};
-ghost use Rattle.answers.specs.Framing.{isCut};
+ghost use Rattle.answers.specs.Framing.{is_cut};
 
 use libc::STDIN_FILENO;
 
@@ -14,7 +14,7 @@ pub enum Received {
 
 // Whether the input ended within a request.
 pub(crate) fn is_cut(t: Received) -> bool
-    ensures { result ≡ isCut t }
+    ensures { result ≡ is_cut t }
 {
     match t {
         Received::Whole(_) => false,

@@ -2,8 +2,8 @@
 // each, and the buffer.
 ghost use Rattle.std.specs.Prelude.{◌≤◌, ◌<◌, ◌≡◌, length};
 ghost use Rattle.paper.specs.Numbers.{number_at};
-ghost use Rattle.paper.specs.Drafting.{draftBuffer};
-ghost use Rattle.answers.specs.Tables.{draftedFrom, afterDraft};
+ghost use Rattle.paper.specs.Drafting.{draft_buffer};
+ghost use Rattle.answers.specs.Tables.{drafted_from, after_draft};
 
 use crate::{calls, changes, framing};
 
@@ -18,7 +18,7 @@ fn count_of(third: &[u8]) -> usize
 }
 
 fn draft(contract: &[u8], table: &[u64], names: &[u8], buffer: &mut [u8])
-    ensures { buffer.new ≡ draftBuffer contract.now table.now names.now buffer.old }
+    ensures { buffer.new ≡ draft_buffer contract.now table.now names.now buffer.old }
 {
     lines::say_drafting(valve::pact(contract, table, names, buffer));
     calls::say_sum(buffer)
@@ -27,14 +27,14 @@ fn draft(contract: &[u8], table: &[u64], names: &[u8], buffer: &mut [u8])
 // Drafts into the buffer that begins at an offset.
 fn draft_behind(contract: &[u8], table: &[u64], names: &[u8], third: &mut [u8], end: usize)
     requires { end ≤ length third.old }
-    ensures { third.new ≡ draftedFrom end contract.now table.now names.now third.old }
+    ensures { third.new ≡ drafted_from end contract.now table.now names.now third.old }
 {
     draft(contract, table, names, &mut third[end..])
 }
 
 // Drafts into the buffer behind the table, unless the input is shorter than its table.
 pub(crate) fn pact(contract: &[u8], names: &[u8], third: &mut [u8])
-    ensures { third.new ≡ afterDraft contract.now names.now third.old }
+    ensures { third.new ≡ after_draft contract.now names.now third.old }
 {
     if third.len() < HEAD {
         return changes::malformed();

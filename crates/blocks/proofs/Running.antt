@@ -5,28 +5,28 @@ use native.Mathlib.Omega.{arith}
 use mathlib.Core.Path.{◌≡◌, refl, sym, ◌∙◌, ap, ap₂, subst}
 use mathlib.Core.List.{List, [], ◌∷◌}
 use lib.ListN.{length, get_or, drop, length-drop}
-use Rattle.paper.specs.Blocks.{Sums, sumsFrom, sumsOf}
+use Rattle.paper.specs.Blocks.{Sums, sums_from, sums_of}
 use Rattle.blocks.specs.Sealed.{TurnedWord, Added}
-use Rattle.blocks.proofs.Steps.{two-off}
+use Rattle.blocks.proofs.Steps.{two_off}
 
 -- a word may be added turned round, and to sums that are not reduced
 added : (x y : ℕ) (s : List ℕ) (a b : ℕ) → let c = a + (x + y * 256) in
-    sumsFrom (256 * a % 65535) (256 * b % 65535) (x ∷ y ∷ s) ≡ sumsFrom (256 * c % 65535) (256 * (b + c) % 65535) s
+    sums_from (256 * a % 65535) (256 * b % 65535) (x ∷ y ∷ s) ≡ sums_from (256 * c % 65535) (256 * (b + c) % 65535) s
 added x y s a b =
     let c = a + (x + y * 256) in
     let turned : (256 * a % 65535 + (x * 256 + y)) % 65535 ≡ 256 * c % 65535 = omega arith in
     let together : (256 * b % 65535 + 256 * c % 65535) % 65535 ≡ 256 * (b + c) % 65535 = omega arith in
-    ap (λ (n : ℕ). sumsFrom n ((256 * b % 65535 + n) % 65535) s) turned ∙ ap (λ (n : ℕ). sumsFrom (256 * c % 65535) n s) together
+    ap (λ (n : ℕ). sums_from n ((256 * b % 65535 + n) % 65535) s) turned ∙ ap (λ (n : ℕ). sums_from (256 * c % 65535) n s) together
 
 -- a single byte is no word
-no_word : (s : List ℕ) (a b : ℕ) → length s < 2 → sumsFrom a b s ≡ record { first = a; second = b }
+no_word : (s : List ℕ) (a b : ℕ) → length s < 2 → sums_from a b s ≡ record { first = a; second = b }
 no_word [] a b h = refl
 no_word (x ∷ []) a b h = refl
 no_word (x ∷ y ∷ s) a b h = absurd (omega arith)
 
 pub added_none : (s : List ℕ) → Added s 0 0 0
-unfolding sumsOf
-added_none s = record { inside = omega arith; first_small = omega arith; second-small = omega arith; rest = refl }
+unfolding sums_of
+added_none s = record { inside = omega arith; first_small = omega arith; second_small = omega arith; rest = refl }
 
 -- sums may be reduced before they are turned back
 reduced : (n : ℕ) → 256 * n % 65535 ≡ n % 65535 * 256 % 65535
@@ -35,20 +35,20 @@ reduced n =
     ap (λ (k : ℕ). k % 65535) whole ∙ add-mul-mod_self_left (n % 65535 * 256) 65535 (256 * (n / 65535))
 
 module _ {s : List ℕ} {i first second : ℕ} (so_far : Added s i first second) where
-  pub added-on : (w : ℕ) → length s ≤ 508 → 2 ≤ length s - i → TurnedWord s i w → Added s (i + 2) (first + w) (second + (first + w))
-  added-on w few more (e, small) =
-      let step : ℕ → Sums = λ w. sumsFrom (256 * (first + w) % 65535) (256 * (second + (first + w)) % 65535) (drop (i + 2) s) in
+  pub added_on : (w : ℕ) → length s ≤ 508 → 2 ≤ length s - i → TurnedWord s i w → Added s (i + 2) (first + w) (second + (first + w))
+  added_on w few more (e, small) =
+      let step : ℕ → Sums = λ w. sums_from (256 * (first + w) % 65535) (256 * (second + (first + w)) % 65535) (drop (i + 2) s) in
       record {
         inside = omega arith;
         first_small = omega arith;
-        second-small = omega arith;
+        second_small = omega arith;
         rest =
             ap step e ∙ sym (added (get_or s i 0) (get_or s (i + 1) 0) (drop (i + 2) s) first second)
-            ∙ sym (ap (sumsFrom (256 * first % 65535) (256 * second % 65535)) (two-off s i more)) ∙ so_far.rest;
+            ∙ sym (ap (sums_from (256 * first % 65535) (256 * second % 65535)) (two_off s i more)) ∙ so_far.rest;
       }
 
-  pub added-all : length s - i < 2 → sumsOf s ≡ record { first = first % 65535 * 256 % 65535; second = second % 65535 * 256 % 65535 }
-  added-all over =
+  pub added_all : length s - i < 2 → sums_of s ≡ record { first = first % 65535 * 256 % 65535; second = second % 65535 * 256 % 65535 }
+  added_all over =
       sym so_far.rest ∙ no_word (drop i s) (256 * first % 65535) (256 * second % 65535) (omega (arith, length-drop i s))
       ∙ ap₂ (λ (a b : ℕ). record { first = a; second = b }) (reduced first) (reduced second)
 

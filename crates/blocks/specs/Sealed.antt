@@ -1,11 +1,11 @@
 -- The check as the code holds it, and a block after which it is stored.
 use Rattle.std.specs.Prelude.{ℕ, ◌+◌, ◌*◌, ◌/◌, ◌%◌, ◌≤◌, ◌≡◌, List, length, get_or, take, drop, set}
 use Rattle.paper.specs.Blocks as P
-use Rattle.paper.specs.Blocks.{sumsFrom, sumsOf}
+use Rattle.paper.specs.Blocks.{sums_from, sums_of}
 use Rattle.blocks.specs.declared.sums.Sums.{Sums}
 
-abbrev pub sumsMeant : Sums → P.Sums
-sumsMeant s = record { first = s.first; second = s.second }
+abbrev pub sums_meant : Sums → P.Sums
+sums_meant s = record { first = s.first; second = s.second }
 
 -- a number is the word at an offset with its bytes the other way round
 abbrev pub TurnedWord : List ℕ → ℕ → ℕ → Type 0
@@ -16,10 +16,10 @@ TurnedWord s i w = (w ≡ get_or s i 0 + get_or s (i + 1) 0 * 256) × (w ≤ 655
 pub record Added (s : List ℕ) (i first second : ℕ) : Type 0 where
   pub inside : i ≤ length s
   pub first_small : 2 * first ≤ 65535 * i
-  pub second-small : 2 * second ≤ 254 * 65535 * i
-  pub rest : sumsFrom (256 * first % 65535) (256 * second % 65535) (drop i s) ≡ sumsOf s
+  pub second_small : 2 * second ≤ 254 * 65535 * i
+  pub rest : sums_from (256 * first % 65535) (256 * second % 65535) (drop i s) ≡ sums_of s
 
-abbrev pub sealedAt : List ℕ → List ℕ
-sealedAt b =
-    let c = sumsOf (take 508 b) in
+abbrev pub sealed_at : List ℕ → List ℕ
+sealed_at b =
+    let c = sums_of (take 508 b) in
     set (set (set (set b 508 (c.second / 256 % 256)) 509 (c.second % 256)) 510 (c.first / 256 % 256)) 511 (c.first % 256)

@@ -1,7 +1,7 @@
 // The numbers of a block.
 ghost use Rattle.std.specs.Prelude.{◌≡◌, ◌+◌, ◌≤◌, ◌<◌, length};
 ghost use Rattle.paper.specs.Numbers.{number_at};
-ghost use Rattle.paper.specs.Blocks.{blocksNeeded};
+ghost use Rattle.paper.specs.Blocks.{blocks_needed};
 ghost use Rattle.blocks.specs.Fields.{BlockOf};
 
 // What a block says of itself.
@@ -64,7 +64,7 @@ impl Block {
 
     // How many blocks hold n instructions.
     pub fn needed(n: usize) -> usize
-        ensures { result ≡ blocksNeeded n }
+        ensures { result ≡ blocks_needed n }
     {
         if n % Block::INSTRUCTIONS == 0 {
             return n / Block::INSTRUCTIONS;

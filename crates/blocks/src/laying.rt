@@ -1,10 +1,10 @@
 // Refusals 16 and 17: whether blocks are laid out as they must be.
 ghost use Rattle.std.specs.Prelude.{◌≡◌, ◌&&◌, ◌+◌, ◌*◌, ◌/◌, ◌%◌, ◌≤◌, ◌<◌, eqb, length, get_or, take};
-ghost use Rattle.paper.specs.Answers.{countedSays};
+ghost use Rattle.paper.specs.Answers.{counted_says};
 ghost use Rattle.paper.specs.Numbers.{bytes_at};
-ghost use Rattle.paper.specs.Tokens.{sameBytes};
-ghost use Rattle.paper.specs.Blocks.{mostBlocks, countOk, countsFrom, checkOf};
-ghost use Rattle.blocks.specs.Layout.{laidOut, blockRight};
+ghost use Rattle.paper.specs.Tokens.{same_bytes};
+ghost use Rattle.paper.specs.Blocks.{most_blocks, count_ok, counts_from, check_of};
+ghost use Rattle.blocks.specs.Layout.{laid_out, block_right};
 
 use crate::fields::{Block, two_bytes};
 use crate::sums::sums_of;
@@ -13,7 +13,7 @@ use spelling::bytes;
 
 // 25 except in the last block, where it is 1 to 25.
 fn count_right(later: usize, count: usize) -> bool
-    ensures { result ≡ countOk later count }
+    ensures { result ≡ count_ok later count }
 {
     if later == 0 {
         return (1 <= count) & (count <= Block::INSTRUCTIONS);
@@ -37,7 +37,7 @@ fn spells(block: &[u8], at: usize, sum: u32) -> bool
 
 fn check_right(block: &[u8]) -> bool
     requires { length block.now ≡ 512 }
-    ensures { result ≡ sameBytes (bytes_at block.now 508 4) (checkOf (take 508 block.now)) }
+    ensures { result ≡ same_bytes (bytes_at block.now 508 4) (check_of (take 508 block.now)) }
 {
     let sums = sums_of(&block[..Block::CHECK]);
     spells(block, Block::CHECK, sums.second) & spells(block, Block::CHECK_FIRST, sums.first)
@@ -46,7 +46,7 @@ fn check_right(block: &[u8]) -> bool
 // Block k, after which so many stand, in blocks of a total count for a number of keys.
 fn block_right(block: &[u8], k: usize, later: usize, total: usize, keys: usize) -> bool
     requires { length block.now ≡ 512 }
-    ensures { result ≡ blockRight keys total k later block.now }
+    ensures { result ≡ block_right keys total k later block.now }
 {
     let b = Block::read(block);
     if b.number != k {
@@ -71,8 +71,8 @@ fn block_right(block: &[u8], k: usize, later: usize, total: usize, keys: usize) 
 
 // The counts of n blocks, added up as they stand.
 fn total_of(blocks: &[u8], n: usize) -> usize
-    requires { (n ≤ mostBlocks) × (n * 512 ≤ length blocks.now) }
-    ensures { result ≡ countsFrom blocks.now 0 n }
+    requires { (n ≤ most_blocks) × (n * 512 ≤ length blocks.now) }
+    ensures { result ≡ counts_from blocks.now 0 n }
 {
     let mut sum = 0;
     let mut k = 0;
@@ -85,7 +85,7 @@ fn total_of(blocks: &[u8], n: usize) -> usize
 
 // How many instructions the blocks hold for a number of keys, or their refusal, 16 or 17.
 pub fn layout(blocks: &[u8], keys: usize) -> Counted
-    ensures { countedSays result ≡ laidOut keys blocks.now }
+    ensures { counted_says result ≡ laid_out keys blocks.now }
 {
     let size = blocks.len();
     if size == 0 {

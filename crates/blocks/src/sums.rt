@@ -1,7 +1,7 @@
 // The check: two sums over the big-endian 16-bit words before it, both modulo 65,535.
 ghost use Rattle.std.specs.Prelude.{◌≡◌, ◌*◌, ◌+◌, ◌/◌, ◌≤◌, ◌<◌, length};
-ghost use Rattle.paper.specs.Blocks.{sumsOf};
-ghost use Rattle.blocks.specs.Sealed.{sumsMeant, TurnedWord, Added, sealedAt};
+ghost use Rattle.paper.specs.Blocks.{sums_of};
+ghost use Rattle.blocks.specs.Sealed.{sums_meant, TurnedWord, Added, sealed_at};
 
 #[derive(Drop)]
 pub struct Sums {
@@ -59,7 +59,7 @@ fn sums_of_fours(s: &[u8]) -> Sums
 // They are reduced once, at the end: unreduced sums of 508 bytes stay below 2^32.
 pub(crate) fn sums_of(s: &[u8]) -> Sums
     requires { length s.now ≤ 508 }
-    ensures { (sumsMeant result ≡ sumsOf s.now) × (result.first < 65535) × (result.second < 65535) }
+    ensures { (sums_meant result ≡ sums_of s.now) × (result.first < 65535) × (result.second < 65535) }
 {
     let fours = sums_of_fours(s);
     let mut first = fours.first;
@@ -79,7 +79,7 @@ pub(crate) fn sums_of(s: &[u8]) -> Sums
 // Stores the check of a block's first 508 bytes after them.
 pub(crate) fn seal(block: &mut [u8])
     requires { length block.old ≡ 512 }
-    ensures { block.new ≡ sealedAt block.old }
+    ensures { block.new ≡ sealed_at block.old }
 {
     let sums = sums_of(&block[..508]);
     block[508] = (sums.second / 256 % 256) as u8;

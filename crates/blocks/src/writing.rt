@@ -1,10 +1,10 @@
 // Writing blocks: the bytes of instructions, 25 to a block, with the block's numbers and its check.
 ghost use Rattle.std.specs.Prelude.{◌≡◌, ◌+◌, ◌*◌, ◌/◌, ◌≤◌, length};
 ghost use Rattle.std.proofs.lemmas.List.Edits.{sets};
-ghost use Rattle.paper.specs.Numbers.{bigEndian, bytes_at};
-ghost use Rattle.paper.specs.Blocks.{blocksNeeded};
+ghost use Rattle.paper.specs.Numbers.{big_endian, bytes_at};
+ghost use Rattle.paper.specs.Blocks.{blocks_needed};
 ghost use Rattle.paper.specs.Calls.{over};
-ghost use Rattle.blocks.specs.Written.{padded, coded_block, block_at, codedBlocks};
+ghost use Rattle.blocks.specs.Written.{padded, coded_block, block_at, coded_blocks};
 
 use crate::fields::Block;
 use crate::sums::seal;
@@ -12,7 +12,7 @@ use spelling::bytes;
 
 fn put_two_bytes(out: &mut [u8], at: usize, n: usize)
     requires { at + 2 ≤ length out.old }
-    ensures { out.new ≡ sets out.old at (bigEndian 2 n) }
+    ensures { out.new ≡ sets out.old at (big_endian 2 n) }
 {
     out[at] = (n / 256 % 256) as u8;
     out[at + 1] = (n % 256) as u8;
@@ -73,8 +73,8 @@ fn put_block(code: &[u8], k: usize, total: usize, keys: usize, buffer: &mut [u8]
 
 // Writes the blocks of the instructions whose bytes are lent into the buffer's first bytes; every later byte stays.
 pub fn write_blocks(code: &[u8], keys: usize, buffer: &mut [u8])
-    requires { 512 * blocksNeeded (length code.now / 20) ≤ length buffer.old }
-    ensures { buffer.new ≡ over (codedBlocks keys code.now) buffer.old }
+    requires { 512 * blocks_needed (length code.now / 20) ≤ length buffer.old }
+    ensures { buffer.new ≡ over (coded_blocks keys code.now) buffer.old }
 {
     let total = code.len() / Block::INSTRUCTION;
     let n = Block::needed(total);

@@ -14,9 +14,9 @@ use borrow.Author.Tests.{ltb-true, lt-ltb, le-ltb, lt-leb}
 use Rattle.paper.specs.Numbers.{byte_at, bytes_at}
 use Rattle.paper.specs.Tokens.{span}
 use Rattle.spelling.proofs.Spans.{cut}
-use Rattle.cases.specs.Places.{stopFrom}
+use Rattle.cases.specs.Places.{stop_from}
 use Rattle.cases.specs.Names.{longer, words_of}
-use Rattle.cases.specs.Words.{value_at, spelled, word_bytes, nextWord, wordsFrom, lineBytes}
+use Rattle.cases.specs.Words.{value_at, spelled, word_bytes, next_word, words_from, line_bytes}
 use Rattle.cases.specs.Inputs.{heads, last_of, gives}
 
 -- the bytes up to an offset, from one before it on
@@ -25,13 +25,13 @@ bytes_on s i to h l =
     let e : to - i ≡ suc (to - (i + 1)) = omega arith in
     rw (e, cut s i (omega arith))
 
-pub bytes-none : (s : List ℕ) (i to : ℕ) → to ≤ i → bytes_at s i (to - i) ≡ []
-bytes-none s i to h = let e : to - i ≡ 0 = omega arith in rw e
+pub bytes_none : (s : List ℕ) (i to : ℕ) → to ≤ i → bytes_at s i (to - i) ≡ []
+bytes_none s i to h = let e : to - i ≡ 0 = omega arith in rw e
 
 -- the first word, and those after it
-words-cut : (s : List ℕ) → 0 < length s → words_of s ≡ take (span (ltb 32) s) s ∷ words_of (drop (suc (span (ltb 32) s)) s)
-words-cut [] h = absurd (omega arith)
-words-cut (b ∷ s) h = go s (ltb 32 b) refl (words-cut s)
+words_cut : (s : List ℕ) → 0 < length s → words_of s ≡ take (span (ltb 32) s) s ∷ words_of (drop (suc (span (ltb 32) s)) s)
+words_cut [] h = absurd (omega arith)
+words_cut (b ∷ s) h = go s (ltb 32 b) refl (words_cut s)
   where
     go : (s : List ℕ) (t : Bool) → ltb 32 b ≡ t
         → (0 < length s → words_of s ≡ take (span (ltb 32) s) s ∷ words_of (drop (suc (span (ltb 32) s)) s))
@@ -46,7 +46,7 @@ first_word s at end h e =
     let n = span (ltb 32) (drop at s) in
     let size : end - at ≡ n = omega arith in
     let past : at + suc n ≡ end + 1 = omega arith in
-    words-cut (drop at s) (omega (arith, length-drop at s))
+    words_cut (drop at s) (omega (arith, length-drop at s))
     ∙ ap₂ (λ (w r : List ℕ). w ∷ words_of r) (ap (λ (m : ℕ). take m (drop at s)) (sym size)) (drop-drop (suc n) at s ∙ ap (λ (m : ℕ). drop m s) past)
 
 -- the values between two offsets, one at a time: a width is 1 or 2
@@ -58,70 +58,70 @@ module _ (width : ℕ) (s : List ℕ) (i to : ℕ) (some : 0 < width) (few : wid
   abbrev left : ℕ → ℕ
   left at = (to - at + (width - 1)) / width
 
-  left-on : i < to → left i ≡ suc (left (i + width))
-  left-on h = ⊎_elim (λ e. rw e (omega arith)) (λ e. rw e (omega arith)) (widths width some few)
+  left_on : i < to → left i ≡ suc (left (i + width))
+  left_on h = ⊎_elim (λ e. rw e (omega arith)) (λ e. rw e (omega arith)) (widths width some few)
 
-  left-none : to ≤ i → left i ≡ 0
-  left-none h = ⊎_elim (λ e. rw e (omega arith)) (λ e. rw e (omega arith)) (widths width some few)
+  left_none : to ≤ i → left i ≡ 0
+  left_none h = ⊎_elim (λ e. rw e (omega arith)) (λ e. rw e (omega arith)) (widths width some few)
 
-  pub spelled-on : i < to → spelled width s i to ≡ value_at width s i ∷ spelled width s (i + width) to
-  spelled-on h = rw (left-on h)
+  pub spelled_on : i < to → spelled width s i to ≡ value_at width s i ∷ spelled width s (i + width) to
+  spelled_on h = rw (left_on h)
 
   pub spelled_none : to ≤ i → spelled width s i to ≡ []
-  spelled_none h = rw (left-none h)
+  spelled_none h = rw (left_none h)
 
 -- the words of a line, one at a time
 
-span-inside : (p : ℕ → Bool) (s : List ℕ) → span p s ≤ length s
-span-inside p [] = omega arith
-span-inside p (b ∷ s) = go (p b) refl (span-inside p s)
+span_inside : (p : ℕ → Bool) (s : List ℕ) → span p s ≤ length s
+span_inside p [] = omega arith
+span_inside p (b ∷ s) = go (p b) refl (span_inside p s)
   where
     go : (t : Bool) → p b ≡ t → span p s ≤ length s → span p (b ∷ s) ≤ length (b ∷ s)
     go true e i = rw e (omega arith)
     go false e i = rw e (omega arith)
 
-next-onward : (s : List ℕ) (end : ℕ) → end ≤ length s → end < nextWord s end
-next-onward s end l = go (eqb (byte_at s end) 10) refl (eqb (byte_at s (end + 1)) 32) refl
+next_onward : (s : List ℕ) (end : ℕ) → end ≤ length s → end < next_word s end
+next_onward s end l = go (eqb (byte_at s end) 10) refl (eqb (byte_at s (end + 1)) 32) refl
   where
-    go : (t : Bool) → eqb (byte_at s end) 10 ≡ t → (u : Bool) → eqb (byte_at s (end + 1)) 32 ≡ u → end < nextWord s end
+    go : (t : Bool) → eqb (byte_at s end) 10 ≡ t → (u : Bool) → eqb (byte_at s (end + 1)) 32 ≡ u → end < next_word s end
     go true e true f = rw (e, f) (omega arith)
     go true e false f = rw (e, f) (omega arith)
     go false e u f = rw e (omega arith)
 
 abbrev following : List ℕ → ℕ → ℕ
-following s at = nextWord s (stopFrom s at 32)
+following s at = next_word s (stop_from s at 32)
 
-following-onward : (s : List ℕ) (at : ℕ) → at < length s → at < following s at
-following-onward s at h =
-    let inside : stopFrom s at 32 ≤ length s = omega (arith, span-inside (ltb 32) (drop at s), length-drop at s) in
-    omega (arith, next-onward s (stopFrom s at 32) inside)
+following_onward : (s : List ℕ) (at : ℕ) → at < length s → at < following s at
+following_onward s at h =
+    let inside : stop_from s at 32 ≤ length s = omega (arith, span_inside (ltb 32) (drop at s), length-drop at s) in
+    omega (arith, next_onward s (stop_from s at 32) inside)
 
 -- as many words as there are bytes are enough
-words-enough : (n m : ℕ) (s : List ℕ) (at : ℕ) → length s - at ≤ n → n ≤ m → wordsFrom n s at ≡ wordsFrom m s at
-words-enough zero zero s at h l = refl
-words-enough zero (suc m) s at h l = rw (le-ltb at (length s) (omega arith))
-words-enough (suc n) zero s at h l = absurd (omega arith)
-words-enough (suc n) (suc m) s at h l = go (ltb at (length s)) refl (λ k. words-enough n m s (following s at) k (omega arith))
+words_enough : (n m : ℕ) (s : List ℕ) (at : ℕ) → length s - at ≤ n → n ≤ m → words_from n s at ≡ words_from m s at
+words_enough zero zero s at h l = refl
+words_enough zero (suc m) s at h l = rw (le-ltb at (length s) (omega arith))
+words_enough (suc n) zero s at h l = absurd (omega arith)
+words_enough (suc n) (suc m) s at h l = go (ltb at (length s)) refl (λ k. words_enough n m s (following s at) k (omega arith))
   where
     go : (t : Bool) → ltb at (length s) ≡ t
-        → (length s - following s at ≤ n → wordsFrom n s (following s at) ≡ wordsFrom m s (following s at))
-        → wordsFrom (suc n) s at ≡ wordsFrom (suc m) s at
+        → (length s - following s at ≤ n → words_from n s (following s at) ≡ words_from m s (following s at))
+        → words_from (suc n) s at ≡ words_from (suc m) s at
     go true e i =
-        let onward = following-onward s at (ltb-true at (length s) e) in
-        rw e (ap (λ (r : List ℕ). word_bytes s at (stopFrom s at 32) ++ r) (i (omega arith)))
+        let onward = following_onward s at (ltb-true at (length s) e) in
+        rw e (ap (λ (r : List ℕ). word_bytes s at (stop_from s at 32) ++ r) (i (omega arith)))
     go false e i = rw e
 
-pub line_on : (s : List ℕ) (at : ℕ) → at < length s → lineBytes s at ≡ word_bytes s at (stopFrom s at 32) ++ lineBytes s (following s at)
+pub line_on : (s : List ℕ) (at : ℕ) → at < length s → line_bytes s at ≡ word_bytes s at (stop_from s at 32) ++ line_bytes s (following s at)
 line_on s at h =
     let n = length s - (at + 1) in
     let some : length s - at ≡ suc n = omega arith in
-    let onward = following-onward s at h in
-    ap (λ (m : ℕ). wordsFrom m s at) some
+    let onward = following_onward s at h in
+    ap (λ (m : ℕ). words_from m s at) some
     ∙ rw (lt-ltb at (length s) h)
-    (ap (λ (r : List ℕ). word_bytes s at (stopFrom s at 32) ++ r) (sym (words-enough (length s - following s at) n s (following s at) (omega arith) (omega arith))))
+    (ap (λ (r : List ℕ). word_bytes s at (stop_from s at 32) ++ r) (sym (words_enough (length s - following s at) n s (following s at) (omega arith) (omega arith))))
 
-pub line-none : (s : List ℕ) (at : ℕ) → length s ≤ at → lineBytes s at ≡ []
-line-none s at h = let none : length s - at ≡ 0 = omega arith in rw none
+pub line_none : (s : List ℕ) (at : ℕ) → length s ≤ at → line_bytes s at ≡ []
+line_none s at h = let none : length s - at ≡ 0 = omega arith in rw none
 
 -- lines, by where they begin
 
@@ -136,23 +136,23 @@ skip (b ∷ s) at = go (ltb 10 b) refl (skip s (at + 1))
         rw e (i ∙ ap (λ (j : ℕ). heads j true (drop (suc (span (ltb 10) s)) s)) one)
     go false e i = rw (e, add-zero)
 
-heads-cut : (s : List ℕ) (at : ℕ) → 0 < length s → heads at true s ≡ at ∷ heads (at + span (ltb 10) s + 1) true (drop (suc (span (ltb 10) s)) s)
-heads-cut [] at h = absurd (omega arith)
-heads-cut (b ∷ s) at h = ap (λ (r : List ℕ). at ∷ r) (skip (b ∷ s) at)
+heads_cut : (s : List ℕ) (at : ℕ) → 0 < length s → heads at true s ≡ at ∷ heads (at + span (ltb 10) s + 1) true (drop (suc (span (ltb 10) s)) s)
+heads_cut [] at h = absurd (omega arith)
+heads_cut (b ∷ s) at h = ap (λ (r : List ℕ). at ∷ r) (skip (b ∷ s) at)
 
-pub line-head : (s : List ℕ) (at : ℕ) → at < length s → heads at true (drop at s) ≡ at ∷ heads (stopFrom s at 10 + 1) true (drop (stopFrom s at 10 + 1) s)
-line-head s at h =
+pub line_head : (s : List ℕ) (at : ℕ) → at < length s → heads at true (drop at s) ≡ at ∷ heads (stop_from s at 10 + 1) true (drop (stop_from s at 10 + 1) s)
+line_head s at h =
     let n = span (ltb 10) (drop at s) in
     let past : at + suc n ≡ at + n + 1 = omega arith in
-    heads-cut (drop at s) at (omega (arith, length-drop at s))
+    heads_cut (drop at s) at (omega (arith, length-drop at s))
     ∙ ap (λ (r : List ℕ). at ∷ heads (at + n + 1) true r) (drop-drop (suc n) at s ∙ ap (λ (m : ℕ). drop m s) past)
 
 -- no line past an offset is among those up to it
-pub heads-past : (file : List ℕ) (to input : ℕ) (s : List ℕ) (at : ℕ) (begins : Bool) (none : ℕ) → to < at
+pub heads_past : (file : List ℕ) (to input : ℕ) (s : List ℕ) (at : ℕ) (begins : Bool) (none : ℕ) → to < at
     → last_of (gives file to input) none (heads at begins s) ≡ none
-heads-past file to input [] at begins none h = refl
-heads-past file to input (b ∷ s) at true none h =
+heads_past file to input [] at begins none h = refl
+heads_past file to input (b ∷ s) at true none h =
     let later : cond (gives file to input at) at none ≡ none = rw (lt-leb at to h) in
     ap (λ (n : ℕ). last_of (gives file to input) n (heads (at + 1) (not (ltb 10 b)) s)) later
-    ∙ heads-past file to input s (at + 1) (not (ltb 10 b)) none (omega arith)
-heads-past file to input (b ∷ s) at false none h = heads-past file to input s (at + 1) (not (ltb 10 b)) none (omega arith)
+    ∙ heads_past file to input s (at + 1) (not (ltb 10 b)) none (omega arith)
+heads_past file to input (b ∷ s) at false none h = heads_past file to input s (at + 1) (not (ltb 10 b)) none (omega arith)

@@ -16,8 +16,8 @@ sets_more l i (v ∷ x) y =
     ap (λ (j : ℕ). sets (sets l i (v ∷ x)) j y) e ∙ sets_more (set l i v) (suc i) x y
 
 -- of two parts, the second as far as the first leaves room
-take-both : (n : ℕ) (a b : List ℕ) → take n (a ++ b) ≡ take n a ++ take (n - length a) b
-take-both n a b =
+take_both : (n : ℕ) (a b : List ℕ) → take n (a ++ b) ≡ take n a ++ take (n - length a) b
+take_both n a b =
     elim (dec_lt n (length a)) [
       | yes h ↦
           let none : n - length a ≡ 0 = omega arith in
@@ -31,30 +31,30 @@ take-both n a b =
 pub put_as : {room after : List ℕ} {at end : ℕ} {a b : List ℕ} → a ≡ b → Put room at a after end → Put room at b after end
 put_as {room} {after} {at} {end} e h = subst (λ (n : List ℕ). Put room at n after end) e h
 
-pub put-none : (room : List ℕ) (at : ℕ) → Put room at [] room at
-put-none room at = record { holds = rw take-nil; next = rw take-nil (sym (add-zero at)) }
+pub put_none : (room : List ℕ) (at : ℕ) → Put room at [] room at
+put_none room at = record { holds = rw take-nil; next = rw take-nil (sym (add-zero at)) }
 
 pub put_full : (room : List ℕ) (at : ℕ) (new : List ℕ) → length room ≤ at → Put room at new room at
 put_full room at new h =
     let none : length room - at ≡ 0 = omega arith in
     record { holds = rw none; next = rw none (sym (add-zero at)) }
 
-one-taken : (n b : ℕ) → take (suc n) (b ∷ []) ≡ b ∷ []
-one-taken n b = ap (λ (r : List ℕ). b ∷ r) (take-nil n)
+one_taken : (n b : ℕ) → take (suc n) (b ∷ []) ≡ b ∷ []
+one_taken n b = ap (λ (r : List ℕ). b ∷ r) (take-nil n)
 
 pub put_byte : (room : List ℕ) (at b : ℕ) → at < length room → Put room at (b ∷ []) (set room at b) (at + 1)
 put_byte room at b h =
     let some : length room - at ≡ suc (length room - (at + 1)) = omega arith in
-    record { holds = rw (some, one-taken); next = sym (ap (λ (l : List ℕ). at + length l) (ap (λ (n : ℕ). take n (b ∷ [])) some ∙ one-taken (length room - (at + 1)) b)) }
+    record { holds = rw (some, one_taken); next = sym (ap (λ (l : List ℕ). at + length l) (ap (λ (n : ℕ). take n (b ∷ [])) some ∙ one_taken (length room - (at + 1)) b)) }
 
-pub put-more : {room first last : List ℕ} {at end past : ℕ} {a b : List ℕ} → Put room at a first end → Put first end b last past → Put room at (a ++ b) last past
-put-more {room} {first} {last} {at} {end} {past} {a} {b} p q =
+pub put_more : {room first last : List ℕ} {at end past : ℕ} {a b : List ℕ} → Put room at a first end → Put first end b last past → Put room at (a ++ b) last past
+put_more {room} {first} {last} {at} {end} {past} {a} {b} p q =
     let free = length room - at in
     let x = take free a in
     let y = take (free - length a) b in
     let size : length first ≡ length room = ap length p.holds ∙ length-sets room at x in
     let rest : length first - end ≡ free - length a = omega (arith, length-take free a, p.next) in
-    let both : take free (a ++ b) ≡ x ++ y = take-both free a b in
+    let both : take free (a ++ b) ≡ x ++ y = take_both free a b in
     let long : length (take free (a ++ b)) ≡ length x + length y = ap length both ∙ length-append x y in
     record {
       holds =
@@ -65,12 +65,12 @@ put-more {room} {first} {last} {at} {end} {past} {a} {b} p q =
 
 -- copies, one after another
 
-copies-more : (n : ℕ) (w : List ℕ) → copies n w ++ w ≡ copies (suc n) w
-copies-more zero w = sym (append-nil w)
-copies-more (suc n) w = append_assoc w (copies n w) w ∙ ap (λ (r : List ℕ). w ++ r) (copies-more n w)
+copies_more : (n : ℕ) (w : List ℕ) → copies n w ++ w ≡ copies (suc n) w
+copies_more zero w = sym (append-nil w)
+copies_more (suc n) w = append_assoc w (copies n w) w ∙ ap (λ (r : List ℕ). w ++ r) (copies_more n w)
 
 pub put_copy : {room first last : List ℕ} {at end past : ℕ} {w : List ℕ} (times left : ℕ) → 0 < left → left ≤ times
     → Put room at (copies (times - left) w) first end → Put first end w last past → Put room at (copies (times - (left - 1)) w) last past
 put_copy {w} times left h l p q =
     let one : times - (left - 1) ≡ suc (times - left) = omega arith in
-    rw one (put_as (copies-more (times - left) w) (put-more p q))
+    rw one (put_as (copies_more (times - left) w) (put_more p q))

@@ -1,6 +1,6 @@
 // The inputs of a call: each is what the last line of its kind gives.
 ghost use Rattle.std.specs.Prelude.{◌≤◌, ◌≡◌, cond, length};
-ghost use Rattle.cases.specs.Inputs.{input_at, lastLine, inputBytes};
+ghost use Rattle.cases.specs.Inputs.{input_at, last_line, input_bytes};
 ghost use Rattle.cases.specs.Words.{Put};
 
 use crate::names::{TEXT, command_at};
@@ -27,7 +27,7 @@ fn picked(holds: bool, at: usize, other: usize) -> usize
 
 // Where the last line up to an offset begins that gives an input; the file's end where there is none.
 pub(crate) fn last(file: &[u8], to: usize, input: usize) -> usize
-    ensures { (result ≡ lastLine file.now to input) × (result ≤ length file.now) }
+    ensures { (result ≡ last_line file.now to input) × (result ≤ length file.now) }
 {
     let mut found = file.len();
     let mut at = 0;
@@ -43,7 +43,7 @@ pub(crate) fn last(file: &[u8], to: usize, input: usize) -> usize
 
 // Puts an input into a room: what stands after a colon as it is, or the bytes of words.
 pub(crate) fn put_input(file: &[u8], at: usize, input: usize, room: &mut [u8], to: usize) -> usize
-    ensures { Put room.old to (inputBytes file.now at input) room.new result }
+    ensures { Put room.old to (input_bytes file.now at input) room.new result }
 {
     let end = scan(file, last(file, at, input), b':');
     if byte_at(file, end) == b':' {

@@ -1,6 +1,6 @@
 // The commands, by the places of their names in a list: the first eight give what calls are lent, and the last fifteen print an answer.
 ghost use Rattle.std.specs.Prelude.{◌≤◌, ◌≡◌, length};
-ghost use Rattle.cases.specs.Names.{words_of, place_in, commandAt};
+ghost use Rattle.cases.specs.Names.{words_of, place_in, command_at};
 
 use crate::scan::{part, scan};
 use spelling::bytes::same_bytes;
@@ -83,7 +83,7 @@ fn place_in(words: &[u8], word: &[u8]) -> usize
 // The command of the line at an offset.
 pub(crate) fn command_at(file: &[u8], at: usize) -> usize
     requires { at ≤ length file.now }
-    ensures { result ≡ commandAt file.now at }
+    ensures { result ≡ command_at file.now at }
 {
     place_in(
         b"text list entry old earlier table answers room title change show every code blocks translate print fix_octal pact read check judge explain summarize recheck compare count load run run_all",

@@ -2,14 +2,14 @@
 // stand after a count (`13*00`).
 ghost use Rattle.std.specs.Prelude.{◌+◌, ◌≤◌, ◌<◌, ◌≡◌, length};
 ghost use Rattle.paper.specs.Numbers.{byte_at};
-ghost use Rattle.paper.specs.Tokens.{digitOf};
-ghost use Rattle.cases.specs.Words.{number_in, value_at, spelled, quotesAt, quoted, copies, word_bytes, nextWord, lineBytes, Put};
+ghost use Rattle.paper.specs.Tokens.{digit_of};
+ghost use Rattle.cases.specs.Words.{number_in, value_at, spelled, quotes_at, quoted, copies, word_bytes, next_word, line_bytes, Put};
 
 use crate::scan::{byte_at, not_understood, scan};
 use spelling::bytes::digit_of;
 
 fn digit(s: &[u8], at: usize, base: u8) -> usize
-    ensures { (result ≡ digitOf (byte_at s.now at)) × (result < 256) }
+    ensures { (result ≡ digit_of (byte_at s.now at)) × (result < 256) }
 {
     let d = digit_of(byte_at(s, at));
     if base <= d {
@@ -72,7 +72,7 @@ pub(crate) fn put(
 
 // How many quotes stand before the bytes of a word.
 fn quotes_at(s: &[u8], at: usize) -> usize
-    ensures { (result ≡ quotesAt s.now at) × (result ≤ 1) }
+    ensures { (result ≡ quotes_at s.now at) × (result ≤ 1) }
 {
     if byte_at(s, at) == b'\'' { 1 } else { 0 }
 }
@@ -107,7 +107,7 @@ fn put_word(s: &[u8], from: usize, to: usize, room: &mut [u8], at: usize) -> usi
 // Where the next word may stand: after a blank, or in a line that begins with a blank, and else nowhere.
 fn next_word(s: &[u8], end: usize) -> usize
     requires { end ≤ length s.now }
-    ensures { (result ≡ nextWord s.now end) × (end < result) }
+    ensures { (result ≡ next_word s.now end) × (end < result) }
 {
     if byte_at(s, end) != b'\n' {
         return end + 1;
@@ -120,7 +120,7 @@ fn next_word(s: &[u8], end: usize) -> usize
 
 // Puts the bytes of all words of a line and of the lines that go on with it.
 pub(crate) fn put_words(s: &[u8], from: usize, room: &mut [u8], at: usize) -> usize
-    ensures { Put room.old at (lineBytes s.now from) room.new result }
+    ensures { Put room.old at (line_bytes s.now from) room.new result }
 {
     let mut end = at;
     let mut i = from;

@@ -12,37 +12,37 @@ use lib.Seq.{get_or-set_same, get_or-set_other}
 use lib.Dec.{leb}
 use borrow.Author.Tests.{leb-true}
 use Rattle.paper.specs.Code.{Instruction, encode}
-use Rattle.paper.specs.Comparing.{recordsFrom, written, sameRecords, asJoined, nothing, picked, pick, fits}
+use Rattle.paper.specs.Comparing.{records_from, written, same_records, as_joined, nothing, picked, pick, fits}
 use Rattle.parts.specs.Rows.{each}
-use Rattle.parts.proofs.Stored.{each-length}
-use Rattle.comparing.specs.Picking.{firstFrom, isFree, passing, ends_with, lastFree, comesLast}
-use Rattle.comparing.proofs.Rows.{blocks-length, blocks-take}
+use Rattle.parts.proofs.Stored.{each_length}
+use Rattle.comparing.specs.Picking.{first_from, is_free, passing, ends_with, last_free, comes_last}
+use Rattle.comparing.proofs.Rows.{blocks_length, blocks_take}
 
 -- the first index that passes a test
 
 module _ (test : ℕ → Bool) where
-  pub first-low : (k n : ℕ) → k ≤ firstFrom test k n
-  first-low k zero = omega arith
-  first-low k (suc n) = go (test k) (first-low (suc k) n)
+  pub first_low : (k n : ℕ) → k ≤ first_from test k n
+  first_low k zero = omega arith
+  first_low k (suc n) = go (test k) (first_low (suc k) n)
     where
-      go : (b : Bool) → suc k ≤ firstFrom test (suc k) n → k ≤ cond b k (firstFrom test (suc k) n)
+      go : (b : Bool) → suc k ≤ first_from test (suc k) n → k ≤ cond b k (first_from test (suc k) n)
       go true h = omega arith
       go false h = omega arith
 
-  pub first-high : (k n : ℕ) → firstFrom test k n ≤ k + n
-  first-high k zero = omega arith
-  first-high k (suc n) = go (test k) (first-high (suc k) n)
+  pub first_high : (k n : ℕ) → first_from test k n ≤ k + n
+  first_high k zero = omega arith
+  first_high k (suc n) = go (test k) (first_high (suc k) n)
     where
-      go : (b : Bool) → firstFrom test (suc k) n ≤ suc k + n → cond b k (firstFrom test (suc k) n) ≤ k + suc n
+      go : (b : Bool) → first_from test (suc k) n ≤ suc k + n → cond b k (first_from test (suc k) n) ≤ k + suc n
       go true h = omega arith
       go false h = omega arith
 
-  pub first_passes : (k n : ℕ) → firstFrom test k n < k + n → test (firstFrom test k n) ≡ true
+  pub first_passes : (k n : ℕ) → first_from test k n < k + n → test (first_from test k n) ≡ true
   first_passes k zero h = absurd (omega arith)
   first_passes k (suc n) h = go (test k) refl h (first_passes (suc k) n)
     where
-      go : (b : Bool) → test k ≡ b → cond b k (firstFrom test (suc k) n) < k + suc n
-          → (firstFrom test (suc k) n < suc k + n → test (firstFrom test (suc k) n) ≡ true) → test (cond b k (firstFrom test (suc k) n)) ≡ true
+      go : (b : Bool) → test k ≡ b → cond b k (first_from test (suc k) n) < k + suc n
+          → (first_from test (suc k) n < suc k + n → test (first_from test (suc k) n) ≡ true) → test (cond b k (first_from test (suc k) n)) ≡ true
       go true e h later = e
       go false e h later = later (omega arith)
 
@@ -50,9 +50,9 @@ module _ (test : ℕ → Bool) where
 
   module _ (n : ℕ) where
     abbrev pub first_of : ℕ → ℕ
-    first_of k = firstFrom test k (n - k)
+    first_of k = first_from test k (n - k)
 
-    pub from_first : first_of 0 ≡ firstFrom test 0 n
+    pub from_first : first_of 0 ≡ first_from test 0 n
     from_first = rw sub-zero
 
     pub stops : (k : ℕ) → k < n → test k ≡ true → first_of k ≡ k
@@ -73,17 +73,17 @@ module _ (test : ℕ → Bool) where
 
 -- the codes that pass
 
-passing-same : (test other : ℕ → Bool) (cs : ℕ → List Instruction) (k n : ℕ) → ((j : ℕ) → k ≤ j → other j ≡ test j)
+passing_same : (test other : ℕ → Bool) (cs : ℕ → List Instruction) (k n : ℕ) → ((j : ℕ) → k ≤ j → other j ≡ test j)
     → passing other cs k n ≡ passing test cs k n
-passing-same test other cs k zero same = refl
-passing-same test other cs k (suc n) same =
-    let rest = passing-same test other cs (suc k) n (λ j h. same j (omega arith)) in
+passing_same test other cs k zero same = refl
+passing_same test other cs k (suc n) same =
+    let rest = passing_same test other cs (suc k) n (λ j h. same j (omega arith)) in
     rw (same k (omega arith), rest)
 
-pub passing-all : (test : ℕ → Bool) (cs : ℕ → List Instruction) (k n : ℕ) → ((j : ℕ) → j < k + n → test j ≡ true) → passing test cs k n ≡ each cs k n
+pub passing_all : (test : ℕ → Bool) (cs : ℕ → List Instruction) (k n : ℕ) → ((j : ℕ) → j < k + n → test j ≡ true) → passing test cs k n ≡ each cs k n
 unfolding each
-passing-all test cs k zero all = refl
-passing-all test cs k (suc n) all = rw (all k (omega arith), passing-all test cs (suc k) n (λ j h. all j (omega arith)))
+passing_all test cs k zero all = refl
+passing_all test cs k (suc n) all = rw (all k (omega arith), passing_all test cs (suc k) n (λ j h. all j (omega arith)))
 
 -- one of them no more
 pub record Without (test other : ℕ → Bool) (r : ℕ) : Type 0 where
@@ -92,8 +92,8 @@ pub record Without (test other : ℕ → Bool) (r : ℕ) : Type 0 where
 
 module _ (test other : ℕ → Bool) (r : ℕ) (w : Without test other r) (cs : ℕ → List Instruction) where
   -- behind it all are the same
-  same-behind : (n : ℕ) → passing other cs (suc r) n ≡ passing test cs (suc r) n
-  same-behind n = passing-same test other cs (suc r) n (λ j h. w.others j (λ e. omega arith))
+  same_behind : (n : ℕ) → passing other cs (suc r) n ≡ passing test cs (suc r) n
+  same_behind n = passing_same test other cs (suc r) n (λ j h. w.others j (λ e. omega arith))
 
   pub one_fewer : (k n : ℕ) → k ≤ r → r < k + n → test r ≡ true → length (passing test cs k n) ≡ suc (length (passing other cs k n))
   one_fewer k zero low high e = absurd (omega arith)
@@ -107,57 +107,57 @@ module _ (test other : ℕ → Bool) (r : ℕ) (w : Without test other r) (cs : 
 
       go : (k ≡ r) ⊎ (k < r) → (suc k ≤ r → length (passing test cs (suc k) n) ≡ suc (length (passing other cs (suc k) n)))
           → length (passing test cs k (suc n)) ≡ suc (length (passing other cs k (suc n)))
-      go (inl same) later = rw (same, e, w.off, same-behind n)
+      go (inl same) later = rw (same, e, w.off, same_behind n)
       go (inr less) later = rw (w.others k (λ f. omega arith)) (both (test k) (later (omega arith)))
 
 -- what is picked
 
 module _ (free other : ℕ → Bool) (cs : ℕ → List Instruction) (s : List (List ℕ)) where
   abbrev last : ℕ → Bool
-  last k = free k && ends_with (written (asJoined (cs k))) s
+  last k = free k && ends_with (written (as_joined (cs k))) s
 
   -- the code before part r
   abbrev cut : ℕ → List (List ℕ)
-  cut r = take (length s - length (written (asJoined (cs r)))) s
+  cut r = take (length s - length (written (as_joined (cs r)))) s
 
-  pub none-picked : (k n : ℕ) → k + n ≤ firstFrom last k n → pick (passing free cs k n) s ≡ nothing
-  none-picked k zero h = refl
-  none-picked k (suc n) h = go (free k) refl (ends_with (written (asJoined (cs k))) s) refl h (none-picked (suc k) n)
+  pub none_picked : (k n : ℕ) → k + n ≤ first_from last k n → pick (passing free cs k n) s ≡ nothing
+  none_picked k zero h = refl
+  none_picked k (suc n) h = go (free k) refl (ends_with (written (as_joined (cs k))) s) refl h (none_picked (suc k) n)
     where
-      go : (f : Bool) → free k ≡ f → (e : Bool) → ends_with (written (asJoined (cs k))) s ≡ e
-          → k + suc n ≤ cond (free k && ends_with (written (asJoined (cs k))) s) k (firstFrom last (suc k) n)
-          → (suc k + n ≤ firstFrom last (suc k) n → pick (passing free cs (suc k) n) s ≡ nothing)
+      go : (f : Bool) → free k ≡ f → (e : Bool) → ends_with (written (as_joined (cs k))) s ≡ e
+          → k + suc n ≤ cond (free k && ends_with (written (as_joined (cs k))) s) k (first_from last (suc k) n)
+          → (suc k + n ≤ first_from last (suc k) n → pick (passing free cs (suc k) n) s ≡ nothing)
           → pick (cond (free k) (cs k ∷ passing free cs (suc k) n) (passing free cs (suc k) n)) s ≡ nothing
       go true f true e h later = let at-it : k + suc n ≤ k = rw (f, e) at h in absurd (omega arith)
       go true f false e h later =
-          let past : k + suc n ≤ firstFrom last (suc k) n = rw (f, e) at h in
+          let past : k + suc n ≤ first_from last (suc k) n = rw (f, e) at h in
           rw (f, e, later (omega arith))
       go false f e x h later =
-          let past : k + suc n ≤ firstFrom last (suc k) n = rw f at h in
+          let past : k + suc n ≤ first_from last (suc k) n = rw f at h in
           rw (f, later (omega arith))
 
   module _ (r : ℕ) (w : Without free other r) where
-    pub one-picked : (k n : ℕ) → firstFrom last k n ≡ r → r < k + n → pick (passing free cs k n) s ≡ picked (passing other cs k n) (cut r)
-    one-picked k zero h high = absurd (omega arith)
-    one-picked k (suc n) h high = go (free k) refl (ends_with (written (asJoined (cs k))) s) refl h (λ e. one-picked (suc k) n e (omega arith))
+    pub one_picked : (k n : ℕ) → first_from last k n ≡ r → r < k + n → pick (passing free cs k n) s ≡ picked (passing other cs k n) (cut r)
+    one_picked k zero h high = absurd (omega arith)
+    one_picked k (suc n) h high = go (free k) refl (ends_with (written (as_joined (cs k))) s) refl h (λ e. one_picked (suc k) n e (omega arith))
       where
         -- the search went past this part
-        past : firstFrom last (suc k) n ≡ r → other k ≡ free k
-        past e = w.others k (λ same. omega (arith, first-low last (suc k) n, e))
+        past : first_from last (suc k) n ≡ r → other k ≡ free k
+        past e = w.others k (λ same. omega (arith, first_low last (suc k) n, e))
 
-        go : (f : Bool) → free k ≡ f → (e : Bool) → ends_with (written (asJoined (cs k))) s ≡ e
-            → cond (free k && ends_with (written (asJoined (cs k))) s) k (firstFrom last (suc k) n) ≡ r
-            → (firstFrom last (suc k) n ≡ r → pick (passing free cs (suc k) n) s ≡ picked (passing other cs (suc k) n) (cut r))
+        go : (f : Bool) → free k ≡ f → (e : Bool) → ends_with (written (as_joined (cs k))) s ≡ e
+            → cond (free k && ends_with (written (as_joined (cs k))) s) k (first_from last (suc k) n) ≡ r
+            → (first_from last (suc k) n ≡ r → pick (passing free cs (suc k) n) s ≡ picked (passing other cs (suc k) n) (cut r))
             → pick (cond (free k) (cs k ∷ passing free cs (suc k) n) (passing free cs (suc k) n)) s
             ≡ picked (cond (other k) (cs k ∷ passing other cs (suc k) n) (passing other cs (suc k) n)) (cut r)
         go true f true e h later =
             let same : k ≡ r = rw (f, e) at h in
-            rw (f, e, same, w.off, same-behind free other r w cs n)
+            rw (f, e, same, w.off, same_behind free other r w cs n)
         go true f false e h later =
-            let on : firstFrom last (suc k) n ≡ r = rw (f, e) at h in
+            let on : first_from last (suc k) n ≡ r = rw (f, e) at h in
             rw (past on, f, e, later on)
         go false f e x h later =
-            let on : firstFrom last (suc k) n ≡ r = rw f at h in
+            let on : first_from last (suc k) n ≡ r = rw f at h in
             rw (past on, f, later on)
 
 -- the one that is left
@@ -167,8 +167,8 @@ no_more [] h = refl
 no_more (x ∷ l) h = absurd (omega (arith, h))
 
 pub record Sole (test : ℕ → Bool) (cs : ℕ → List Instruction) (k n : ℕ) : Type 0 where
-  pub there : firstFrom test k n < k + n
-  pub only : passing test cs k n ≡ cs (firstFrom test k n) ∷ []
+  pub there : first_from test k n < k + n
+  pub only : passing test cs k n ≡ cs (first_from test k n) ∷ []
 
 pub one_left : (test : ℕ → Bool) (cs : ℕ → List Instruction) (k n : ℕ) → length (passing test cs k n) ≡ 1 → Sole test cs k n
 one_left test cs k zero h = absurd (omega (arith, h))
@@ -186,11 +186,11 @@ one_left test cs k (suc n) h = go (test k) refl h (one_left test cs (suc k) n)
 -- bytes that tell which parts are used
 
 module _ (used : List ℕ) where
-  pub all-free : (size : ℕ) → used ≡ replicate size 0 → (j : ℕ) → j < size → isFree used j ≡ true
-  all-free size e j h = rw (e, get_or-replicate {A = ℕ} size j 0 0 h)
+  pub all_free : (size : ℕ) → used ≡ replicate size 0 → (j : ℕ) → j < size → is_free used j ≡ true
+  all_free size e j h = rw (e, get_or-replicate {A = ℕ} size j 0 0 h)
 
-  pub used-now : (r : ℕ) → r < length used → Without (isFree used) (isFree (set used r 1)) r
-  used-now r h =
+  pub used_now : (r : ℕ) → r < length used → Without (is_free used) (is_free (set used r 1)) r
+  used_now r h =
       record {
         off = rw (get_or-set_same used r 1 0 h);
         others = λ j d. rw (get_or-set_other used r j 1 0 d);
@@ -198,86 +198,86 @@ module _ (used : List ℕ) where
 
 -- a round of the search: so many parts are still to be taken off, and so much code is left
 pub record Round (blocks : List ℕ) (total n : ℕ) (cs : ℕ → List Instruction) (used : List ℕ) (left more : ℕ) : Type 0 where
-  pub many : length (passing (isFree used) cs 0 n) ≡ suc more
-  pub same : fits more (passing (isFree used) cs 0 n) (recordsFrom blocks 0 left) ≡ fits (n - 1) (each cs 0 n) (recordsFrom blocks 0 total)
+  pub many : length (passing (is_free used) cs 0 n) ≡ suc more
+  pub same : fits more (passing (is_free used) cs 0 n) (records_from blocks 0 left) ≡ fits (n - 1) (each cs 0 n) (records_from blocks 0 total)
 
 pub first_round : (blocks : List ℕ) (total n size : ℕ) (cs : ℕ → List Instruction) (used : List ℕ) → used ≡ replicate size 0 → 1 ≤ n → n ≤ size
     → Round blocks total n cs used total (n - 1)
 first_round blocks total n size cs used e some few =
-    let all = passing-all (isFree used) cs 0 n (λ j h. all-free used size e j (omega arith)) in
-    record { many = ap length all ∙ each-length cs 0 n ∙ omega arith; same = rw all }
+    let all = passing_all (is_free used) cs 0 n (λ j h. all_free used size e j (omega arith)) in
+    record { many = ap length all ∙ each_length cs 0 n ∙ omega arith; same = rw all }
 
 module _ {blocks : List ℕ} {total n : ℕ} {cs : ℕ → List Instruction} {used : List ℕ} {left more : ℕ} (round : Round blocks total n cs used left more) where
   abbrev found : ℕ
-  found = firstFrom (comesLast used cs (recordsFrom blocks 0 left)) 0 n
+  found = first_from (comes_last used cs (records_from blocks 0 left)) 0 n
 
   -- none comes last
-  pub none_last : 0 < more → found ≡ n → false ≡ fits (n - 1) (each cs 0 n) (recordsFrom blocks 0 total)
+  pub none_last : 0 < more → found ≡ n → false ≡ fits (n - 1) (each cs 0 n) (records_from blocks 0 total)
   unfolding fits
   none_last some e =
       let again : more ≡ suc (more - 1) = omega arith in
-      let none = none-picked (isFree used) (isFree used) cs (recordsFrom blocks 0 left) 0 n (omega (arith, e)) in
+      let none = none_picked (is_free used) (is_free used) cs (records_from blocks 0 left) 0 n (omega (arith, e)) in
       (rw (again, none) at round.same)
 
   module _ (r : ℕ) (e : found ≡ r) (inside : r < n) (room : n ≤ length used) where
     abbrev size : ℕ
-    size = length (asJoined (cs r))
+    size = length (as_joined (cs r))
 
-    tested : lastFree used r (cs r) (recordsFrom blocks 0 left) ≡ true
+    tested : last_free used r (cs r) (records_from blocks 0 left) ≡ true
     tested =
-        subst (λ (k : ℕ). comesLast used cs (recordsFrom blocks 0 left) k ≡ true) e
-        (first_passes (comesLast used cs (recordsFrom blocks 0 left)) 0 n (omega (arith, e)))
+        subst (λ (k : ℕ). comes_last used cs (records_from blocks 0 left) k ≡ true) e
+        (first_passes (comes_last used cs (records_from blocks 0 left)) 0 n (omega (arith, e)))
 
-    is_free : isFree used r ≡ true
-    is_free = ((and-eq-true_iff (isFree used r) (ends_with (written (asJoined (cs r))) (recordsFrom blocks 0 left))).0 tested).0
+    is_free_lem : is_free used r ≡ true
+    is_free_lem = ((and-eq-true_iff (is_free used r) (ends_with (written (as_joined (cs r))) (records_from blocks 0 left))).0 tested).0
 
-    written-size : length (written (asJoined (cs r))) ≡ size
-    written-size = length-map (asJoined (cs r)) encode
+    written_size : length (written (as_joined (cs r))) ≡ size
+    written_size = length-map (as_joined (cs r)) encode
 
     pub fits_in : size ≤ left
     fits_in =
-        let ends = ((and-eq-true_iff (isFree used r) (ends_with (written (asJoined (cs r))) (recordsFrom blocks 0 left))).0 tested).1 in
+        let ends = ((and-eq-true_iff (is_free used r) (ends_with (written (as_joined (cs r))) (records_from blocks 0 left))).0 tested).1 in
         let long =
-        ((and-eq-true_iff (leb (length (written (asJoined (cs r)))) (length (recordsFrom blocks 0 left)))
-        (sameRecords (drop (length (recordsFrom blocks 0 left) - length (written (asJoined (cs r)))) (recordsFrom blocks 0 left)) (written (asJoined (cs r))))).0 ends).0 in
+        ((and-eq-true_iff (leb (length (written (as_joined (cs r)))) (length (records_from blocks 0 left)))
+        (same_records (drop (length (records_from blocks 0 left) - length (written (as_joined (cs r)))) (records_from blocks 0 left)) (written (as_joined (cs r))))).0 ends).0 in
         omega (
           arith,
-          leb-true (length (written (asJoined (cs r)))) (length (recordsFrom blocks 0 left)) long,
-          written-size,
-          blocks-length blocks 0 left,
+          leb-true (length (written (as_joined (cs r)))) (length (records_from blocks 0 left)) long,
+          written_size,
+          blocks_length blocks 0 left,
         )
 
     -- the code before it
-    cut-is : cut (isFree used) (isFree used) cs (recordsFrom blocks 0 left) r ≡ recordsFrom blocks 0 (left - size)
-    cut-is =
+    cut_is : cut (is_free used) (is_free used) cs (records_from blocks 0 left) r ≡ records_from blocks 0 (left - size)
+    cut_is =
         let there = fits_in in
         let all : left ≡ left - size + size = omega arith in
-        let n : length (recordsFrom blocks 0 left) - length (written (asJoined (cs r))) ≡ left - size =
-        omega (arith, written-size, blocks-length blocks 0 left) in
-        ap (λ (m : ℕ). take m (recordsFrom blocks 0 left)) n
-        ∙ ap (λ (m : ℕ). take (left - size) (recordsFrom blocks 0 m)) all
-        ∙ blocks-take blocks 0 (left - size) size
+        let n : length (records_from blocks 0 left) - length (written (as_joined (cs r))) ≡ left - size =
+        omega (arith, written_size, blocks_length blocks 0 left) in
+        ap (λ (m : ℕ). take m (records_from blocks 0 left)) n
+        ∙ ap (λ (m : ℕ). take (left - size) (records_from blocks 0 m)) all
+        ∙ blocks_take blocks 0 (left - size) size
 
-    taken-off : 0 < more → Round blocks total n cs (set used r 1) (left - size) (more - 1)
+    taken_off : 0 < more → Round blocks total n cs (set used r 1) (left - size) (more - 1)
     unfolding fits
-    taken-off some =
+    taken_off some =
         let again : more ≡ suc (more - 1) = omega arith in
-        let w = used-now used r (omega arith) in
-        let fewer = one_fewer (isFree used) (isFree (set used r 1)) r w cs 0 n (omega arith) (omega arith) is_free in
-        let one = one-picked (isFree used) (isFree (set used r 1)) cs (recordsFrom blocks 0 left) r w 0 n e (omega arith) in
+        let w = used_now used r (omega arith) in
+        let fewer = one_fewer (is_free used) (is_free (set used r 1)) r w cs 0 n (omega arith) (omega arith) is_free_lem in
+        let one = one_picked (is_free used) (is_free (set used r 1)) cs (records_from blocks 0 left) r w 0 n e (omega arith) in
         record {
           many = omega (arith, fewer, round.many);
-          same = rw (← cut-is) (rw (again, one) at round.same);
+          same = rw (← cut_is) (rw (again, one) at round.same);
         }
 
-    pub next-round : (m : ℕ) → m ≡ size → 0 < more → Round blocks total n cs (set used r 1) (left - m) (more - 1)
-    next-round m same some = rw same (taken-off some)
+    pub next_round : (m : ℕ) → m ≡ size → 0 < more → Round blocks total n cs (set used r 1) (left - m) (more - 1)
+    next_round m same some = rw same (taken_off some)
 
   -- the last round
-  pub last-round : more ≡ 0 → firstFrom (isFree used) 0 n < n
-  last-round e = omega (arith, (one_left (isFree used) cs 0 n (omega (arith, round.many))).there)
+  pub last_round : more ≡ 0 → first_from (is_free used) 0 n < n
+  last_round e = omega (arith, (one_left (is_free used) cs 0 n (omega (arith, round.many))).there)
 
   pub all_left : more ≡ 0
-      → sameRecords (written (cs (firstFrom (isFree used) 0 n))) (recordsFrom blocks 0 left) ≡ fits (n - 1) (each cs 0 n) (recordsFrom blocks 0 total)
+      → same_records (written (cs (first_from (is_free used) 0 n))) (records_from blocks 0 left) ≡ fits (n - 1) (each cs 0 n) (records_from blocks 0 total)
   unfolding fits
-  all_left e = rw (e, (one_left (isFree used) cs 0 n (omega (arith, round.many))).only) at round.same
+  all_left e = rw (e, (one_left (is_free used) cs 0 n (omega (arith, round.many))).only) at round.same

@@ -1,16 +1,16 @@
 -- Which of the parts that are not yet used comes last.
 use Rattle.std.specs.Prelude.{ℕ, zero, suc, ◌-◌, Bool, cond, ◌&&◌, List, [], ◌∷◌, length, get_or, drop, eqb, leb}
 use Rattle.paper.specs.Code.{Instruction}
-use Rattle.paper.specs.Comparing.{written, sameRecords, asJoined}
+use Rattle.paper.specs.Comparing.{written, same_records, as_joined}
 
 -- the first index that passes a test, of n from k on; the one after them, if none does
-abbrev pub firstFrom : (ℕ → Bool) → ℕ → ℕ → ℕ
-firstFrom test k zero = k
-firstFrom test k (suc n) = cond (test k) k (firstFrom test (suc k) n)
+abbrev pub first_from : (ℕ → Bool) → ℕ → ℕ → ℕ
+first_from test k zero = k
+first_from test k (suc n) = cond (test k) k (first_from test (suc k) n)
 
 -- a byte for each part: 0 until it is used
-abbrev pub isFree : List ℕ → ℕ → Bool
-isFree used k = eqb (get_or used k 0) 0
+abbrev pub is_free : List ℕ → ℕ → Bool
+is_free used k = eqb (get_or used k 0) 0
 
 -- of n codes from index k on, those that pass
 abbrev pub passing : (ℕ → Bool) → (ℕ → List Instruction) → ℕ → ℕ → List (List Instruction)
@@ -19,11 +19,11 @@ passing test cs k (suc n) = cond (test k) (cs k ∷ passing test cs (suc k) n) (
 
 -- records end with others
 abbrev pub ends_with : List (List ℕ) → List (List ℕ) → Bool
-ends_with ending s = leb (length ending) (length s) && sameRecords (drop (length s - length ending) s) ending
+ends_with ending s = leb (length ending) (length s) && same_records (drop (length s - length ending) s) ending
 
 -- part k, of this code, is free, and comes last
-abbrev pub lastFree : List ℕ → ℕ → List Instruction → List (List ℕ) → Bool
-lastFree used k c s = isFree used k && ends_with (written (asJoined c)) s
+abbrev pub last_free : List ℕ → ℕ → List Instruction → List (List ℕ) → Bool
+last_free used k c s = is_free used k && ends_with (written (as_joined c)) s
 
-abbrev pub comesLast : List ℕ → (ℕ → List Instruction) → List (List ℕ) → ℕ → Bool
-comesLast used cs s k = lastFree used k (cs k) s
+abbrev pub comes_last : List ℕ → (ℕ → List Instruction) → List (List ℕ) → ℕ → Bool
+comes_last used cs s k = last_free used k (cs k) s

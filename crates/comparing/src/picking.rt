@@ -1,10 +1,10 @@
 // Which part comes last in the code of some blocks.
 ghost use Rattle.std.specs.Prelude.{◌≡◌, List, ℕ, ◌+◌, ◌*◌, ◌≤◌, ◌<◌, length};
 ghost use Rattle.paper.specs.Code.{Instruction};
-ghost use Rattle.paper.specs.Blocks.{in_block, blocksIn};
-ghost use Rattle.paper.specs.Comparing.{recordsFrom, written, sameRecords};
+ghost use Rattle.paper.specs.Blocks.{in_block, blocks_in};
+ghost use Rattle.paper.specs.Comparing.{records_from, written, same_records};
 ghost use Rattle.comparing.specs.Scratch.{Stood, Stand};
-ghost use Rattle.comparing.specs.Picking.{firstFrom, isFree, lastFree, comesLast};
+ghost use Rattle.comparing.specs.Picking.{first_from, is_free, last_free, comes_last};
 
 use crate::records::same_records;
 use crate::scratch::start_at;
@@ -18,10 +18,10 @@ fn comes_last(
     used: &[u8],
     k: usize,
 ) -> bool
-    requires left_bound { (left ≤ in_block * blocksIn blocks.now) × (k + 1 < length starts.now) × (k < length used.now) }
+    requires left_bound { (left ≤ in_block * blocks_in blocks.now) × (k + 1 < length starts.now) × (k < length used.now) }
     requires stood { (c : List Instruction) × Stood code.now starts.now k c }
     ensures { (c : List Instruction) → Stood code.now starts.now k c
-        → result ≡ lastFree used.now k c (recordsFrom blocks.now 0 left) }
+        → result ≡ last_free used.now k c (records_from blocks.now 0 left) }
 {
     if used[k] != 0 {
         return false;
@@ -43,10 +43,10 @@ pub(crate) fn pick(
     used: &[u8],
     n: usize,
 ) -> usize
-    requires left_bound { (left ≤ in_block * blocksIn blocks.now) × (n < length starts.now) × (n ≤ length used.now) }
+    requires left_bound { (left ≤ in_block * blocks_in blocks.now) × (n < length starts.now) × (n ≤ length used.now) }
     requires by_index { (cs : (ℕ → List Instruction)) × Stand code.now starts.now n cs }
     ensures { (cs : (ℕ → List Instruction)) → Stand code.now starts.now n cs
-        → result ≡ firstFrom (comesLast used.now cs (recordsFrom blocks.now 0 left)) 0 n }
+        → result ≡ first_from (comes_last used.now cs (records_from blocks.now 0 left)) 0 n }
 {
     let mut k = 0;
     while k < n {
@@ -61,7 +61,7 @@ pub(crate) fn pick(
 // The first of n parts that is not yet used, or n.
 pub(crate) fn first_free(used: &[u8], n: usize) -> usize
     requires { n ≤ length used.now }
-    ensures { result ≡ firstFrom (isFree used.now) 0 n }
+    ensures { result ≡ first_from (is_free used.now) 0 n }
 {
     let mut k = 0;
     while k < n {
@@ -75,10 +75,10 @@ pub(crate) fn first_free(used: &[u8], n: usize) -> usize
 
 // Whether the first `left` instructions are part k alone: its code without the skip before it and the join after it.
 pub(crate) fn is_all(blocks: &[u8], left: usize, code: &[u8], starts: &[u32], k: usize) -> bool
-    requires left_bound { (left ≤ in_block * blocksIn blocks.now) × (k + 1 < length starts.now) }
+    requires left_bound { (left ≤ in_block * blocks_in blocks.now) × (k + 1 < length starts.now) }
     requires stood { (c : List Instruction) × Stood code.now starts.now k c }
     ensures { (c : List Instruction) → Stood code.now starts.now k c
-        → result ≡ sameRecords (written c) (recordsFrom blocks.now 0 left) }
+        → result ≡ same_records (written c) (records_from blocks.now 0 left) }
 {
     let from = start_at(starts, k) + 1;
     let to = start_at(starts, k + 1) - 1;

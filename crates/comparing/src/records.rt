@@ -1,20 +1,20 @@
 // Records of 20 bytes, an instruction each: in blocks as they stand, and in a scratch one after the other.
 ghost use Rattle.std.specs.Prelude.{◌≡◌, ◌+◌, ◌*◌, ◌≤◌, length};
 ghost use Rattle.paper.specs.Numbers.{bytes_at};
-ghost use Rattle.paper.specs.Tokens.{sameBytes};
-ghost use Rattle.paper.specs.Code.{instructionSize};
-ghost use Rattle.paper.specs.Blocks.{in_block, blocksIn};
-ghost use Rattle.paper.specs.Loading.{instructionAt};
-ghost use Rattle.paper.specs.Comparing.{recordsFrom, sameRecords};
-ghost use Rattle.comparing.specs.Scratch.{codeFrom};
+ghost use Rattle.paper.specs.Tokens.{same_bytes};
+ghost use Rattle.paper.specs.Code.{instruction_size};
+ghost use Rattle.paper.specs.Blocks.{in_block, blocks_in};
+ghost use Rattle.paper.specs.Loading.{instruction_at};
+ghost use Rattle.paper.specs.Comparing.{records_from, same_records};
+ghost use Rattle.comparing.specs.Scratch.{code_from};
 
 use blocks::Block;
 use spelling::bytes;
 
 // The record from an offset on.
 fn record_from(s: &[u8], at: usize) -> &[u8]
-    requires { at + instructionSize ≤ length s.now }
-    ensures { result.now ≡ bytes_at s.now at instructionSize }
+    requires { at + instruction_size ≤ length s.now }
+    ensures { result.now ≡ bytes_at s.now at instruction_size }
 {
     let to = at + Block::INSTRUCTION;
     &s[at..to]
@@ -22,8 +22,8 @@ fn record_from(s: &[u8], at: usize) -> &[u8]
 
 // Whether instruction i of blocks has the bytes of instruction j of a scratch.
 fn same_record(blocks: &[u8], i: usize, code: &[u8], j: usize) -> bool
-    requires { (instructionAt i + instructionSize ≤ length blocks.now) × (instructionSize * (j + 1) ≤ length code.now) }
-    ensures { result ≡ sameBytes (bytes_at blocks.now (instructionAt i) instructionSize) (bytes_at code.now (instructionSize * j) instructionSize) }
+    requires { (instruction_at i + instruction_size ≤ length blocks.now) × (instruction_size * (j + 1) ≤ length code.now) }
+    ensures { result ≡ same_bytes (bytes_at blocks.now (instruction_at i) instruction_size) (bytes_at code.now (instruction_size * j) instruction_size) }
 {
     let theirs = machine::place_of(i);
     let ours = Block::INSTRUCTION * j;
@@ -32,8 +32,8 @@ fn same_record(blocks: &[u8], i: usize, code: &[u8], j: usize) -> bool
 
 // The same of n instructions, from i and from j on.
 pub(crate) fn same_records(blocks: &[u8], i: usize, code: &[u8], j: usize, n: usize) -> bool
-    requires { (i + n ≤ in_block * blocksIn blocks.now) × (instructionSize * (j + n) ≤ length code.now) }
-    ensures { result ≡ sameRecords (recordsFrom blocks.now i n) (codeFrom code.now j n) }
+    requires { (i + n ≤ in_block * blocks_in blocks.now) × (instruction_size * (j + n) ≤ length code.now) }
+    ensures { result ≡ same_records (records_from blocks.now i n) (code_from code.now j n) }
 {
     let mut k = 0;
     while k < n {

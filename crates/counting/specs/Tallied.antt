@@ -4,7 +4,7 @@ use Rattle.paper.specs.Keys.{Key}
 use Rattle.paper.specs.Grammar.{Tree}
 use Rattle.paper.specs.Calls.{over}
 use Rattle.paper.specs.Parts.{Part}
-use Rattle.paper.specs.Counting.{judged, isAccepted, isViolated, is_refused, countIf, falseOf, Counts}
+use Rattle.paper.specs.Counting.{judged, is_accepted, is_violated, is_refused, count_if, false_of, Counts}
 use Rattle.paper.specs.CountedRight.{sums}
 use Rattle.counting.specs.declared.total.Totals.{Totals}
 
@@ -34,10 +34,10 @@ pub record Grew (n : ℕ) (by : ℕ → ℕ) (before after : List ℕ) : Type 0 
 
 -- of some entries, by n parts and the tree of them all
 pub record Adds (ks : List Key) (t : Tree) (n : ℕ) (part : ℕ → Part) (es : List (List ℕ)) (before after : List ℕ) (r : Totals) : Type 0 where
-  pub numbers : Grew n (λ k. falseOf ks es (part k)) before after
-  pub accepted : r.accepted ≡ countIf (λ e. isAccepted (judged ks t e)) es
-  pub violated : r.violated ≡ countIf (λ e. isViolated (judged ks t e)) es
-  pub refused : r.refused ≡ countIf (λ e. is_refused (judged ks t e)) es
+  pub numbers : Grew n (λ k. false_of ks es (part k)) before after
+  pub accepted : r.accepted ≡ count_if (λ e. is_accepted (judged ks t e)) es
+  pub violated : r.violated ≡ count_if (λ e. is_violated (judged ks t e)) es
+  pub refused : r.refused ≡ count_if (λ e. is_refused (judged ks t e)) es
 
 -- a test holds of each number below n
 abbrev pub all_below : (ℕ → Bool) → ℕ → Bool

@@ -1,10 +1,10 @@
 // The whole entries of a stretch, one after the other.
 ghost use Rattle.std.specs.Prelude.{◌≡◌, List, [], ◌∷◌, ℕ, ◌≤◌, length, replicate};
 ghost use Rattle.paper.specs.Calls.{over};
-ghost use Rattle.paper.specs.Counting.{wholeIn, countsOf};
-ghost use Rattle.keys.specs.Says.{keysIn};
-ghost use Rattle.trees.specs.Standing.{treeAt};
-ghost use Rattle.parts.specs.Rows.{part_at, partsOn};
+ghost use Rattle.paper.specs.Counting.{whole_in, counts_of};
+ghost use Rattle.keys.specs.Says.{keys_in};
+ghost use Rattle.trees.specs.Standing.{tree_at};
+ghost use Rattle.parts.specs.Rows.{part_at, parts_on};
 ghost use Rattle.reading.specs.Parted.{PassedParts};
 ghost use Rattle.counting.specs.Tallied.{Spare, Tells, Adds};
 
@@ -24,7 +24,7 @@ fn add_entry(
     requires by_index { (text : List ℕ) × PassedParts text list.now nodes.now rows.now n }
     requires spare { Spare n 1 counts.old }
     ensures { (text : List ℕ) (p : PassedParts text list.now nodes.now rows.now n)
-        → Adds (keysIn list.now) (treeAt text nodes.now p.root) n (part_at text nodes.now rows.now) (entry.now ∷ []) counts.old counts.new result }
+        → Adds (keys_in list.now) (tree_at text nodes.now p.root) n (part_at text nodes.now rows.now) (entry.now ∷ []) counts.old counts.new result }
 {
     let entered = keys::check_entry(list, entry);
     match entered {
@@ -57,9 +57,9 @@ pub fn tally(
     counts: &mut [u64],
 ) -> Totals
     requires by_index { (text : List ℕ) × PassedParts text list.now nodes.now rows.now n }
-    requires spare { Spare n (wholeIn (keysIn list.now) entries.now) counts.old }
+    requires spare { Spare n (whole_in (keys_in list.now) entries.now) counts.old }
     ensures { (text : List ℕ) (p : PassedParts text list.now nodes.now rows.now n)
-        → Tells (countsOf (keysIn list.now) (treeAt text nodes.now p.root) (partsOn text nodes.now rows.now n) entries.now) counts.old counts.new result }
+        → Tells (counts_of (keys_in list.now) (tree_at text nodes.now p.root) (parts_on text nodes.now rows.now n) entries.now) counts.old counts.new result }
 {
     let size = keys::entry_size(list);
     let whole = entries.len() / size;

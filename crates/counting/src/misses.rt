@@ -2,8 +2,8 @@
 ghost use Rattle.std.specs.Prelude.{◌≡◌, not, List, ℕ};
 ghost use Rattle.paper.specs.CountedRight.{one};
 ghost use Rattle.operands.specs.Conforming.{Conforming};
-ghost use Rattle.judging.specs.Holding.{treeHolds};
-ghost use Rattle.parts.specs.Rows.{rootAt};
+ghost use Rattle.judging.specs.Holding.{tree_holds};
+ghost use Rattle.parts.specs.Rows.{root_at};
 ghost use Rattle.reading.specs.Parted.{Parted};
 ghost use Rattle.counting.specs.Tallied.{Spare, Grew, all_below};
 
@@ -22,8 +22,8 @@ pub(crate) fn add_false(
     requires by_index { (text : List ℕ) × Parted text list.now nodes.now rows.now n }
     requires spare { Spare n 1 counts.old }
     ensures { (text : List ℕ) → Parted text list.now nodes.now rows.now n
-        → (Grew n (λ k. one (not (treeHolds text list.now entry.now nodes.now (rootAt rows.now k)))) counts.old counts.new
-        × (result ≡ all_below (λ k. treeHolds text list.now entry.now nodes.now (rootAt rows.now k)) n)) }
+        → (Grew n (λ k. one (not (tree_holds text list.now entry.now nodes.now (root_at rows.now k)))) counts.old counts.new
+        × (result ≡ all_below (λ k. tree_holds text list.now entry.now nodes.now (root_at rows.now k)) n)) }
 {
     let mut all = true;
     let mut k = 0;

@@ -14,8 +14,8 @@ use Rattle.paper.specs.Grammar.{Tree}
 use Rattle.paper.specs.Sized.{count}
 use Rattle.paper.specs.Pact as P
 use Rattle.paper.specs.Pact.{Clause, Assertion}
-use Rattle.paper.specs.Contract.{Front, fault, continued, withConjunction}
-use Rattle.paper.specs.Drafting.{inversion, comparisonOf, link_of, operandTree, assertionTree, clauseTree, sequelOf}
+use Rattle.paper.specs.Contract.{Front, fault, continued, with_conjunction}
+use Rattle.paper.specs.Drafting.{inversion, comparison_of, link_of, operand_tree, assertion_tree, clause_tree, sequel_of}
 use Rattle.drafting.specs.declared.pieces.Piece.{Piece}
 use Rattle.drafting.specs.declared.opcodes.Conjunction.{Conjunction}
 use Rattle.drafting.specs.declared.fronts.Part.{Part}
@@ -24,11 +24,11 @@ use Rattle.drafting.specs.declared.fronts.Link.TheVariants as L
 use Rattle.drafting.specs.declared.fronts.Opened.TheVariants as O
 use Rattle.drafting.specs.declared.fronts.Front as R
 use Rattle.drafting.specs.declared.fronts.Step.TheVariants as S
-use Rattle.drafting.specs.Opcodes.{conjunctionMeant, linkingMeant}
+use Rattle.drafting.specs.Opcodes.{conjunction_meant, linking_meant}
 use Rattle.drafting.specs.Pieces.{Holds, Grown, Operands}
-use Rattle.drafting.specs.Assertions.{namesIn}
-use Rattle.drafting.specs.Fronts.{all_of, clauseOf, sequelOn, end_of, PartIs, Represents, mostNodes, Closable, Steps, linkMeant}
-use Rattle.drafting.proofs.Growing.{small, still-holds, stays-before, grown-as, grown-behind}
+use Rattle.drafting.specs.Assertions.{names_in}
+use Rattle.drafting.specs.Fronts.{all_of, clause_of, sequel_on, end_of, PartIs, Represents, most_nodes, Closable, Steps, link_meant}
+use Rattle.drafting.proofs.Growing.{small, still_holds, stays_before, grown_as, grown_behind}
 
 -- what stands directly behind an assertion
 abbrev behind : List Clause → Clause → Front
@@ -38,37 +38,37 @@ behind cs c = record { closed = cs; clause = some c; conjunction = none; compara
 
 module _ (cs : List Clause) (o : Option Clause) (j : Option P.Conjunction) where
   module _ (at : ℕ) (k : P.Conjunction) where
-    two-conjunctions : (c : Clause) (i : P.Conjunction) → o ≡ some c → j ≡ some i → withConjunction at cs o j k ≡ fault at
-    two-conjunctions c i e l = rw (e, l)
+    two_conjunctions : (c : Clause) (i : P.Conjunction) → o ≡ some c → j ≡ some i → with_conjunction at cs o j k ≡ fault at
+    two_conjunctions c i e l = rw (e, l)
 
-    one-conjunction : (c : Clause) → o ≡ some c → j ≡ none
-        → withConjunction at cs o j k ≡ ok (record { closed = cs; clause = o; conjunction = some k; comparator = none })
-    one-conjunction c e l = rw (e, l)
+    one_conjunction : (c : Clause) → o ≡ some c → j ≡ none
+        → with_conjunction at cs o j k ≡ ok (record { closed = cs; clause = o; conjunction = some k; comparator = none })
+    one_conjunction c e l = rw (e, l)
 
   module _ (a : Assertion) where
     begun_first : o ≡ none → continued cs o j a ≡ behind cs (P.alone a)
     begun_first e = rw e
 
-    begun-behind : (c : Clause) → o ≡ some c → j ≡ none → continued cs o j a ≡ behind (cs ++ (c ∷ [])) (P.alone a)
-    begun-behind c e l = rw (e, l)
+    begun_behind : (c : Clause) → o ≡ some c → j ≡ none → continued cs o j a ≡ behind (cs ++ (c ∷ [])) (P.alone a)
+    begun_behind c e l = rw (e, l)
 
-    gone-on : (c : Clause) (k : P.Conjunction) → o ≡ some c → j ≡ some k → continued cs o j a ≡ behind cs (P.linked c k a)
-    gone-on c k e l = rw (e, l)
+    gone_on : (c : Clause) (k : P.Conjunction) → o ≡ some c → j ≡ some k → continued cs o j a ≡ behind cs (P.linked c k a)
+    gone_on c k e l = rw (e, l)
 
 -- what is there and what is not
 
-part-as : (list ns : List ℕ) (start : ℕ) {x y : Part} (o : Option Tree) → x ≡ y → PartIs list ns start x o → PartIs list ns start y o
-part-as list ns start o e h = subst (λ (z : Part). PartIs list ns start z o) e h
+part_as : (list ns : List ℕ) (start : ℕ) {x y : Part} (o : Option Tree) → x ≡ y → PartIs list ns start x o → PartIs list ns start y o
+part_as list ns start o e h = subst (λ (z : Part). PartIs list ns start z o) e h
 
-nothing-there : (list ns : List ℕ) (start : ℕ) (x : Part) → PartIs list ns start x none → x ≡ T.Nothing
-nothing-there list ns start T.Nothing h = refl
-nothing-there list ns start (T.Tree p) h = absurd h
+nothing_there : (list ns : List ℕ) (start : ℕ) (x : Part) → PartIs list ns start x none → x ≡ T.Nothing
+nothing_there list ns start T.Nothing h = refl
+nothing_there list ns start (T.Tree p) h = absurd h
 
 -- the closed clauses stand within the limit of tokens
-end-most : (list ns : List ℕ) (x : Part) (o : Option Tree) → PartIs list ns 0 x o → end_of x ≤ 1024
-end-most list ns T.Nothing o h = omega arith
-end-most list ns (T.Tree p) none h = absurd h
-end-most list ns (T.Tree p) (some t) h = omega (arith, h.room)
+end_most : (list ns : List ℕ) (x : Part) (o : Option Tree) → PartIs list ns 0 x o → end_of x ≤ 1024
+end_most list ns T.Nothing o h = omega arith
+end_most list ns (T.Tree p) none h = absurd h
+end_most list ns (T.Tree p) (some t) h = omega (arith, h.room)
 
 -- and stay where nodes are changed behind them
 part_stays : (list : List ℕ) (before after : List ℕ) (x : Part) (o : Option Tree) → take (end_of x * 8) after ≡ take (end_of x * 8) before
@@ -76,10 +76,10 @@ part_stays : (list : List ℕ) (before after : List ℕ) (x : Part) (o : Option 
 part_stays list before after T.Nothing none e h = h
 part_stays list before after T.Nothing (some t) e h = h
 part_stays list before after (T.Tree p) none e h = h
-part_stays list before after (T.Tree p) (some t) e h = still-holds list p.end e (omega arith) h
+part_stays list before after (T.Tree p) (some t) e h = still_holds list p.end e (omega arith) h
 
 -- there is room to join them with a clause behind them
-closable : (list ns : List ℕ) (x : Part) (o : Option Tree) (c : Piece) (t : Tree) → mostNodes * 8 ≤ length ns → PartIs list ns 0 x o
+closable : (list ns : List ℕ) (x : Part) (o : Option Tree) (c : Piece) (t : Tree) → most_nodes * 8 ≤ length ns → PartIs list ns 0 x o
     → Holds list ns (end_of x) c t → Closable x c ns
 closable list ns T.Nothing o c t room h g = tt
 closable list ns (T.Tree p) none c t room h g = absurd h
@@ -97,144 +97,144 @@ closable list ns (T.Tree p) (some u) c t room h g =
           };
     }
 
-pub closable-as : {x : Part} (p c : Piece) (ns : List ℕ) → x ≡ T.Tree p → Closable x c ns → Operands p c ns
-closable-as p c ns e h = subst (λ (y : Part). Closable y c ns) e h
+pub closable_as : {x : Part} (p c : Piece) (ns : List ℕ) → x ≡ T.Tree p → Closable x c ns → Operands p c ns
+closable_as p c ns e h = subst (λ (y : Part). Closable y c ns) e h
 
 -- a clause and what is closed before it
 
 module _ (list ns : List ℕ) {x : Part} {c : Piece} where
-  pub alone : x ≡ T.Nothing → (o : Option Tree) (t : Tree) → PartIs list ns 0 x o → Holds list ns (end_of x) c t → Grown list ns ns 0 c (sequelOn o t)
-  alone e none t h g = grown-as list ns 0 (subst (λ (y : Part). Holds list ns (end_of y) c t) e g)
-  alone e (some u) t h g = absurd (part-as list ns 0 (some u) e h)
+  pub alone : x ≡ T.Nothing → (o : Option Tree) (t : Tree) → PartIs list ns 0 x o → Holds list ns (end_of x) c t → Grown list ns ns 0 c (sequel_on o t)
+  alone e none t h g = grown_as list ns 0 (subst (λ (y : Part). Holds list ns (end_of y) c t) e g)
+  alone e (some u) t h g = absurd (part_as list ns 0 (some u) e h)
 
-  pub behind-all : (after : List ℕ) (p r : Piece) → x ≡ T.Tree p
+  pub behind_all : (after : List ℕ) (p r : Piece) → x ≡ T.Tree p
       → ((t u : Tree) → Holds list ns 0 p t → Holds list ns p.end c u → Grown list ns after 0 r (G.joined 0 sequel t u))
-      → (o : Option Tree) (t : Tree) → PartIs list ns 0 x o → Holds list ns (end_of x) c t → Grown list ns after 0 r (sequelOn o t)
-  behind-all after p r e join none t h g = absurd (part-as list ns 0 none e h)
-  behind-all after p r e join (some u) t h g =
-      join u t (part-as list ns 0 (some u) e h) (subst (λ (y : Part). Holds list ns (end_of y) c t) e g)
+      → (o : Option Tree) (t : Tree) → PartIs list ns 0 x o → Holds list ns (end_of x) c t → Grown list ns after 0 r (sequel_on o t)
+  behind_all after p r e join none t h g = absurd (part_as list ns 0 none e h)
+  behind_all after p r e join (some u) t h g =
+      join u t (part_as list ns 0 (some u) e h) (subst (λ (y : Part). Holds list ns (end_of y) c t) e g)
 
 -- an assertion has six tokens at most
 
-operand-one : (names : List (List ℕ)) (table : List ℕ) (c : Comparison) (w : List ℕ) (l : P.Load) (j : ℕ) → count (G.compared 0 c (G.key 0 w) (operandTree names table l j)) ≡ 3
-operand-one names table c w P.user j = refl
-operand-one names table c w P.input j = refl
+operand_one : (names : List (List ℕ)) (table : List ℕ) (c : Comparison) (w : List ℕ) (l : P.Load) (j : ℕ) → count (G.compared 0 c (G.key 0 w) (operand_tree names table l j)) ≡ 3
+operand_one names table c w P.user j = refl
+operand_one names table c w P.input j = refl
 
-inverted-three : (b : Bool) (c : Comparison) (l r : Tree) → count (G.compared 0 c l r) ≡ 3 → count (inversion b (G.compared 0 c l r)) ≤ 6
-inverted-three true c l r e = omega (arith, e)
-inverted-three false c l r e = omega (arith, e)
+inverted_three : (b : Bool) (c : Comparison) (l r : Tree) → count (G.compared 0 c l r) ≡ 3 → count (inversion b (G.compared 0 c l r)) ≤ 6
+inverted_three true c l r e = omega (arith, e)
+inverted_three false c l r e = omega (arith, e)
 
 module _ (list table : List ℕ) where
   abbrev names : List (List ℕ)
-  names = namesIn list
+  names = names_in list
 
-  pub six-tokens : (a : Assertion) → count (assertionTree names table a) ≤ 6
-  six-tokens a =
+  pub six_tokens : (a : Assertion) → count (assertion_tree names table a) ≤ 6
+  six_tokens a =
       let c = a.comparator in
-      inverted-three c.inverted _ _ _ (operand-one names table (comparisonOf c.relation) (get_or names a.left []) c.load a.right)
+      inverted_three c.inverted _ _ _ (operand_one names table (comparison_of c.relation) (get_or names a.left []) c.load a.right)
 
   -- one clause more is one ";" more
-  sequel-more : (t : Tree) (cs : List Clause) (c : Clause) → sequelOf names table t (cs ++ (c ∷ [])) ≡ G.joined 0 sequel (sequelOf names table t cs) (clauseTree names table c)
-  sequel-more t [] c = refl
-  sequel-more t (d ∷ cs) c = sequel-more (G.joined 0 sequel t (clauseTree names table d)) cs c
+  sequel_more : (t : Tree) (cs : List Clause) (c : Clause) → sequel_of names table t (cs ++ (c ∷ [])) ≡ G.joined 0 sequel (sequel_of names table t cs) (clause_tree names table c)
+  sequel_more t [] c = refl
+  sequel_more t (d ∷ cs) c = sequel_more (G.joined 0 sequel t (clause_tree names table d)) cs c
 
-  pub all_more : (cs : List Clause) (c : Clause) → all_of list table (cs ++ (c ∷ [])) ≡ some (sequelOn (all_of list table cs) (clauseTree names table c))
+  pub all_more : (cs : List Clause) (c : Clause) → all_of list table (cs ++ (c ∷ [])) ≡ some (sequel_on (all_of list table cs) (clause_tree names table c))
   all_more [] c = refl
-  all_more (d ∷ cs) c = ap some (sequel-more (clauseTree names table d) cs c)
+  all_more (d ∷ cs) c = ap some (sequel_more (clause_tree names table d) cs c)
 
   module _ (ns : List ℕ) (start : ℕ) where
-    no-clause : (o : Option Clause) → PartIs list ns start T.Nothing (clauseOf list table o) → o ≡ none
-    no-clause none h = refl
-    no-clause (some c) h = absurd h
+    no_clause : (o : Option Clause) → PartIs list ns start T.Nothing (clause_of list table o) → o ≡ none
+    no_clause none h = refl
+    no_clause (some c) h = absurd h
 
-    a-clause : (p : Piece) (o : Option Clause) → PartIs list ns start (T.Tree p) (clauseOf list table o)
-        → (c : Clause) × ((o ≡ some c) × Holds list ns start p (clauseTree names table c))
-    a-clause p none h = absurd h
-    a-clause p (some c) h = (c, (refl, h))
+    a_clause : (p : Piece) (o : Option Clause) → PartIs list ns start (T.Tree p) (clause_of list table o)
+        → (c : Clause) × ((o ≡ some c) × Holds list ns start p (clause_tree names table c))
+    a_clause p none h = absurd h
+    a_clause p (some c) h = (c, (refl, h))
 
   -- of a front that represents another
 
   module _ (ns : List ℕ) (x : R.Front) (f : Front) (h : Represents list table ns x f) where
-    pub no-clause-yet : x.clause ≡ T.Nothing → f.clause ≡ none
-    no-clause-yet e = no-clause ns (end_of x.closed) f.clause (part-as list ns _ _ e h.clause)
+    pub no_clause_yet : x.clause ≡ T.Nothing → f.clause ≡ none
+    no_clause_yet e = no_clause ns (end_of x.closed) f.clause (part_as list ns _ _ e h.clause)
 
-    pub clause-there : (p : Piece) → x.clause ≡ T.Tree p → (c : Clause) × ((f.clause ≡ some c) × Holds list ns (end_of x.closed) p (clauseTree names table c))
-    clause-there p e = a-clause ns (end_of x.closed) p f.clause (part-as list ns _ _ e h.clause)
+    pub clause_there : (p : Piece) → x.clause ≡ T.Tree p → (c : Clause) × ((f.clause ≡ some c) × Holds list ns (end_of x.closed) p (clause_tree names table c))
+    clause_there p e = a_clause ns (end_of x.closed) p f.clause (part_as list ns _ _ e h.clause)
 
-    pub closed-most : end_of x.closed ≤ 1024
-    closed-most = end-most list ns x.closed (all_of list table f.closed) h.closed
+    pub closed_most : end_of x.closed ≤ 1024
+    closed_most = end_most list ns x.closed (all_of list table f.closed) h.closed
 
-    pub is-closable : mostNodes * 8 ≤ length ns → (p : Piece) → x.clause ≡ T.Tree p → Closable x.closed p ns
-    is-closable room p e =
-        let c = clause-there p e in
+    pub is_closable : most_nodes * 8 ≤ length ns → (p : Piece) → x.clause ≡ T.Tree p → Closable x.closed p ns
+    is_closable room p e =
+        let c = clause_there p e in
         closable list ns x.closed _ p _ room h.closed c.1.1
 
     -- a conjunction
 
     module _ (at : ℕ) (k : P.Conjunction) where
-      pub none_before : x.clause ≡ T.Nothing → withConjunction at f.closed f.clause f.conjunction k ≡ fault at
-      none_before e = rw (no-clause-yet e)
+      pub none_before : x.clause ≡ T.Nothing → with_conjunction at f.closed f.clause f.conjunction k ≡ fault at
+      none_before e = rw (no_clause_yet e)
 
-      pub another-before : {p : Piece} {j : Conjunction} → x.clause ≡ T.Tree p → x.link ≡ L.Waits j
-          → withConjunction at f.closed f.clause f.conjunction k ≡ fault at
-      another-before {p} {j} e l =
-          let c = clause-there p e in
-          two-conjunctions f.closed f.clause f.conjunction at k c.0 (conjunctionMeant j) c.1.0 (sym h.link ∙ ap linkMeant l)
+      pub another_before : {p : Piece} {j : Conjunction} → x.clause ≡ T.Tree p → x.link ≡ L.Waits j
+          → with_conjunction at f.closed f.clause f.conjunction k ≡ fault at
+      another_before {p} {j} e l =
+          let c = clause_there p e in
+          two_conjunctions f.closed f.clause f.conjunction at k c.0 (conjunction_meant j) c.1.0 (sym h.link ∙ ap link_meant l)
 
     pub conjoined : (at : ℕ) (k : Conjunction) (p : Piece) → x.clause ≡ T.Tree p → x.link ≡ L.Nothing
-        → Steps list table ns at (withConjunction at f.closed f.clause f.conjunction (conjunctionMeant k))
+        → Steps list table ns at (with_conjunction at f.closed f.clause f.conjunction (conjunction_meant k))
         (S.On (record { closed = x.closed; clause = x.clause; link = L.Waits k; opened = O.Nothing }))
     conjoined at k p e l =
-        let c = clause-there p e in (
-          record { closed = f.closed; clause = f.clause; conjunction = some (conjunctionMeant k); comparator = none },
-          (one-conjunction f.closed f.clause f.conjunction at (conjunctionMeant k) c.0 c.1.0 (sym h.link ∙ ap linkMeant l), record { closed = h.closed; clause = h.clause; link = refl; opened = refl; first = h.first }),
+        let c = clause_there p e in (
+          record { closed = f.closed; clause = f.clause; conjunction = some (conjunction_meant k); comparator = none },
+          (one_conjunction f.closed f.clause f.conjunction at (conjunction_meant k) c.0 c.1.0 (sym h.link ∙ ap link_meant l), record { closed = h.closed; clause = h.clause; link = refl; opened = refl; first = h.first }),
         )
 
     -- the clause that may go on
 
     module _ (c : Piece) (e : x.clause ≡ T.Tree c) where
       abbrev before : Clause
-      before = (clause-there c e).0
+      before = (clause_there c e).0
 
-      abbrev before_stands : Holds list ns (end_of x.closed) c (clauseTree names table before)
-      before_stands = (clause-there c e).1.1
+      abbrev before_stands : Holds list ns (end_of x.closed) c (clause_tree names table before)
+      before_stands = (clause_there c e).1.1
 
       -- there is room for an assertion behind it
 
-      pub room-behind : mostNodes * 8 ≤ length ns → (c.end * 8 + 64 ≤ length ns) × (c.end < 60000)
-      room-behind room = (omega (arith, room, before_stands.room, closed-most), omega (arith, before_stands.room, closed-most))
+      pub room_behind : most_nodes * 8 ≤ length ns → (c.end * 8 + 64 ≤ length ns) × (c.end < 60000)
+      room_behind room = (omega (arith, room, before_stands.room, closed_most), omega (arith, before_stands.room, closed_most))
 
       abbrev Closing : List ℕ → Piece → Type 0
       Closing mid all =
-          (o : Option Tree) (t : Tree) → PartIs list ns 0 x.closed o → Holds list ns (end_of x.closed) c t → Grown list ns mid 0 all (sequelOn o t)
+          (o : Option Tree) (t : Tree) → PartIs list ns 0 x.closed o → Holds list ns (end_of x.closed) c t → Grown list ns mid 0 all (sequel_on o t)
 
       pub all_closed : {mid : List ℕ} {all : Piece} → Closing mid all
-          → Grown list ns mid 0 all (sequelOn (all_of list table f.closed) (clauseTree names table before))
-      all_closed close = close (all_of list table f.closed) (clauseTree names table before) h.closed before_stands
+          → Grown list ns mid 0 all (sequel_on (all_of list table f.closed) (clause_tree names table before))
+      all_closed close = close (all_of list table f.closed) (clause_tree names table before) h.closed before_stands
 
     -- an assertion is put: first of all, behind a clause that it closes, and behind one that it goes on with
 
     abbrev with_it : Part → Piece → R.Front
     with_it closed p = record { closed = closed; clause = T.Tree p; link = L.Nothing; opened = O.Nothing }
 
-    stands-as : (after : List ℕ) (y : R.Front) (a : Assertion) {g : Front} → continued f.closed f.clause f.conjunction a ≡ g
+    stands_as : (after : List ℕ) (y : R.Front) (a : Assertion) {g : Front} → continued f.closed f.clause f.conjunction a ≡ g
         → Represents list table after y g → Represents list table after y (continued f.closed f.clause f.conjunction a)
-    stands-as after y a e g = subst (Represents list table after y) (sym e) g
+    stands_as after y a e g = subst (Represents list table after y) (sym e) g
 
     module _ (a : Assertion) where
-      abbrev a-tree : Tree
-      a-tree = assertionTree names table a
+      abbrev a_tree : Tree
+      a_tree = assertion_tree names table a
 
-      pub begins-all : x.clause ≡ T.Nothing → (after : List ℕ) (p : Piece) → Grown list ns after 0 p a-tree
+      pub begins_all : x.clause ≡ T.Nothing → (after : List ℕ) (p : Piece) → Grown list ns after 0 p a_tree
           → Represents list table after (with_it x.closed p) (continued f.closed f.clause f.conjunction a)
-      begins-all e after p g =
-          let none_yet = no-clause-yet e in
+      begins_all e after p g =
+          let none_yet = no_clause_yet e in
           let empty : f.closed ≡ [] = h.first none_yet in
-          let nowhere = nothing-there list ns 0 x.closed (subst (λ (cs : List Clause). PartIs list ns 0 x.closed (all_of list table cs)) empty h.closed) in
-          stands-as after _ a (begun_first f.closed f.clause f.conjunction a none_yet)
+          let nowhere = nothing_there list ns 0 x.closed (subst (λ (cs : List Clause). PartIs list ns 0 x.closed (all_of list table cs)) empty h.closed) in
+          stands_as after _ a (begun_first f.closed f.clause f.conjunction a none_yet)
           (record {
             closed = part_stays list ns after x.closed _ (rw nowhere) h.closed;
-            clause = subst (λ (y : Part). Holds list after (end_of y) p a-tree) (sym nowhere) g.holds;
+            clause = subst (λ (y : Part). Holds list after (end_of y) p a_tree) (sym nowhere) g.holds;
             link = refl;
             opened = refl;
             first = λ (z : some (P.alone a) ≡ none). absurd (none-ne-some _ (sym z));
@@ -242,17 +242,17 @@ module _ (list table : List ℕ) where
 
       module _ (c : Piece) (e : x.clause ≡ T.Tree c) where
         -- and for a link behind both
-        pub linkable : mostNodes * 8 ≤ length ns → {mid : List ℕ} {next : Piece} → Grown list ns mid c.end next a-tree
+        pub linkable : most_nodes * 8 ≤ length ns → {mid : List ℕ} {next : Piece} → Grown list ns mid c.end next a_tree
             → Operands c next mid × ((next.end * 8 + 16 ≤ length mid) × (next.end < 60000))
         linkable room {mid} {next} g =
-            let near : next.end ≤ 2054 = omega (arith, (before_stands c e).room, closed-most, g.holds.few, six-tokens a) in (
+            let near : next.end ≤ 2054 = omega (arith, (before_stands c e).room, closed_most, g.holds.few, six_tokens a) in (
               record {
                 left = small _ (before_stands c e).sized;
                 some = omega (arith, (before_stands c e).begun);
                 behind = omega (arith, g.holds.begun);
                 right =
                     record {
-                      small = small a-tree g.holds.sized;
+                      small = small a_tree g.holds.sized;
                       some = omega (arith, g.holds.begun);
                       most = omega (arith, near);
                       fits = omega (arith, near, g.kept, room);
@@ -261,11 +261,11 @@ module _ (list table : List ℕ) where
               (omega (arith, near, g.kept, room), omega (arith, near)),
             )
 
-        pub closes : x.link ≡ L.Nothing → {mid after : List ℕ} {all p : Piece} → Closing c e mid all → Grown list mid after all.end p a-tree
+        pub closes : x.link ≡ L.Nothing → {mid after : List ℕ} {all p : Piece} → Closing c e mid all → Grown list mid after all.end p a_tree
             → Represents list table after (with_it (T.Tree all) p) (continued f.closed f.clause f.conjunction a)
         closes l {mid} {after} {all} {p} close k =
-            let both = grown-behind list (all_closed c e close) k in
-            stands-as after _ a (begun-behind f.closed f.clause f.conjunction a (before c e) (clause-there c e).1.0 (sym h.link ∙ ap linkMeant l))
+            let both = grown_behind list (all_closed c e close) k in
+            stands_as after _ a (begun_behind f.closed f.clause f.conjunction a (before c e) (clause_there c e).1.0 (sym h.link ∙ ap link_meant l))
             (record {
               closed = rw (all_more f.closed (before c e)) both.holds;
               clause = k.holds;
@@ -277,19 +277,19 @@ module _ (list table : List ℕ) where
         abbrev Linking : List ℕ → List ℕ → Piece → Piece → Conjunction → Type 0
         Linking mid after next p j =
             (start : ℕ) (t u : Tree) → Holds list mid start c t → Holds list mid c.end next u
-            → Grown list mid after start p (inversion j.inverted (link_of (linkingMeant j.linking) t u))
+            → Grown list mid after start p (inversion j.inverted (link_of (linking_meant j.linking) t u))
 
-        pub goes_on : {j : Conjunction} → x.link ≡ L.Waits j → {mid after : List ℕ} {next p : Piece} → Grown list ns mid c.end next a-tree
+        pub goes_on : {j : Conjunction} → x.link ≡ L.Waits j → {mid after : List ℕ} {next p : Piece} → Grown list ns mid c.end next a_tree
             → Linking mid after next p j → Represents list table after (with_it x.closed p) (continued f.closed f.clause f.conjunction a)
         goes_on {j} l {mid} {after} {next} {p} g link =
-            let still = still-holds list c.end g.stays (omega arith) (before_stands c e) in
-            let linked = link (end_of x.closed) (clauseTree names table (before c e)) a-tree still g.holds in
-            let stays = stays-before ns mid (end_of x.closed) c.end (omega (arith, (before_stands c e).begun)) g.stays in
-            stands-as after _ a (gone-on f.closed f.clause f.conjunction a (before c e) (conjunctionMeant j) (clause-there c e).1.0 (sym h.link ∙ ap linkMeant l))
+            let still = still_holds list c.end g.stays (omega arith) (before_stands c e) in
+            let linked = link (end_of x.closed) (clause_tree names table (before c e)) a_tree still g.holds in
+            let stays = stays_before ns mid (end_of x.closed) c.end (omega (arith, (before_stands c e).begun)) g.stays in
+            stands_as after _ a (gone_on f.closed f.clause f.conjunction a (before c e) (conjunction_meant j) (clause_there c e).1.0 (sym h.link ∙ ap link_meant l))
             (record {
               closed = part_stays list ns after x.closed _ (linked.stays ∙ stays) h.closed;
               clause = linked.holds;
               link = refl;
               opened = refl;
-              first = λ (z : some (P.linked (before c e) (conjunctionMeant j) a) ≡ none). absurd (none-ne-some _ (sym z));
+              first = λ (z : some (P.linked (before c e) (conjunction_meant j) a) ≡ none). absurd (none-ne-some _ (sym z));
             })

@@ -7,19 +7,19 @@ use mathlib.Core.Option.{Option, none, some}
 use mathlib.Core.List.{List, [], ◌∷◌}
 use lib.ListN.{length, get_or, drop, drop_of_length-le}
 use Rattle.paper.specs.Answers.{Answer, ok, ◌>>=◌}
-use Rattle.paper.specs.Keys.{recordsIn}
+use Rattle.paper.specs.Keys.{records_in}
 use Rattle.paper.specs.Grammar.{Tree}
 use Rattle.paper.specs.Pact as P
 use Rattle.paper.specs.Pact.{Clause}
-use Rattle.paper.specs.Contract.{Front, at_start, fault, closedAll, ended, withByte, clausesFrom, clauses}
-use Rattle.paper.specs.Drafting.{contractTree}
+use Rattle.paper.specs.Contract.{Front, at_start, fault, closed_all, ended, with_byte, clauses_from, clauses}
+use Rattle.paper.specs.Drafting.{contract_tree}
 use Rattle.spelling.proofs.Steps.{cut}
 use Rattle.drafting.specs.declared.fronts.Front as R
 use Rattle.drafting.specs.declared.fronts.Step.{Step}
 use Rattle.drafting.specs.declared.fronts.Step.TheVariants as S
 use Rattle.drafting.specs.declared.contracts.Outcome.{Outcome}
 use Rattle.drafting.specs.declared.contracts.Outcome.TheVariants as D
-use Rattle.drafting.specs.Assertions.{namesIn}
+use Rattle.drafting.specs.Assertions.{names_in}
 use Rattle.drafting.specs.Fronts.{all_of, Represents, Steps}
 use Rattle.drafting.specs.Drafts.{Measured, Drafts}
 
@@ -28,11 +28,11 @@ pub record Read (contract table list ns : List ℕ) (x : R.Front) (i : ℕ) : Ty
   pub here : i ≤ length contract
   pub front : Front
   pub stands : Represents list table ns x front
-  pub rest : clausesFrom (recordsIn list) (length table) i front (drop i contract) ≡ clauses (recordsIn list) (length table) contract
+  pub rest : clauses_from (records_in list) (length table) i front (drop i contract) ≡ clauses (records_in list) (length table) contract
 
 module _ (contract table list : List ℕ) where
   abbrev all : Answer (List Clause)
-  all = clauses (recordsIn list) (length table) contract
+  all = clauses (records_in list) (length table) contract
 
   pub read_none : (ns : List ℕ) (x : R.Front) → Represents list table ns x at_start → Read contract table list ns x 0
   unfolding clauses
@@ -40,16 +40,16 @@ module _ (contract table list : List ℕ) where
 
   module _ (ns : List ℕ) (x : R.Front) (i : ℕ) (r : Read contract table list ns x i) where
     abbrev byte : Answer Front
-    byte = withByte (recordsIn list) (length table) i r.front r.front.comparator (get_or contract i 0)
+    byte = with_byte (records_in list) (length table) i r.front r.front.comparator (get_or contract i 0)
 
     -- the next byte
-    one_byte : i < length contract → (byte >>= λ g. clausesFrom (recordsIn list) (length table) (suc i) g (drop (i + 1) contract)) ≡ all
-    unfolding clausesFrom
+    one_byte : i < length contract → (byte >>= λ g. clauses_from (records_in list) (length table) (suc i) g (drop (i + 1) contract)) ≡ all
+    unfolding clauses_from
     one_byte h = rw (cut contract i h) at r.rest
 
-    pub read-on : i < length contract → (after : List ℕ) (y : R.Front) {s : Step} → s ≡ S.On y → Steps list table after i byte s
+    pub read_on : i < length contract → (after : List ℕ) (y : R.Front) {s : Step} → s ≡ S.On y → Steps list table after i byte s
         → Read contract table list after y (i + 1)
-    read-on h after y e steps =
+    read_on h after y e steps =
         let step = subst (Steps list table after i byte) e steps in
         record {
           here = omega arith;
@@ -58,38 +58,38 @@ module _ (contract table list : List ℕ) where
           rest = rw (add-one i) (rw (step.1.0, add-one i) at (one_byte h));
         }
 
-    pub read-fault : i < length contract → (after : List ℕ) {s : Step} → s ≡ S.Fault → Steps list table after i byte s → all ≡ fault i
-    read-fault h after e steps =
+    pub read_fault : i < length contract → (after : List ℕ) {s : Step} → s ≡ S.Fault → Steps list table after i byte s → all ≡ fault i
+    read_fault h after e steps =
         let step = subst (Steps list table after i byte) e steps in
         sym (rw step at (one_byte h))
 
     pub read_all : length contract ≤ i → ended i r.front r.front.conjunction r.front.comparator ≡ all
-    unfolding clausesFrom
+    unfolding clauses_from
     read_all h = rw (drop_of_length-le contract h) at r.rest
 
 -- what is said at the end of a contract, by what waits there
 module _ (at : ℕ) (f : Front) where
-  pub index-waits : (j : Option P.Conjunction) {w : Option P.Comparator} (o : P.Comparator) → w ≡ some o → ended at f j w ≡ fault at
-  index-waits j o e = rw e
+  pub index_waits : (j : Option P.Conjunction) {w : Option P.Comparator} (o : P.Comparator) → w ≡ some o → ended at f j w ≡ fault at
+  index_waits j o e = rw e
 
-  pub assertion-waits : {j : Option P.Conjunction} {w : Option P.Comparator} (k : P.Conjunction) → w ≡ none → j ≡ some k → ended at f j w ≡ fault at
-  assertion-waits k e l = rw (e, l)
+  pub assertion_waits : {j : Option P.Conjunction} {w : Option P.Comparator} (k : P.Conjunction) → w ≡ none → j ≡ some k → ended at f j w ≡ fault at
+  assertion_waits k e l = rw (e, l)
 
-  pub none-waits : {j : Option P.Conjunction} {w : Option P.Comparator} → w ≡ none → j ≡ none → ended at f j w ≡ ok (closedAll f.closed f.clause)
-  none-waits e l = rw (e, l)
+  pub none_waits : {j : Option P.Conjunction} {w : Option P.Comparator} → w ≡ none → j ≡ none → ended at f j w ≡ ok (closed_all f.closed f.clause)
+  none_waits e l = rw (e, l)
 
 module _ (list table : List ℕ) where
   -- the tree of some clauses
-  pub tree-of-all : (cs : List Clause) (t : Tree) → all_of list table cs ≡ some t → contractTree (namesIn list) table cs ≡ t
-  unfolding contractTree
-  tree-of-all [] t e = let z : ◌≡◌ {A = ℕ} 0 1 = cc in absurd (omega arith)
-  tree-of-all (c ∷ cs) t e = cc
+  pub tree_of_all : (cs : List Clause) (t : Tree) → all_of list table cs ≡ some t → contract_tree (names_in list) table cs ≡ t
+  unfolding contract_tree
+  tree_of_all [] t e = let z : ◌≡◌ {A = ℕ} 0 1 = cc in absurd (omega arith)
+  tree_of_all (c ∷ cs) t e = cc
 
-  pub drafts-as : (ns : List ℕ) {a : Answer (List Clause)} (cs : List Clause) (r : Outcome) → a ≡ ok cs
-      → Measured list ns (contractTree (namesIn list) table cs) r → Drafts list table ns a r
-  drafts-as ns cs (D.Fault at) e h = absurd h
-  drafts-as ns cs D.Over e h = (cs, (e, h))
-  drafts-as ns cs (D.Tree root) e h = (cs, (e, h))
+  pub drafts_as : (ns : List ℕ) {a : Answer (List Clause)} (cs : List Clause) (r : Outcome) → a ≡ ok cs
+      → Measured list ns (contract_tree (names_in list) table cs) r → Drafts list table ns a r
+  drafts_as ns cs (D.Fault at) e h = absurd h
+  drafts_as ns cs D.Over e h = (cs, (e, h))
+  drafts_as ns cs (D.Tree root) e h = (cs, (e, h))
 
-  pub drafts-same : (ns : List ℕ) {a b : Answer (List Clause)} (r : Outcome) → a ≡ b → Drafts list table ns a r → Drafts list table ns b r
-  drafts-same ns r e h = subst (λ (x : Answer (List Clause)). Drafts list table ns x r) e h
+  pub drafts_same : (ns : List ℕ) {a b : Answer (List Clause)} (r : Outcome) → a ≡ b → Drafts list table ns a r → Drafts list table ns b r
+  drafts_same ns r e h = subst (λ (x : Answer (List Clause)). Drafts list table ns x r) e h

@@ -6,7 +6,7 @@ use Rattle.paper.specs.Tokens.{sequel}
 use Rattle.paper.specs.Grammar.{Tree, joined}
 use Rattle.paper.specs.Pact.{Comparator, Conjunction, Clause}
 use Rattle.paper.specs.Contract as P
-use Rattle.paper.specs.Drafting.{clauseTree, sequelOf}
+use Rattle.paper.specs.Drafting.{clause_tree, sequel_of}
 use Rattle.drafting.specs.declared.pieces.Piece.{Piece}
 use Rattle.drafting.specs.declared.fronts.Part.{Part}
 use Rattle.drafting.specs.declared.fronts.Part.TheVariants as T
@@ -17,35 +17,35 @@ use Rattle.drafting.specs.declared.fronts.Opened.TheVariants as O
 use Rattle.drafting.specs.declared.fronts.Front.{Front}
 use Rattle.drafting.specs.declared.fronts.Step.{Step}
 use Rattle.drafting.specs.declared.fronts.Step.TheVariants as S
-use Rattle.drafting.specs.Opcodes.{conjunctionMeant, comparatorMeant}
+use Rattle.drafting.specs.Opcodes.{conjunction_meant, comparator_meant}
 use Rattle.drafting.specs.Pieces.{Holds, Operands}
-use Rattle.drafting.specs.Assertions.{namesIn}
+use Rattle.drafting.specs.Assertions.{names_in}
 
 -- what waits
 
-abbrev pub linkMeant : Link → Option Conjunction
-linkMeant L.Nothing = none
-linkMeant (L.Waits j) = some (conjunctionMeant j)
+abbrev pub link_meant : Link → Option Conjunction
+link_meant L.Nothing = none
+link_meant (L.Waits j) = some (conjunction_meant j)
 
-abbrev pub openedMeant : Opened → Option Comparator
-openedMeant O.Nothing = none
-openedMeant (O.Waits o) = some (comparatorMeant o)
+abbrev pub opened_meant : Opened → Option Comparator
+opened_meant O.Nothing = none
+opened_meant (O.Waits o) = some (comparator_meant o)
 
 -- the tree of the closed clauses, and of the one that may go on
 
 module _ (list table : List ℕ) where
   abbrev pub all_of : List Clause → Option Tree
   all_of [] = none
-  all_of (c ∷ cs) = some (sequelOf (namesIn list) table (clauseTree (namesIn list) table c) cs)
+  all_of (c ∷ cs) = some (sequel_of (names_in list) table (clause_tree (names_in list) table c) cs)
 
-  abbrev pub clauseOf : Option Clause → Option Tree
-  clauseOf none = none
-  clauseOf (some c) = some (clauseTree (namesIn list) table c)
+  abbrev pub clause_of : Option Clause → Option Tree
+  clause_of none = none
+  clause_of (some c) = some (clause_tree (names_in list) table c)
 
 -- a clause behind those that are closed
-abbrev pub sequelOn : Option Tree → Tree → Tree
-sequelOn none t = t
-sequelOn (some a) t = joined 0 sequel a t
+abbrev pub sequel_on : Option Tree → Tree → Tree
+sequel_on none t = t
+sequel_on (some a) t = joined 0 sequel a t
 
 -- where they stand in the nodes, each from its first node on
 
@@ -62,17 +62,17 @@ PartIs list ns start (T.Tree p) (some t) = Holds list ns start p t
 -- the closed clauses from the first node on, then the other; one that may go on is there once any is closed
 pub record Represents (list table ns : List ℕ) (x : Front) (f : P.Front) : Type 0 where
   pub closed : PartIs list ns 0 x.closed (all_of list table f.closed)
-  pub clause : PartIs list ns (end_of x.closed) x.clause (clauseOf list table f.clause)
-  pub link : linkMeant x.link ≡ f.conjunction
-  pub opened : openedMeant x.opened ≡ f.comparator
+  pub clause : PartIs list ns (end_of x.closed) x.clause (clause_of list table f.clause)
+  pub link : link_meant x.link ≡ f.conjunction
+  pub opened : opened_meant x.opened ≡ f.comparator
   pub first : f.clause ≡ none → f.closed ≡ []
 
 -- two trees within the limit of tokens, an assertion and its link
-abbrev pub mostNodes : ℕ
-mostNodes = 2056
+abbrev pub most_nodes : ℕ
+most_nodes = 2056
 
 pub record Ready (list table ns : List ℕ) (x : Front) : Type 0 where
-  pub room : mostNodes * 8 ≤ length ns
+  pub room : most_nodes * 8 ≤ length ns
   pub front : P.Front
   pub stands : Represents list table ns x front
 

@@ -11,27 +11,27 @@ use Rattle.drafting.specs.declared.opcodes.Conjunction.{Conjunction}
 use Rattle.drafting.specs.declared.opcodes.Opcode.{Opcode}
 use Rattle.drafting.specs.declared.opcodes.Opcode.TheVariants.{Compares, Conjoins, Wrong}
 
-abbrev pub relationMeant : Relation → P.Relation
-relationMeant Equal = P.eq
-relationMeant Greater = P.gt
-relationMeant AtLeast = P.gte
+abbrev pub relation_meant : Relation → P.Relation
+relation_meant Equal = P.eq
+relation_meant Greater = P.gt
+relation_meant AtLeast = P.gte
 
-abbrev pub loadMeant : Load → P.Load
-loadMeant User = P.user
-loadMeant Input = P.input
+abbrev pub load_meant : Load → P.Load
+load_meant User = P.user
+load_meant Input = P.input
 
-abbrev pub linkingMeant : Linking → P.Linking
-linkingMeant And = P.and
-linkingMeant Or = P.or
-linkingMeant Xor = P.xor
+abbrev pub linking_meant : Linking → P.Linking
+linking_meant And = P.and
+linking_meant Or = P.or
+linking_meant Xor = P.xor
 
-abbrev pub comparatorMeant : Comparator → P.Comparator
-comparatorMeant c = record { inverted = c.inverted; load = loadMeant c.load; relation = relationMeant c.relation }
+abbrev pub comparator_meant : Comparator → P.Comparator
+comparator_meant c = record { inverted = c.inverted; load = load_meant c.load; relation = relation_meant c.relation }
 
-abbrev pub conjunctionMeant : Conjunction → P.Conjunction
-conjunctionMeant j = record { inverted = j.inverted; linking = linkingMeant j.linking }
+abbrev pub conjunction_meant : Conjunction → P.Conjunction
+conjunction_meant j = record { inverted = j.inverted; linking = linking_meant j.linking }
 
-abbrev pub opcodeMeant : Opcode → P.Opcode
-opcodeMeant (Compares c) = P.compares (comparatorMeant c)
-opcodeMeant (Conjoins j) = P.conjoins (conjunctionMeant j)
-opcodeMeant Wrong = P.wrong
+abbrev pub opcode_meant : Opcode → P.Opcode
+opcode_meant (Compares c) = P.compares (comparator_meant c)
+opcode_meant (Conjoins j) = P.conjoins (conjunction_meant j)
+opcode_meant Wrong = P.wrong

@@ -1,9 +1,9 @@
 -- Where a tree stands in the nodes, and what of the nodes stays where another is put behind it.
 use Rattle.std.specs.Prelude.{ℕ, ◌+◌, ◌*◌, ◌-◌, ◌≤◌, ◌<◌, ◌≡◌, List, length, take}
-use Rattle.paper.specs.Tokens.{mostTokens}
+use Rattle.paper.specs.Tokens.{most_tokens}
 use Rattle.paper.specs.Grammar.{Tree}
 use Rattle.paper.specs.Sized.{count}
-use Rattle.trees.specs.Standing.{treeAt}
+use Rattle.trees.specs.Standing.{tree_at}
 use Rattle.drafting.specs.declared.pieces.Piece.{Piece}
 use Rattle.drafting.specs.Sizes.{Small, Sized}
 
@@ -11,9 +11,9 @@ use Rattle.drafting.specs.Sizes.{Small, Sized}
 pub record Holds (list ns : List ℕ) (start : ℕ) (p : Piece) (t : Tree) : Type 0 where
   pub sized : Sized p.size t
   pub begun : start < p.end
-  pub room : p.end ≤ start + mostTokens
+  pub room : p.end ≤ start + most_tokens
   pub few : p.end ≤ start + count t
-  pub built : count t ≤ mostTokens → treeAt list ns (p.end - 1) ≡ t
+  pub built : count t ≤ most_tokens → tree_at list ns (p.end - 1) ≡ t
 
 -- it was put there, and what stood before stays
 pub record Grown (list before after : List ℕ) (start : ℕ) (p : Piece) (t : Tree) : Type 0 where

@@ -1,15 +1,15 @@
 // Assertions: a comparator with its two indices, and its tree.
 ghost use Rattle.std.specs.Prelude.{◌≡◌, List, ℕ, ◌+◌, ◌*◌, ◌≤◌, ◌<◌, length, get_or};
-ghost use Rattle.paper.specs.Tokens.{decimal, literalIn};
-ghost use Rattle.paper.specs.Keys.{recordAt, recordsIn, name_of};
+ghost use Rattle.paper.specs.Tokens.{decimal, literal_in};
+ghost use Rattle.paper.specs.Keys.{record_at, records_in, name_of};
 ghost use Rattle.paper.specs.Grammar as G;
-ghost use Rattle.paper.specs.Pact.{leftIndex, rightIndex};
-ghost use Rattle.paper.specs.Contract.{indexFits};
-ghost use Rattle.paper.specs.Drafting.{comparisonOf, operandTree, assertionTree};
-ghost use Rattle.trees.specs.Standing.{comparisonMeant};
-ghost use Rattle.drafting.specs.Opcodes.{relationMeant, loadMeant, comparatorMeant};
+ghost use Rattle.paper.specs.Pact.{left_index, right_index};
+ghost use Rattle.paper.specs.Contract.{index_fits};
+ghost use Rattle.paper.specs.Drafting.{comparison_of, operand_tree, assertion_tree};
+ghost use Rattle.trees.specs.Standing.{comparison_meant};
+ghost use Rattle.drafting.specs.Opcodes.{relation_meant, load_meant, comparator_meant};
 ghost use Rattle.drafting.specs.Pieces.{Grown};
-ghost use Rattle.drafting.specs.Assertions.{Named, namesIn, assertionMeant, indexed, Fits};
+ghost use Rattle.drafting.specs.Assertions.{Named, names_in, assertion_meant, indexed, Fits};
 
 use crate::opcodes::{Comparator, Load, Relation};
 use crate::pieces::Piece;
@@ -31,7 +31,7 @@ pub struct Assertion {
 impl Assertion {
     // A comparator with the byte of its indices.
     pub(crate) fn new(comparator: Comparator, indices: u8) -> Assertion
-        ensures { assertionMeant result ≡ record { comparator = comparatorMeant comparator; left = leftIndex indices; right = rightIndex indices } }
+        ensures { assertion_meant result ≡ record { comparator = comparator_meant comparator; left = left_index indices; right = right_index indices } }
     {
         Assertion {
             comparator: comparator,
@@ -58,9 +58,9 @@ impl Assertion {
 
 // The leaf of an input: its name, where it lies in the list.
 fn put_input(names: &[u8], k: usize, at: usize, nodes: &mut [u32]) -> Piece
-    requires named { Named names.now × (k < recordsIn names.now) }
+    requires named { Named names.now × (k < records_in names.now) }
     requires at_in_bounds { (at * 8 + 8 ≤ length nodes.old) × (at < 65536) }
-    ensures { Grown names.now nodes.old nodes.new at result (G.key 0 (name_of (recordAt names.now k))) }
+    ensures { Grown names.now nodes.old nodes.new at result (G.key 0 (name_of (record_at names.now k))) }
 {
     let key = k * KeyRecord::SIZE;
     let from = key + KeyRecord::NAME;
@@ -75,7 +75,7 @@ fn put_input(names: &[u8], k: usize, at: usize, nodes: &mut [u32]) -> Piece
 // The leaf of a user number.
 fn put_user(value: u64, at: usize, nodes: &mut [u32]) -> Piece
     requires { (at * 8 + 8 ≤ length nodes.old) × (at < 65536) }
-    ensures { (list : List ℕ) → Grown list nodes.old nodes.new at result (G.number 0 (literalIn decimal value)) }
+    ensures { (list : List ℕ) → Grown list nodes.old nodes.new at result (G.number 0 (literal_in decimal value)) }
 {
     trees::put_number(nodes, at, 0, Literal::plain(Magnitude::of_u64(value)));
     Piece {
@@ -89,7 +89,7 @@ fn put_right(a: Assertion, names: &[u8], table: &[u64], at: usize, nodes: &mut [
     requires fits { Fits names.now table.now a }
     requires at_in_bounds { (at * 8 + 8 ≤ length nodes.old) × (at < 65536) }
     ensures { Grown names.now nodes.old nodes.new at result
-        (operandTree (namesIn names.now) table.now (loadMeant a.comparator.load) a.right) }
+        (operand_tree (names_in names.now) table.now (load_meant a.comparator.load) a.right) }
 {
     let comparator = a.comparator;
     let load = comparator.load;
@@ -101,7 +101,7 @@ fn put_right(a: Assertion, names: &[u8], table: &[u64], at: usize, nodes: &mut [
 }
 
 fn comparison_of(relation: Relation) -> Comparison
-    ensures { comparisonMeant result ≡ comparisonOf (relationMeant relation) }
+    ensures { comparison_meant result ≡ comparison_of (relation_meant relation) }
 {
     match relation {
         Relation::Equal => Comparison::Equal,
@@ -121,7 +121,7 @@ pub(crate) fn put_assertion(
     requires fits { Fits names.now table.now a }
     requires at_in_bounds { (at * 8 + 64 ≤ length nodes.old) × (at < 60000) }
     ensures { Grown names.now nodes.old nodes.new at result
-        (assertionTree (namesIn names.now) table.now (assertionMeant a)) }
+        (assertion_tree (names_in names.now) table.now (assertion_meant a)) }
 {
     let comparator = a.comparator;
     let relation = comparator.relation;

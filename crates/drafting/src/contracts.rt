@@ -1,12 +1,12 @@
 // The tree of a contract: its bytes, one after another, then its end.
 ghost use Rattle.std.specs.Prelude.{◌≡◌, List, ℕ, ◌*◌, ◌≤◌, ◌<◌, length, true};
-ghost use Rattle.paper.specs.Keys.{recordsIn};
+ghost use Rattle.paper.specs.Keys.{records_in};
 ghost use Rattle.paper.specs.Grammar as G;
 ghost use Rattle.paper.specs.Grammar.{Tree};
 ghost use Rattle.paper.specs.Contract as paper;
 ghost use Rattle.drafting.specs.Pieces.{Holds};
 ghost use Rattle.drafting.specs.Assertions.{Named};
-ghost use Rattle.drafting.specs.Fronts.{mostNodes, Represents, Ready};
+ghost use Rattle.drafting.specs.Fronts.{most_nodes, Represents, Ready};
 ghost use Rattle.drafting.specs.Drafts.{Measured, Drafts};
 
 use crate::fronts::{Front, Link, Opened, Part, Step, put_closed};
@@ -46,7 +46,7 @@ fn measured(p: Piece) -> Outcome
 
 // Of an empty contract.
 fn empty(nodes: &mut [u32]) -> Outcome
-    requires { mostNodes * 8 ≤ length nodes.old }
+    requires { most_nodes * 8 ≤ length nodes.old }
     ensures { (list : List ℕ) → Measured list nodes.new (G.truth 0 true) result }
 {
     trees::put_truth(nodes, 0, 0, true);
@@ -77,9 +77,9 @@ fn ended(front: Front, at: usize, nodes: &mut [u32]) -> Outcome
 
 // By names that passed their check, and nodes that are lent.
 pub fn draft(contract: &[u8], table: &[u64], names: &[u8], nodes: &mut [u32]) -> Outcome
-    requires { Named names.now × (mostNodes * 8 ≤ length nodes.old) }
+    requires { Named names.now × (most_nodes * 8 ≤ length nodes.old) }
     ensures { Drafts names.now table.now nodes.new
-        (paper.clauses (recordsIn names.now) (length table.now) contract.now) result }
+        (paper.clauses (records_in names.now) (length table.now) contract.now) result }
 {
     let mut front = Front::start();
     let mut i = 0;

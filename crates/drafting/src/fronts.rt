@@ -1,15 +1,15 @@
 // What stands before a byte of a contract, and what a byte makes of it.
 ghost use Rattle.std.specs.Prelude.{◌≡◌, List, ℕ, ◌+◌, ◌*◌, ◌≤◌, ◌<◌, length};
 ghost use Rattle.std.proofs.Math.Option.{Option};
-ghost use Rattle.paper.specs.Keys.{recordsIn};
+ghost use Rattle.paper.specs.Keys.{records_in};
 ghost use Rattle.paper.specs.Grammar.{Tree};
 ghost use Rattle.paper.specs.Contract as paper;
 ghost use Rattle.paper.specs.Drafting.{inversion, link_of};
-ghost use Rattle.trees.specs.Standing.{operatorOn};
-ghost use Rattle.drafting.specs.Opcodes.{linkingMeant, opcodeMeant, conjunctionMeant};
+ghost use Rattle.trees.specs.Standing.{operator_on};
+ghost use Rattle.drafting.specs.Opcodes.{linking_meant, opcode_meant, conjunction_meant};
 ghost use Rattle.drafting.specs.Pieces.{Holds, Grown, Operands};
-ghost use Rattle.drafting.specs.Assertions.{Named, assertionMeant, Fits};
-ghost use Rattle.drafting.specs.Fronts.{Closable, PartIs, end_of, sequelOn, Represents, Ready, Steps};
+ghost use Rattle.drafting.specs.Assertions.{Named, assertion_meant, Fits};
+ghost use Rattle.drafting.specs.Fronts.{Closable, PartIs, end_of, sequel_on, Represents, Ready, Steps};
 
 use crate::assertions::{Assertion, put_assertion};
 use crate::opcodes::{Comparator, Conjunction, Linking, Opcode, opcode_of};
@@ -69,7 +69,7 @@ impl Front {
     // A conjunction goes on with a clause, if it stands directly behind it.
     fn with_conjunction(self, j: Conjunction) -> Step
         ensures { (list table ns : List ℕ) (at : ℕ) (f : paper.Front) → Represents list table ns self f
-            → Steps list table ns at (paper.withConjunction at f.closed f.clause f.conjunction (conjunctionMeant j)) result }
+            → Steps list table ns at (paper.with_conjunction at f.closed f.clause f.conjunction (conjunction_meant j)) result }
     {
         let closed = self.closed;
         let clause = self.clause;
@@ -90,7 +90,7 @@ impl Front {
 
     fn with_opcode(self, opcode: Opcode) -> Step
         ensures { (list table ns : List ℕ) (at : ℕ) (f : paper.Front) → Represents list table ns self f
-            → Steps list table ns at (paper.withOpcode at f (opcodeMeant opcode)) result }
+            → Steps list table ns at (paper.with_opcode at f (opcode_meant opcode)) result }
     {
         let closed = self.closed;
         let clause = self.clause;
@@ -110,7 +110,7 @@ impl Front {
 
 // Exclusive or is "!=" of two bools.
 fn link_of(linking: Linking) -> Operator
-    ensures { (t u : Tree) → operatorOn 0 result t u ≡ link_of (linkingMeant linking) t u }
+    ensures { (t u : Tree) → operator_on 0 result t u ≡ link_of (linking_meant linking) t u }
 {
     match linking {
         Linking::And => Operator::Joins(Join::And),
@@ -124,7 +124,7 @@ fn put_link(clause: Piece, j: Conjunction, next: Piece, nodes: &mut [u32]) -> Pi
     requires operands { Operands clause next nodes.old }
     requires end_in_bounds { (next.end * 8 + 16 ≤ length nodes.old) × (next.end < 60000) }
     ensures { (list : List ℕ) (start : ℕ) (t u : Tree) → Holds list nodes.old start clause t → Holds list nodes.old clause.end next u
-        → Grown list nodes.old nodes.new start result (inversion j.inverted (link_of (linkingMeant j.linking) t u)) }
+        → Grown list nodes.old nodes.new start result (inversion j.inverted (link_of (linking_meant j.linking) t u)) }
 {
     let linking = j.linking;
     let joined = clause.joined(link_of(linking), next, nodes);
@@ -135,7 +135,7 @@ fn put_link(clause: Piece, j: Conjunction, next: Piece, nodes: &mut [u32]) -> Pi
 pub(crate) fn put_closed(closed: Part, clause: Piece, nodes: &mut [u32]) -> Piece
     requires { Closable closed clause nodes.old }
     ensures { (list : List ℕ) (o : Option Tree) (t : Tree) → PartIs list nodes.old 0 closed o → Holds list nodes.old (end_of closed) clause t
-        → Grown list nodes.old nodes.new 0 result (sequelOn o t) }
+        → Grown list nodes.old nodes.new 0 result (sequel_on o t) }
 {
     match closed {
         Part::Nothing => clause,
@@ -161,7 +161,7 @@ impl Front {
         requires fits { Fits names.now table.now a }
         requires ready { Ready names.now table.now nodes.old self }
         ensures { (f : paper.Front) → Represents names.now table.now nodes.old self f
-            → Represents names.now table.now nodes.new result (paper.continued f.closed f.clause f.conjunction (assertionMeant a)) }
+            → Represents names.now table.now nodes.new result (paper.continued f.closed f.clause f.conjunction (assertion_meant a)) }
     {
         let closed = self.closed;
         let clause = self.clause;
@@ -188,7 +188,7 @@ impl Front {
         requires ready { Ready names.now table.now nodes.old self }
         ensures { (at : ℕ) (f : paper.Front) → Represents names.now table.now nodes.old self f
             → Steps names.now table.now nodes.new at
-            (paper.withByte (recordsIn names.now) (length table.now) at f f.comparator byte) result }
+            (paper.with_byte (records_in names.now) (length table.now) at f f.comparator byte) result }
     {
         let opened = self.opened;
         let Opened::Waits(o) = opened else {

@@ -1,7 +1,7 @@
 // The opcodes of 000. From the top: a bit for the operator's type, a bit for "not", four bits for the operation, and two reserved ones.
 ghost use Rattle.std.specs.Prelude.{◌≡◌, ◌/◌, ◌%◌, eqb};
-ghost use Rattle.paper.specs.Pact.{comparing, conjoining, load_of, relationOf, linkingOf, opcode_of};
-ghost use Rattle.drafting.specs.Opcodes.{loadMeant, opcodeMeant};
+ghost use Rattle.paper.specs.Pact.{comparing, conjoining, load_of, relation_of, linking_of, opcode_of};
+ghost use Rattle.drafting.specs.Opcodes.{load_meant, opcode_meant};
 
 #[derive(Drop)]
 pub enum Relation {
@@ -57,7 +57,7 @@ const OPERATIONS: u8 = 16;
 const LOAD: u8 = 8;
 
 fn load_of(input: bool) -> Load
-    ensures { loadMeant result ≡ load_of input }
+    ensures { load_meant result ≡ load_of input }
 {
     if input {
         return Load::Input;
@@ -66,7 +66,7 @@ fn load_of(input: bool) -> Load
 }
 
 fn comparing(inverted: bool, operation: u8) -> Opcode
-    ensures { opcodeMeant result ≡ comparing inverted (load_of (eqb (operation / 8) 1)) (relationOf (operation % 8)) }
+    ensures { opcode_meant result ≡ comparing inverted (load_of (eqb (operation / 8) 1)) (relation_of (operation % 8)) }
 {
     let load = load_of(operation / LOAD == 1);
     match operation % LOAD {
@@ -90,7 +90,7 @@ fn comparing(inverted: bool, operation: u8) -> Opcode
 }
 
 fn conjoining(inverted: bool, operation: u8) -> Opcode
-    ensures { opcodeMeant result ≡ conjoining inverted (linkingOf operation) }
+    ensures { opcode_meant result ≡ conjoining inverted (linking_of operation) }
 {
     match operation {
         0 => Opcode::Conjoins(Conjunction {
@@ -111,7 +111,7 @@ fn conjoining(inverted: bool, operation: u8) -> Opcode
 
 // What a byte is as an opcode.
 pub(crate) fn opcode_of(byte: u8) -> Opcode
-    ensures { opcodeMeant result ≡ opcode_of byte }
+    ensures { opcode_meant result ≡ opcode_of byte }
 {
     if byte % OPERATION != 0 {
         return Opcode::Wrong;

@@ -2,7 +2,7 @@
 ghost use Rattle.std.specs.Prelude.{List, ℕ};
 ghost use Rattle.paper.specs.Drafting.{inversion};
 ghost use Rattle.paper.specs.Grammar.{Tree};
-ghost use Rattle.trees.specs.Standing.{operatorOn};
+ghost use Rattle.trees.specs.Standing.{operator_on};
 ghost use Rattle.drafting.specs.Pieces.{Holds, Grown, Operand, Operands, Near};
 
 use crate::sizes::{MOST_TOKENS, Size};
@@ -47,7 +47,7 @@ impl Piece {
         requires { Operands self right nodes.old }
         ensures near { Near right.end result }
         ensures grown { (list : List ℕ) (start : ℕ) (t u : Tree) → Holds list nodes.old start self t → Holds list nodes.old self.end right u
-            → Grown list nodes.old nodes.new start result (operatorOn 0 o t u) }
+            → Grown list nodes.old nodes.new start result (operator_on 0 o t u) }
     {
         let own = self.size;
         let other = right.size;

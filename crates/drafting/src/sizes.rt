@@ -4,8 +4,8 @@ ghost use Rattle.std.specs.Prelude.{◌≡◌, ◌+◌, ◌<◌, min, max};
 ghost use Rattle.paper.specs.Tokens as P;
 ghost use Rattle.paper.specs.Grammar.{Tree};
 ghost use Rattle.paper.specs.Grammar as G;
-ghost use Rattle.trees.specs.Standing.{operatorOn};
-ghost use Rattle.printing.specs.Writing.{rungMeant};
+ghost use Rattle.trees.specs.Standing.{operator_on};
+ghost use Rattle.printing.specs.Writing.{rung_meant};
 ghost use Rattle.drafting.specs.Sizes.{Small, Sized, Stood};
 
 use printing::{Rung, left_rung, right_rung, rung_of};
@@ -52,7 +52,7 @@ fn greater(a: usize, b: usize) -> usize
 // Where a rung is asked for.
 fn standing(size: Size, rung: Rung) -> Extent
     requires { Small size }
-    ensures { Stood size (rungMeant rung) result }
+    ensures { Stood size (rung_meant rung) result }
 {
     let own = size.rung;
     if own.number() < rung.number() {
@@ -97,7 +97,7 @@ impl Size {
     pub(crate) fn beside(self, o: Operator, right: Size) -> Size
         requires { Small self × Small right }
         ensures small { Small result }
-        ensures sized { (l : Tree) (t : Tree) → Sized self l → Sized right t → Sized result (operatorOn 0 o l t) }
+        ensures sized { (l : Tree) (t : Tree) → Sized self l → Sized right t → Sized result (operator_on 0 o l t) }
     {
         let before = standing(self, left_rung(o));
         let after = standing(right, right_rung(o));

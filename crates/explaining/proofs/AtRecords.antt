@@ -6,20 +6,20 @@ use mathlib.Core.List.{List}
 use lib.Dec.{eqb}
 use borrow.Author.Tests.{eq-eqb, ne_eqb, le-leb, lt-leb}
 use Rattle.paper.specs.Answers.{Input, refused}
-use Rattle.paper.specs.Entry.{headSize}
-use Rattle.paper.specs.Explained.{atKey, nothingToShow, isRecord, keyIndex, nameStretch, reasonFor}
-use Rattle.paper.proofs.Basics.{and-false}
+use Rattle.paper.specs.Entry.{head_size}
+use Rattle.paper.specs.Explained.{at_key, nothing_to_show, is_record, key_index, name_stretch, reason_for}
+use Rattle.paper.proofs.Basics.{and_false}
 
 module _ (list : List ℕ) (n : ℕ) (i : Input) (at : ℕ) where
-  pub other-number : (n ≡ 20 → ⊥) → reasonFor list (refused n i at) ≡ nothingToShow (refused n i at)
-  other-number d = rw (ne_eqb n 20 d)
+  pub other_number : (n ≡ 20 → ⊥) → reason_for list (refused n i at) ≡ nothing_to_show (refused n i at)
+  other_number d = rw (ne_eqb n 20 d)
 
-  pub at-priority : at < headSize → reasonFor list (refused n i at) ≡ nothingToShow (refused n i at)
-  at-priority h = rw (lt-leb headSize at h, and-false (eqb n 20))
+  pub at_priority : at < head_size → reason_for list (refused n i at) ≡ nothing_to_show (refused n i at)
+  at_priority h = rw (lt-leb head_size at h, and_false (eqb n 20))
 
-  module _ (number : n ≡ 20) (after : headSize ≤ at) where
-    pub is-record : isRecord n at ≡ true
-    is-record = rw (eq-eqb n 20 number, le-leb headSize at after)
+  module _ (number : n ≡ 20) (after : head_size ≤ at) where
+    pub is_record_lem : is_record n at ≡ true
+    is_record_lem = rw (eq-eqb n 20 number, le-leb head_size at after)
 
-    pub key-shown : reasonFor list (refused n i at) ≡ atKey at (keyIndex at) (nameStretch list (keyIndex at))
-    key-shown = rw is-record
+    pub key_shown : reason_for list (refused n i at) ≡ at_key at (key_index at) (name_stretch list (key_index at))
+    key_shown = rw is_record_lem

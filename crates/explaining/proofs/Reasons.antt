@@ -12,66 +12,66 @@ use borrow.Author.Tests.{eqb-true, leb-true}
 use Rattle.paper.specs.declared.Place.{Place}
 use Rattle.paper.specs.declared.Checking.{Checking}
 use Rattle.paper.specs.declared.Checking.TheVariants as C
-use Rattle.paper.specs.Answers.{Input, ok, refused, input_of, offset_of, checkingSays}
-use Rattle.paper.specs.Keys.{recordsIn, recordAt}
-use Rattle.paper.specs.Entry.{headSize}
-use Rattle.paper.specs.Calls.{restriction, judgeAnswer}
-use Rattle.paper.specs.Explained.{keyIndex, reasonFor, falsePart, explainAnswer}
+use Rattle.paper.specs.Answers.{Input, ok, refused, input_of, offset_of, checking_says}
+use Rattle.paper.specs.Keys.{records_in, record_at}
+use Rattle.paper.specs.Entry.{head_size}
+use Rattle.paper.specs.Calls.{restriction, judge_answer}
+use Rattle.paper.specs.Explained.{key_index, reason_for, false_part, explain_answer}
 use Rattle.paper.proofs.Basics.{some_below}
-use Rattle.paper.proofs.RecordsRefused.{KeyRecord, records-refused}
-use Rattle.paper.proofs.ExplainedRight.{StopsAt, judge-stops, explain-stops}
-use Rattle.keys.specs.Says.{keysIn, conforms}
-use Rattle.keys.proofs.Records.{keys_length, name-most}
-use Rattle.keys.proofs.Checked.{are-keys, most_bytes, good-record}
+use Rattle.paper.proofs.RecordsRefused.{KeyRecord, records_refused}
+use Rattle.paper.proofs.ExplainedRight.{StopsAt, judge_stops, explain_stops}
+use Rattle.keys.specs.Says.{keys_in, conforms}
+use Rattle.keys.proofs.Records.{keys_length, name_most}
+use Rattle.keys.proofs.Checked.{are_keys, most_bytes, good_record}
 use Rattle.keys.proofs.Conforming.{not_entered}
 use Rattle.operands.specs.Conforming.{Conforming}
 use Rattle.reading.specs.Parted.{PassedParts}
-use Rattle.explaining.specs.FirstFalse.{firstIn}
+use Rattle.explaining.specs.FirstFalse.{first_in}
 use Rattle.explaining.specs.KeyShown.{HasKey, Listed}
 
 -- the key of a record's place
-has_key : (list : List ℕ) (at : ℕ) → KeyRecord list at → HasKey list (keyIndex at)
+has_key : (list : List ℕ) (at : ℕ) → KeyRecord list at → HasKey list (key_index at)
 has_key list at k =
-    let index : keyIndex at ≡ k.index = omega (arith, k.place) in
+    let index : key_index at ≡ k.index = omega (arith, k.place) in
     let below = some_below k.ks k.index k.key k.there in
-    let count : length k.ks ≡ recordsIn list = ap length (are-keys list k.listed) ∙ keys_length list 0 (recordsIn list) in
-    let inside : keyIndex at < recordsIn list = omega (arith, index, below, count) in
-    let good = good-record list k.listed (keyIndex at) inside in
-    record { inside = inside; few = most_bytes list k.listed; short = name-most (recordAt list (keyIndex at)) good }
+    let count : length k.ks ≡ records_in list = ap length (are_keys list k.listed) ∙ keys_length list 0 (records_in list) in
+    let inside : key_index at < records_in list = omega (arith, index, below, count) in
+    let good = good_record list k.listed (key_index at) inside in
+    record { inside = inside; few = most_bytes list k.listed; short = name_most (record_at list (key_index at)) good }
 
 module _ (text list entry : List ℕ) where
   -- a refusal at a record is at that of a key
-  listed : (n : ℕ) (i : Input) (at : ℕ) → judgeAnswer text list entry ≡ refused n i at → Listed list n at
+  listed : (n : ℕ) (i : Input) (at : ℕ) → judge_answer text list entry ≡ refused n i at → Listed list n at
   listed n i at judged told =
-      let (twenty, after) = (and-eq-true_iff (eqb n 20) (leb headSize at)).0 told in
-      let given : judgeAnswer text list entry ≡ refused 20 i at = judged ∙ ap (λ (m : ℕ). refused m i at) (eqb-true n 20 twenty) in
-      go (leb-true headSize at after) (records-refused text list entry i at given).1
+      let (twenty, after) = (and-eq-true_iff (eqb n 20) (leb head_size at)).0 told in
+      let given : judge_answer text list entry ≡ refused 20 i at = judged ∙ ap (λ (m : ℕ). refused m i at) (eqb-true n 20 twenty) in
+      go (leb-true head_size at after) (records_refused text list entry i at given).1
     where
-      go : headSize ≤ at → (at ≡ 0) ⊎ KeyRecord list at → HasKey list (keyIndex at)
+      go : head_size ≤ at → (at ≡ 0) ⊎ KeyRecord list at → HasKey list (key_index at)
       go after (inl zeroth) = absurd (omega arith)
       go after (inr k) = has_key list at k
 
   pub record Refusal (n : ℕ) (i : Input) (at : ℕ) : Type 0 where
     pub listed : Listed list n at
-    pub reason : reasonFor list (refused n i at) ≡ explainAnswer text list entry
+    pub reason : reason_for list (refused n i at) ≡ explain_answer text list entry
 
   stopped : (n : ℕ) (i : Input) (at : ℕ) → StopsAt text list entry n i at → Refusal n i at
   stopped n i at stops =
       record {
-        listed = listed n i at (judge-stops text list entry n i at stops);
-        reason = sym (explain-stops text list entry n i at stops);
+        listed = listed n i at (judge_stops text list entry n i at stops);
+        reason = sym (explain_stops text list entry n i at stops);
       }
 
-  pub text-refused : (n : ℕ) (i : Input) (at : ℕ) → restriction text list ≡ refused n i at → Refusal n i at
-  text-refused n i at e = stopped n i at (λ A next. rw e)
+  pub text_refused : (n : ℕ) (i : Input) (at : ℕ) → restriction text list ≡ refused n i at → Refusal n i at
+  text_refused n i at e = stopped n i at (λ A next. rw e)
 
   module _ (nodes rows : List ℕ) (m : ℕ) (p : PassedParts text list nodes rows m) where
-    pub entry-refused : (x : Checking) → checkingSays x ≡ conforms (keysIn list) entry → {n : ℕ} {q : Place} → x ≡ C.Refused n q
+    pub entry_refused : (x : Checking) → checking_says x ≡ conforms (keys_in list) entry → {n : ℕ} {q : Place} → x ≡ C.Refused n q
         → Refusal n (input_of q) (offset_of q)
-    entry-refused x says {n} {q} e =
-        let stops = not_entered (keysIn list) entry (sym says ∙ ap checkingSays e) in
+    entry_refused x says {n} {q} e =
+        let stops = not_entered (keys_in list) entry (sym says ∙ ap checking_says e) in
         stopped n (input_of q) (offset_of q) (λ A next. rw (p.rooted.passed, stops))
 
-    pub explained : Conforming list entry → reasonFor list (ok (firstIn text list entry nodes rows m)) ≡ explainAnswer text list entry
-    unfolding explainAnswer falsePart
+    pub explained : Conforming list entry → reason_for list (ok (first_in text list entry nodes rows m)) ≡ explain_answer text list entry
+    unfolding explain_answer false_part
     explained c = rw (p.rooted.passed, c.entered, p.parted.are)

@@ -8,21 +8,21 @@ use mathlib.Core.Bool.{true, false}
 use mathlib.Core.Option.{Option, none, some}
 use mathlib.Core.List.{List}
 use Rattle.paper.specs.Parts.{Part}
-use Rattle.paper.specs.Explained.{holdsOn, firstFalse}
+use Rattle.paper.specs.Explained.{holds_on, first_false}
 use Rattle.keys.specs.declared.find.Found.{Found}
 use Rattle.keys.specs.declared.find.Found.TheVariants.{At, Nothing}
-use Rattle.keys.specs.Says.{keysIn}
-use Rattle.operands.specs.Conforming.{entryIn}
-use Rattle.parts.specs.Rows.{rootAt, part_at, each}
-use Rattle.judging.specs.Holding.{treeHolds}
-use Rattle.explaining.specs.FirstFalse.{firstIn, Is, Finds}
+use Rattle.keys.specs.Says.{keys_in}
+use Rattle.operands.specs.Conforming.{entry_in}
+use Rattle.parts.specs.Rows.{root_at, part_at, each}
+use Rattle.judging.specs.Holding.{tree_holds}
+use Rattle.explaining.specs.FirstFalse.{first_in, Is, Finds}
 
 module _ (text list entry nodes rows : List ℕ) (n : ℕ) where
   -- the first from row k on
-  abbrev pub firstFrom : ℕ → Option Part
-  firstFrom k = firstFalse (holdsOn (keysIn list) (entryIn list entry)) (each (part_at text nodes rows) k (n - k))
+  abbrev pub first_from : ℕ → Option Part
+  first_from k = first_false (holds_on (keys_in list) (entry_in list entry)) (each (part_at text nodes rows) k (n - k))
 
-  pub from_start : firstFrom 0 ≡ firstIn text list entry nodes rows n
+  pub from_start : first_from 0 ≡ first_in text list entry nodes rows n
   from_start = rw sub-zero
 
   module _ (k : ℕ) where
@@ -30,15 +30,15 @@ module _ (text list entry nodes rows : List ℕ) (n : ℕ) where
       more : n - k ≡ suc (n - (k + 1))
       more = omega arith
 
-      pub false-here : treeHolds text list entry nodes (rootAt rows k) ≡ false → firstFrom k ≡ some (part_at text nodes rows k)
+      pub false_here : tree_holds text list entry nodes (root_at rows k) ≡ false → first_from k ≡ some (part_at text nodes rows k)
       unfolding each
-      false-here e = rw (more, e)
+      false_here e = rw (more, e)
 
-      pub true-here : treeHolds text list entry nodes (rootAt rows k) ≡ true → firstFrom k ≡ firstFrom (k + 1)
+      pub true_here : tree_holds text list entry nodes (root_at rows k) ≡ true → first_from k ≡ first_from (k + 1)
       unfolding each
-      true-here e = rw (more, e, add-one k)
+      true_here e = rw (more, e, add-one k)
 
-    pub no_more : n ≤ k → firstFrom k ≡ none
+    pub no_more : n ≤ k → first_from k ≡ none
     unfolding each
     no_more h =
         let past : n - k ≡ 0 = omega arith in
@@ -49,5 +49,5 @@ module _ (text list entry nodes rows : List ℕ) (n : ℕ) (r : Found) (told : F
   pub stops_at : {k : ℕ} → r ≡ At k → Is text list entry nodes rows n k
   stops_at e = subst (Finds text list entry nodes rows n) e told
 
-  pub stops_nowhere : r ≡ Nothing → firstIn text list entry nodes rows n ≡ none
+  pub stops_nowhere : r ≡ Nothing → first_in text list entry nodes rows n ≡ none
   stops_nowhere e = subst (Finds text list entry nodes rows n) e told

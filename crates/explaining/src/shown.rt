@@ -4,14 +4,14 @@ ghost use Rattle.std.proofs.Math.Option.{some};
 ghost use Rattle.paper.specs.Answers as Answers;
 ghost use Rattle.paper.specs.Answers.{ok, input_of, offset_of};
 ghost use Rattle.paper.specs.Numbers.{byte_at};
-ghost use Rattle.paper.specs.Keys.{recordsIn, recordAt};
-ghost use Rattle.paper.specs.Entry.{headSize};
-ghost use Rattle.paper.specs.Parts.{mostParts};
-ghost use Rattle.paper.specs.Explained.{atKey, nothingToShow, keyIndex, nameStretch, reasonFor, explanationSays};
+ghost use Rattle.paper.specs.Keys.{records_in, record_at};
+ghost use Rattle.paper.specs.Entry.{head_size};
+ghost use Rattle.paper.specs.Parts.{most_parts};
+ghost use Rattle.paper.specs.Explained.{at_key, nothing_to_show, key_index, name_stretch, reason_for, explanation_says};
 ghost use Rattle.operands.specs.Conforming.{Conforming};
-ghost use Rattle.parts.specs.Rows.{Has, rootAt, part_at};
+ghost use Rattle.parts.specs.Rows.{Has, root_at, part_at};
 ghost use Rattle.reading.specs.Parted.{Parted};
-ghost use Rattle.explaining.specs.FirstFalse.{firstIn};
+ghost use Rattle.explaining.specs.FirstFalse.{first_in};
 ghost use Rattle.explaining.specs.KeyShown.{HasKey, Listed};
 
 use crate::first;
@@ -21,9 +21,9 @@ use parts::rows as part_rows;
 
 // A part, by its index from 0: its number, its root's place, and its stretch.
 fn part(nodes: &[u32], rows: &[u32], k: usize) -> Explanation
-    requires has { Has rows.now k × (k < mostParts) }
-    requires k_in_bounds { rootAt rows.now k * 8 + 8 ≤ length nodes.now }
-    ensures { (text list : List ℕ) → explanationSays result ≡ reasonFor list (ok (some (part_at text nodes.now rows.now k))) }
+    requires has { Has rows.now k × (k < most_parts) }
+    requires k_in_bounds { root_at rows.now k * 8 + 8 ≤ length nodes.now }
+    ensures { (text list : List ℕ) → explanation_says result ≡ reason_for list (ok (some (part_at text nodes.now rows.now k))) }
 {
     let root = part_rows::root_at(rows, k);
     let place = trees::place_at(nodes, root);
@@ -37,7 +37,7 @@ pub fn of_entry(list: &[u8], entry: &[u8], nodes: &[u32], rows: &[u32], n: usize
     requires conforming { Conforming list.now entry.now }
     requires by_index { (text : List ℕ) × Parted text list.now nodes.now rows.now n }
     ensures { (text : List ℕ) → Parted text list.now nodes.now rows.now n
-        → explanationSays result ≡ reasonFor list.now (ok (firstIn text list.now entry.now nodes.now rows.now n)) }
+        → explanation_says result ≡ reason_for list.now (ok (first_in text list.now entry.now nodes.now rows.now n)) }
 {
     let broken = first::first_false(list, entry, nodes, rows, n);
     match broken {
@@ -61,7 +61,7 @@ fn offset(place: Place) -> usize
 }
 
 fn nothing(number: u8, place: Place) -> Explanation
-    ensures { explanationSays result ≡ nothingToShow (Answers.refused number (input_of place) (offset_of place)) }
+    ensures { explanation_says result ≡ nothing_to_show (Answers.refused number (input_of place) (offset_of place)) }
 {
     Explanation::Nothing(Judgement::Refused(number, place))
 }
@@ -74,16 +74,16 @@ fn wide(x: u8) -> usize
 
 // The length of the name of key k of a list: the first byte of its record.
 fn name_size(list: &[u8], k: usize) -> usize
-    requires { k < recordsIn list.now }
-    ensures { result ≡ byte_at (recordAt list.now k) 0 }
+    requires { k < records_in list.now }
+    ensures { result ≡ byte_at (record_at list.now k) 0 }
 {
     wide(list[k * KeyRecord::SIZE])
 }
 
 // The key whose record stands at a place of the entry: that place, and where the name stands in the list.
 fn key(list: &[u8], at: usize) -> Explanation
-    requires { (headSize ≤ at) × HasKey list.now (keyIndex at) }
-    ensures { explanationSays result ≡ atKey at (keyIndex at) (nameStretch list.now (keyIndex at)) }
+    requires { (head_size ≤ at) × HasKey list.now (key_index at) }
+    ensures { explanation_says result ≡ at_key at (key_index at) (name_stretch list.now (key_index at)) }
 {
     let k = (at - Entry::HEAD) / Matched::SIZE;
     let from = k * KeyRecord::SIZE + KeyRecord::NAME;
@@ -94,7 +94,7 @@ fn key(list: &[u8], at: usize) -> Explanation
 // For a refusal: the key, if an entry is refused at the record of one; else nothing.
 pub fn of_refusal(list: &[u8], number: u8, place: Place) -> Explanation
     requires { Listed list.now number (offset_of place) }
-    ensures { explanationSays result ≡ reasonFor list.now (Answers.refused number (input_of place) (offset_of place)) }
+    ensures { explanation_says result ≡ reason_for list.now (Answers.refused number (input_of place) (offset_of place)) }
 {
     if number != refused::ENTRY_RULE {
         return nothing(number, place);

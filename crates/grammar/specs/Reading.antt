@@ -10,9 +10,9 @@ use Rattle.paper.specs.Answers.{ok, refused, input_of, offset_of}
 use Rattle.paper.specs.Tokens.{closing, undotted}
 use Rattle.paper.specs.Grammar as G
 use Rattle.paper.specs.Grammar.{Out, got, Parser, outcome, parsed}
-use Rattle.tokens.specs.Tape.{Tape, tokensOn, kindAt, start_at, end_at, wordNo, signNo}
+use Rattle.tokens.specs.Tape.{Tape, tokens_on, kind_at, start_at, end_at, word_no, sign_no}
 use Rattle.tokens.specs.Tokenized.{Sound}
-use Rattle.grammar.specs.Places.{onward, nodeWords, nodeAt}
+use Rattle.grammar.specs.Places.{onward, node_words, node_at}
 use Rattle.grammar.specs.declared.steps.Taken.{Taken}
 use Rattle.grammar.specs.declared.steps.Taken.TheVariants.{Tree, Refused}
 use Rattle.grammar.specs.declared.tape.Next.{Next}
@@ -30,8 +30,8 @@ pub record Start : Type 0 where
 abbrev pub start_of : List ℕ → Start
 start_of numbers = record { count = get_or numbers 0 0; levels = get_or numbers 1 0; token = get_or numbers 2 0; node = get_or numbers 3 0 }
 
-abbrev pub numbersOf : Start → List ℕ
-numbersOf from = from.count ∷ from.levels ∷ from.token ∷ from.node ∷ []
+abbrev pub numbers_of : Start → List ℕ
+numbers_of from = from.count ∷ from.levels ∷ from.token ∷ from.node ∷ []
 
 -- on from another token and node, and after a token that opens a level
 
@@ -44,7 +44,7 @@ within from = record { count = from.count; levels = from.levels - 1; token = fro
 -- to read from a start on: as many nodes are used as tokens at most
 pub record Ready (T : Tape) (room : ℕ) (from : Start) : Type 0 where
   pub sound : Sound T from.count
-  pub haveRoom : from.count * nodeWords ≤ room
+  pub have_room : from.count * node_words ≤ room
   pub used : from.node ≤ from.token
   pub here : from.token ≤ from.count
 
@@ -56,12 +56,12 @@ pub record Leads (T : Tape) (room : ℕ) (from : Start) : Type 0 where
 -- and it is a word
 pub record Worded (T : Tape) (room : ℕ) (from : Start) : Type 0 where
   pub leads : Leads T room from
-  pub word : kindAt T.rows from.token ≡ wordNo
+  pub word : kind_at T.rows from.token ≡ word_no
 
 -- a tree that was stored in the nodes from b up to f, of the tokens from `at` up to i
 pub record Built (n at b : ℕ) (before after : List ℕ) (t : G.Tree) (f i : ℕ) : Type 0 where
   pub next : f ≡ b + G.nodes t
-  pub stored : after ≡ sets before (nodeAt b) (words b t)
+  pub stored : after ≡ sets before (node_at b) (words b t)
   pub grown : b < f
   pub moved : f + at ≤ i + b
   pub inside : i ≤ n
@@ -94,35 +94,35 @@ Continues p q T from before after r =
     → Meets T from.count at b (q from.levels (onward T from.count at)) first after r
 
 -- an undotted word stands at `at`
-abbrev pub isName : Tape → ℕ → ℕ → Bool
-isName T n at = ltb at n && eqb (kindAt T.rows at) wordNo && undotted (slice (start_at T.rows at) (end_at T.rows at) T.text)
+abbrev pub is_name : Tape → ℕ → ℕ → Bool
+is_name T n at = ltb at n && eqb (kind_at T.rows at) word_no && undotted (slice (start_at T.rows at) (end_at T.rows at) T.text)
 
 -- what a look at the token of index `at` finds
 pub record Seen (rows : List ℕ) (n at lowest highest k : ℕ) : Type 0 where
   pub here : at < n
-  pub told : k ≡ kindAt rows at
+  pub told : k ≡ kind_at rows at
   pub low : lowest ≤ k
   pub high : k ≤ highest
 
 abbrev pub Finds : List ℕ → ℕ → ℕ → ℕ → ℕ → Next → Type 0
 Finds rows n at lowest highest (Is k) = Seen rows n at lowest highest k
-Finds rows n at lowest highest Other = at < n → (kindAt rows at < lowest) ⊎ (highest < kindAt rows at)
+Finds rows n at lowest highest Other = at < n → (kind_at rows at < lowest) ⊎ (highest < kind_at rows at)
 
 -- the place of the first of the tokens from `at` on, or the text's end
-abbrev pub placeFrom : ℕ → List ℕ → ℕ → ℕ → Place
-placeFrom size rows n at = Text (cond (ltb at n) (start_at rows at) size)
+abbrev pub place_from : ℕ → List ℕ → ℕ → ℕ → Place
+place_from size rows n at = Text (cond (ltb at n) (start_at rows at) size)
 
 -- what looking for a ")" after a tree answers
 pub record Closed (rows : List ℕ) (n free at f i : ℕ) : Type 0 where
   pub here : at < n
-  pub told : kindAt rows at ≡ signNo closing
+  pub told : kind_at rows at ≡ sign_no closing
   pub same : f ≡ free
   pub next : i ≡ at + 1
 
 pub record Unclosed (size : ℕ) (rows : List ℕ) (n at k : ℕ) (p : Place) : Type 0 where
-  pub missing : at < n → kindAt rows at ≡ signNo closing → ⊥
+  pub missing : at < n → kind_at rows at ≡ sign_no closing → ⊥
   pub number : k ≡ 8
-  pub place : p ≡ placeFrom size rows n at
+  pub place : p ≡ place_from size rows n at
 
 abbrev pub Closes : ℕ → List ℕ → ℕ → ℕ → ℕ → Taken → Type 0
 Closes size rows n free at (Tree f i) = Closed rows n free at f i
@@ -131,7 +131,7 @@ Closes size rows n free at (Refused k p) = Unclosed size rows n at k p
 -- the whole text
 pub record WholeTree (T : Tape) (n : ℕ) (before after : List ℕ) (m : ℕ) : Type 0 where
   pub tree : G.Tree
-  pub out : parsed (length T.text) (tokensOn T 0 n) ≡ ok tree
+  pub out : parsed (length T.text) (tokens_on T 0 n) ≡ ok tree
   pub spelled : Spelled T.text tree
   pub count : m ≡ G.nodes tree
   pub stored : after ≡ sets before 0 (words 0 tree)
@@ -139,4 +139,4 @@ pub record WholeTree (T : Tape) (n : ℕ) (before after : List ℕ) (m : ℕ) : 
 
 abbrev pub Parses : Tape → ℕ → List ℕ → List ℕ → Counted → Type 0
 Parses T n before after (S.Count m) = WholeTree T n before after m
-Parses T n before after (S.Refused k p) = parsed (length T.text) (tokensOn T 0 n) ≡ refused k (input_of p) (offset_of p)
+Parses T n before after (S.Refused k p) = parsed (length T.text) (tokens_on T 0 n) ≡ refused k (input_of p) (offset_of p)

@@ -5,7 +5,7 @@
 //
 // All of them take the tape, where to start, and the nodes.
 ghost use Rattle.std.specs.Prelude.{◌≡◌, ◌&&◌, ◌*◌, ◌≤◌, ◌<◌, eqb, length};
-ghost use Rattle.tokens.specs.Tape.{tapeOf, rowWords};
+ghost use Rattle.tokens.specs.Tape.{tape_of, row_words};
 ghost use Rattle.grammar.specs.Ladder as L;
 ghost use Rattle.grammar.specs.Reading.{start_of, Ready, Reads, Continues, Finds};
 
@@ -35,7 +35,7 @@ fn signs_of(rung: Rung) -> KindRange
 
 // Whether an operator of a rung is the token of an index, and of which kind.
 fn operator_at(tape: &[u32], rung: Rung, count: usize, at: usize) -> Next
-    requires { count * rowWords ≤ length tape.now }
+    requires { count * row_words ≤ length tape.now }
     ensures { Finds tape.now count at (L.lowest rung) (L.highest rung) result }
 {
     let signs = signs_of(rung);
@@ -44,7 +44,7 @@ fn operator_at(tape: &[u32], rung: Rung, count: usize, at: usize) -> Next
 
 // At the top the text may also end after a ";".
 fn ends_after(rung: Rung, at: usize, count: usize) -> bool
-    ensures { result ≡ (L.mayEnd rung && eqb at count) }
+    ensures { result ≡ (L.may_end rung && eqb at count) }
 {
     match rung {
         Rung::Whole => at == count,
@@ -58,7 +58,7 @@ fn ends_after(rung: Rung, at: usize, count: usize) -> bool
 
 // Whether a rung has one operator at most.
 fn at_most_once(rung: Rung) -> bool
-    ensures { result ≡ L.atMostOnce rung }
+    ensures { result ≡ L.at_most_once rung }
 {
     match rung {
         Rung::Whole => false,
@@ -115,8 +115,8 @@ fn looser(rung: Rung, goal: Rung) -> Rung
 // An operand of a rung. What opens no level is a leaf, and read as one at once.
 #[cycle(atom_chain_further_operand_prefix)]
 fn operand(text: &[u8], tape: &[u32], rung: Rung, from: &Start, nodes: &mut [u32]) -> Taken
-    requires { Ready (tapeOf text.now tape.now) (length nodes.old) (start_of from.now) }
-    ensures { Reads (L.operandOf rung) (tapeOf text.now tape.now) (start_of from.now) nodes.old nodes.new result }
+    requires { Ready (tape_of text.now tape.now) (length nodes.old) (start_of from.now) }
+    ensures { Reads (L.operand_of rung) (tape_of text.now tape.now) (start_of from.now) nodes.old nodes.new result }
 {
     let Tighter::Rung(next) = tighter(rung) else {
         let Next::Is(_) = next_in(tape, from[COUNT], from[TOKEN], NOT, OPENING) else {
@@ -131,8 +131,8 @@ fn operand(text: &[u8], tape: &[u32], rung: Rung, from: &Start, nodes: &mut [u32
 // from, rung after rung.
 #[cycle(atom_chain_further_operand_prefix)]
 pub(crate) fn chain(text: &[u8], tape: &[u32], rung: Rung, from: &Start, nodes: &mut [u32]) -> Taken
-    requires { Ready (tapeOf text.now tape.now) (length nodes.old) (start_of from.now) }
-    ensures { Reads (L.rungOf rung) (tapeOf text.now tape.now) (start_of from.now) nodes.old nodes.new result }
+    requires { Ready (tape_of text.now tape.now) (length nodes.old) (start_of from.now) }
+    ensures { Reads (L.rung_of rung) (tape_of text.now tape.now) (start_of from.now) nodes.old nodes.new result }
 {
     let first = operand(text, tape, Rung::Comparison, from, nodes);
     let Taken::Tree(f, i) = first else {
@@ -160,8 +160,8 @@ pub(crate) fn chain(text: &[u8], tape: &[u32], rung: Rung, from: &Start, nodes: 
 #[cycle(atom_chain_further_operand_prefix)]
 fn further(text: &[u8], tape: &[u32], rung: Rung, from: &Start, nodes: &mut [u32]) -> Taken
     requires node_nonzero { 0 < (start_of from.now).node }
-    requires ready { Ready (tapeOf text.now tape.now) (length nodes.old) (start_of from.now) }
-    ensures { Continues (L.operandOf rung) (L.rungOf rung) (tapeOf text.now tape.now) (start_of from.now) nodes.old nodes.new result }
+    requires ready { Ready (tape_of text.now tape.now) (length nodes.old) (start_of from.now) }
+    ensures { Continues (L.operand_of rung) (L.rung_of rung) (tape_of text.now tape.now) (start_of from.now) nodes.old nodes.new result }
 {
     let mut past = from[NODE];
     let mut next = from[TOKEN];
@@ -189,8 +189,8 @@ fn further(text: &[u8], tape: &[u32], rung: Rung, from: &Start, nodes: &mut [u32
 // An operand after any number of "!" and "-". With no level left, only a leaf.
 #[cycle(atom_chain_further_operand_prefix)]
 fn prefix(text: &[u8], tape: &[u32], from: &Start, nodes: &mut [u32]) -> Taken
-    requires { Ready (tapeOf text.now tape.now) (length nodes.old) (start_of from.now) }
-    ensures { Reads L.prefix (tapeOf text.now tape.now) (start_of from.now) nodes.old nodes.new result }
+    requires { Ready (tape_of text.now tape.now) (length nodes.old) (start_of from.now) }
+    ensures { Reads L.prefix (tape_of text.now tape.now) (start_of from.now) nodes.old nodes.new result }
 {
     if from[LEVELS_LEFT] == 0 {
         return leaf(text, tape, from, nodes);
@@ -212,8 +212,8 @@ fn prefix(text: &[u8], tape: &[u32], from: &Start, nodes: &mut [u32]) -> Taken
 #[cycle(atom_chain_further_operand_prefix)]
 fn atom(text: &[u8], tape: &[u32], from: &Start, nodes: &mut [u32]) -> Taken
     requires levels_nonzero { 0 < (start_of from.now).levels }
-    requires ready { Ready (tapeOf text.now tape.now) (length nodes.old) (start_of from.now) }
-    ensures { Reads L.atom (tapeOf text.now tape.now) (start_of from.now) nodes.old nodes.new result }
+    requires ready { Ready (tape_of text.now tape.now) (length nodes.old) (start_of from.now) }
+    ensures { Reads L.atom (tape_of text.now tape.now) (start_of from.now) nodes.old nodes.new result }
 {
     let Next::Is(_) = next_in(tape, from[COUNT], from[TOKEN], OPENING, OPENING) else {
         return leaf(text, tape, from, nodes);

@@ -5,12 +5,12 @@ ghost use Rattle.paper.specs.Addresses.{address};
 ghost use Rattle.paper.specs.Grammar as G;
 ghost use Rattle.paper.specs.Tokens as paper;
 ghost use Rattle.addresses.specs.Reads as addressed;
-ghost use Rattle.tokens.specs.Tape.{tapeOf, Has, start_at, end_at, literalAt};
+ghost use Rattle.tokens.specs.Tape.{tape_of, Has, start_at, end_at, literal_at};
 ghost use Rattle.tokens.specs.Tokenized.{Sound};
-ghost use Rattle.trees.specs.Words.{leafWords, words};
+ghost use Rattle.trees.specs.Words.{leaf_words, words};
 ghost use Rattle.grammar.specs.Ladder as L;
-ghost use Rattle.grammar.specs.Places.{Fits, nodeAt, placeOn, wordOn, past, onward};
-ghost use Rattle.grammar.specs.Reading.{start_of, Ready, Leads, Worded, Reads, Begins, Closes, isName};
+ghost use Rattle.grammar.specs.Places.{Fits, node_at, place_on, word_on, past, onward};
+ghost use Rattle.grammar.specs.Reading.{start_of, Ready, Leads, Worded, Reads, Begins, Closes, is_name};
 
 use crate::steps::{COUNT, NODE, Start, TOKEN, Taken};
 use crate::store::{put_attribute, put_field, put_number};
@@ -24,8 +24,8 @@ use tokens::rows::{end_at, kind_at, literal_at, start_at};
 
 // A leaf. What would open a level is refused.
 pub(crate) fn leaf(text: &[u8], tape: &[u32], from: &Start, nodes: &mut [u32]) -> Taken
-    requires { Ready (tapeOf text.now tape.now) (length nodes.old) (start_of from.now) }
-    ensures { Reads (λ _. L.prefix 0) (tapeOf text.now tape.now) (start_of from.now) nodes.old nodes.new result }
+    requires { Ready (tape_of text.now tape.now) (length nodes.old) (start_of from.now) }
+    ensures { Reads (λ _. L.prefix 0) (tape_of text.now tape.now) (start_of from.now) nodes.old nodes.new result }
 {
     let at = from[TOKEN];
     let free = from[NODE];
@@ -45,7 +45,7 @@ pub(crate) fn leaf(text: &[u8], tape: &[u32], from: &Start, nodes: &mut [u32]) -
 
 // A ")" must follow the tree that ends before the node `free`.
 pub(crate) fn close(text: &[u8], tape: &[u32], count: usize, free: usize, at: usize) -> Taken
-    requires { Sound (tapeOf text.now tape.now) count }
+    requires { Sound (tape_of text.now tape.now) count }
     ensures { Closes (length text.now) tape.now count free at result }
 {
     let Next::Is(_) = next_in(tape, count, at, CLOSING, CLOSING) else {
@@ -57,29 +57,29 @@ pub(crate) fn close(text: &[u8], tape: &[u32], count: usize, free: usize, at: us
 // The nodes of leaves, each with the token after it.
 
 fn truth_node(tape: &[u32], at: usize, free: usize, truth: bool, nodes: &mut [u32]) -> Taken
-    requires { Fits nodes.old free × Has tape.now at × (at < paper.mostTokens) }
+    requires { Fits nodes.old free × Has tape.now at × (at < paper.most_tokens) }
     ensures { (result ≡ Taken.Tree (free + 1) (at + 1))
-        × (nodes.new ≡ sets nodes.old (nodeAt free) (words free (G.truth (start_at tape.now at) truth))) }
+        × (nodes.new ≡ sets nodes.old (node_at free) (words free (G.truth (start_at tape.now at) truth))) }
 {
     trees::put_truth(nodes, free, start_at(tape, at), truth);
     Taken::Tree(free + 1, at + 1)
 }
 
 fn key_node(tape: &[u32], at: usize, free: usize, nodes: &mut [u32]) -> Taken
-    requires { Fits nodes.old free × Has tape.now at × (at < paper.mostTokens) }
+    requires { Fits nodes.old free × Has tape.now at × (at < paper.most_tokens) }
     ensures { (result ≡ Taken.Tree (free + 1) (at + 1))
-        × (nodes.new ≡ sets nodes.old (nodeAt free)
-        (leafWords 2 (start_at tape.now at) (start_at tape.now at) (end_at tape.now at) 0 0)) }
+        × (nodes.new ≡ sets nodes.old (node_at free)
+        (leaf_words 2 (start_at tape.now at) (start_at tape.now at) (end_at tape.now at) 0 0)) }
 {
     trees::put_key(nodes, free, start_at(tape, at), end_at(tape, at));
     Taken::Tree(free + 1, at + 1)
 }
 
 fn numeral(tape: &[u32], at: usize, free: usize, nodes: &mut [u32]) -> Taken
-    requires { Fits nodes.old free × Has tape.now at × (at < paper.mostTokens) }
+    requires { Fits nodes.old free × Has tape.now at × (at < paper.most_tokens) }
     ensures { (result ≡ Taken.Tree (free + 1) (at + 1))
-        × (nodes.new ≡ sets nodes.old (nodeAt free)
-        (words free (G.number (start_at tape.now at) (literalAt tape.now at)))) }
+        × (nodes.new ≡ sets nodes.old (node_at free)
+        (words free (G.number (start_at tape.now at) (literal_at tape.now at)))) }
 {
     put_number(tape, nodes, free, at, literal_at(tape, at));
     Taken::Tree(free + 1, at + 1)
@@ -101,8 +101,8 @@ fn undotted(bytes: &[u8]) -> bool
 
 // Whether an undotted word stands at an index.
 fn is_name(text: &[u8], tape: &[u32], count: usize, at: usize) -> bool
-    requires { Sound (tapeOf text.now tape.now) count }
-    ensures { result ≡ isName (tapeOf text.now tape.now) count at }
+    requires { Sound (tape_of text.now tape.now) count }
+    ensures { result ≡ is_name (tape_of text.now tape.now) count at }
 {
     let Next::Is(_) = next_in(tape, count, at, WORD, WORD) else {
         return false;
@@ -112,9 +112,9 @@ fn is_name(text: &[u8], tape: &[u32], count: usize, at: usize) -> bool
 
 // "::" and a name.
 fn attribute(text: &[u8], tape: &[u32], from: &Start, nodes: &mut [u32]) -> Taken
-    requires { Leads (tapeOf text.now tape.now) (length nodes.old) (start_of from.now) }
-    ensures { Begins (λ T n at. G.named (G.attribute (placeOn T at)) (past T n at))
-        (tapeOf text.now tape.now) (start_of from.now) nodes.old nodes.new result }
+    requires { Leads (tape_of text.now tape.now) (length nodes.old) (start_of from.now) }
+    ensures { Begins (λ T n at. G.named (G.attribute (place_on T at)) (past T n at))
+        (tape_of text.now tape.now) (start_of from.now) nodes.old nodes.new result }
 {
     let at = from[TOKEN];
     let free = from[NODE];
@@ -128,9 +128,9 @@ fn attribute(text: &[u8], tape: &[u32], from: &Start, nodes: &mut [u32]) -> Take
 
 // A word: a truth, or what a key begins.
 fn word(text: &[u8], tape: &[u32], from: &Start, nodes: &mut [u32]) -> Taken
-    requires { Worded (tapeOf text.now tape.now) (length nodes.old) (start_of from.now) }
-    ensures { Begins (λ T n at. G.worded address (placeOn T at) (wordOn T at) (past T n at))
-        (tapeOf text.now tape.now) (start_of from.now) nodes.old nodes.new result }
+    requires { Worded (tape_of text.now tape.now) (length nodes.old) (start_of from.now) }
+    ensures { Begins (λ T n at. G.worded address (place_on T at) (word_on T at) (past T n at))
+        (tape_of text.now tape.now) (start_of from.now) nodes.old nodes.new result }
 {
     let at = from[TOKEN];
     let free = from[NODE];
@@ -146,9 +146,9 @@ fn word(text: &[u8], tape: &[u32], from: &Start, nodes: &mut [u32]) -> Taken
 
 // A key, or one with "::" and its field, or an address.
 fn keyed(text: &[u8], tape: &[u32], from: &Start, nodes: &mut [u32]) -> Taken
-    requires { Worded (tapeOf text.now tape.now) (length nodes.old) (start_of from.now) }
-    ensures { Begins (λ T n at. G.keyed address (placeOn T at) (wordOn T at) (past T n at))
-        (tapeOf text.now tape.now) (start_of from.now) nodes.old nodes.new result }
+    requires { Worded (tape_of text.now tape.now) (length nodes.old) (start_of from.now) }
+    ensures { Begins (λ T n at. G.keyed address (place_on T at) (word_on T at) (past T n at))
+        (tape_of text.now tape.now) (start_of from.now) nodes.old nodes.new result }
 {
     let at = from[TOKEN];
     let free = from[NODE];
@@ -167,9 +167,9 @@ fn keyed(text: &[u8], tape: &[u32], from: &Start, nodes: &mut [u32]) -> Taken
 
 // The name after a key and its "::".
 fn field(text: &[u8], tape: &[u32], from: &Start, nodes: &mut [u32]) -> Taken
-    requires { Worded (tapeOf text.now tape.now) (length nodes.old) (start_of from.now) }
-    ensures { Begins (λ T n at. G.named (G.field (placeOn T at) (wordOn T at)) (onward T n (at + 2)))
-        (tapeOf text.now tape.now) (start_of from.now) nodes.old nodes.new result }
+    requires { Worded (tape_of text.now tape.now) (length nodes.old) (start_of from.now) }
+    ensures { Begins (λ T n at. G.named (G.field (place_on T at) (word_on T at)) (onward T n (at + 2)))
+        (tape_of text.now tape.now) (start_of from.now) nodes.old nodes.new result }
 {
     let at = from[TOKEN];
     let free = from[NODE];
@@ -183,9 +183,9 @@ fn field(text: &[u8], tape: &[u32], from: &Start, nodes: &mut [u32]) -> Taken
 
 // The string and the ")" after the word of an address and its "(".
 fn addressed(text: &[u8], tape: &[u32], scheme: Scheme, from: &Start, nodes: &mut [u32]) -> Taken
-    requires { Leads (tapeOf text.now tape.now) (length nodes.old) (start_of from.now) }
-    ensures { Begins (λ T n at. G.addressed address (addressed.scheme scheme) (placeOn T at) (onward T n (at + 2)))
-        (tapeOf text.now tape.now) (start_of from.now) nodes.old nodes.new result }
+    requires { Leads (tape_of text.now tape.now) (length nodes.old) (start_of from.now) }
+    ensures { Begins (λ T n at. G.addressed address (addressed.scheme scheme) (place_on T at) (onward T n (at + 2)))
+        (tape_of text.now tape.now) (start_of from.now) nodes.old nodes.new result }
 {
     let at = from[TOKEN];
     let free = from[NODE];

@@ -11,9 +11,9 @@ mod store;
 mod tape;
 
 ghost use Rattle.std.specs.Prelude.{◌*◌, ◌≤◌, length};
-ghost use Rattle.tokens.specs.Tape.{tapeOf};
+ghost use Rattle.tokens.specs.Tape.{tape_of};
 ghost use Rattle.tokens.specs.Tokenized.{Sound};
-ghost use Rattle.grammar.specs.Places.{nodeWords};
+ghost use Rattle.grammar.specs.Places.{node_words};
 ghost use Rattle.grammar.specs.Reading.{Parses};
 
 use crate::steps::{Rung, Taken};
@@ -24,9 +24,9 @@ const LEVELS: usize = 64;
 
 // The number of nodes, of which the last is the root; or a refusal.
 pub fn parse(text: &[u8], tape: &[u32], count: usize, nodes: &mut [u32]) -> Counted
-    requires sound { Sound (tapeOf text.now tape.now) count }
-    requires node_words_in_bounds { count * nodeWords ≤ length nodes.old }
-    ensures { Parses (tapeOf text.now tape.now) count nodes.old nodes.new result }
+    requires sound { Sound (tape_of text.now tape.now) count }
+    requires node_words_in_bounds { count * node_words ≤ length nodes.old }
+    ensures { Parses (tape_of text.now tape.now) count nodes.old nodes.new result }
 {
     // at the first token and the first node
     let from = [count, LEVELS, 0, 0];

@@ -1,13 +1,13 @@
 // Nodes of tokens: the offsets of a token in the text, and the operator that it is.
 ghost use Rattle.std.specs.Prelude.{◌≡◌, ◌≤◌, ◌<◌};
 ghost use Rattle.std.proofs.lemmas.List.Edits.{sets};
-ghost use Rattle.paper.specs.Tokens.{mostTokens};
+ghost use Rattle.paper.specs.Tokens.{most_tokens};
 ghost use Rattle.paper.specs.Grammar as G;
-ghost use Rattle.number.specs.Bases.{literalMeant};
-ghost use Rattle.tokens.specs.Tape.{Has, start_at, end_at, firstJoin, lastJoin, firstComparison, lastComparison, firstPrefix, lastPrefix};
-ghost use Rattle.trees.specs.Standing.{prefixMeant, joinMeant, comparisonMeant};
-ghost use Rattle.trees.specs.Words.{leafWords, operatorWords, words, prefixNo, joinNo, comparisonNo, operatorNo};
-ghost use Rattle.grammar.specs.Places.{Fits, nodeAt, joinedKind, prefixedKind};
+ghost use Rattle.number.specs.Bases.{literal_meant};
+ghost use Rattle.tokens.specs.Tape.{Has, start_at, end_at, first_join, last_join, first_comparison, last_comparison, first_prefix, last_prefix};
+ghost use Rattle.trees.specs.Standing.{prefix_meant, join_meant, comparison_meant};
+ghost use Rattle.trees.specs.Words.{leaf_words, operator_words, words, prefix_no, join_no, comparison_no, operator_no};
+ghost use Rattle.grammar.specs.Places.{Fits, node_at, joined_kind, prefixed_kind};
 
 use number::Literal;
 use tokens::kinds::{AT_LEAST, EQUAL, GREATER, IMPLIES, LESS, NOT, OR_ELSE, SEQUEL, UNEQUAL};
@@ -16,8 +16,8 @@ use trees::{Comparison, Join, Operator, Prefix};
 
 pub(crate) fn put_field(tape: &[u32], nodes: &mut [u32], node: usize, token: usize, name: usize)
     requires { Fits nodes.old node × Has tape.now token × Has tape.now name }
-    ensures { nodes.new ≡ sets nodes.old (nodeAt node)
-        (leafWords 3 (start_at tape.now token) (start_at tape.now token) (end_at tape.now token)
+    ensures { nodes.new ≡ sets nodes.old (node_at node)
+        (leaf_words 3 (start_at tape.now token) (start_at tape.now token) (end_at tape.now token)
         (start_at tape.now name) (end_at tape.now name)) }
 {
     trees::put_field(
@@ -32,8 +32,8 @@ pub(crate) fn put_field(tape: &[u32], nodes: &mut [u32], node: usize, token: usi
 
 pub(crate) fn put_attribute(tape: &[u32], nodes: &mut [u32], node: usize, token: usize, name: usize)
     requires { Fits nodes.old node × Has tape.now token × Has tape.now name }
-    ensures { nodes.new ≡ sets nodes.old (nodeAt node)
-        (leafWords 4 (start_at tape.now token) 0 0 (start_at tape.now name) (end_at tape.now name)) }
+    ensures { nodes.new ≡ sets nodes.old (node_at node)
+        (leaf_words 4 (start_at tape.now token) 0 0 (start_at tape.now name) (end_at tape.now name)) }
 {
     trees::put_attribute(
         nodes,
@@ -52,7 +52,7 @@ pub(crate) fn put_number(
     literal: Literal,
 )
     requires { Fits nodes.old node × Has tape.now token }
-    ensures { nodes.new ≡ sets nodes.old (nodeAt node) (words node (G.number (start_at tape.now token) (literalMeant literal))) }
+    ensures { nodes.new ≡ sets nodes.old (node_at node) (words node (G.number (start_at tape.now token) (literal_meant literal))) }
 {
     trees::put_number(nodes, node, start_at(tape, token), literal);
 }
@@ -60,8 +60,8 @@ pub(crate) fn put_number(
 // The operators of signs.
 
 fn join_of(sign: u32) -> Join
-    requires { (firstJoin ≤ sign) × (sign ≤ lastJoin) }
-    ensures { joinNo (joinMeant result) ≡ joinedKind sign }
+    requires { (first_join ≤ sign) × (sign ≤ last_join) }
+    ensures { join_no (join_meant result) ≡ joined_kind sign }
 {
     match sign {
         SEQUEL => Join::Sequel,
@@ -72,8 +72,8 @@ fn join_of(sign: u32) -> Join
 }
 
 fn comparison_of(sign: u32) -> Comparison
-    requires { (firstComparison ≤ sign) × (sign ≤ lastComparison) }
-    ensures { comparisonNo (comparisonMeant result) ≡ joinedKind sign }
+    requires { (first_comparison ≤ sign) × (sign ≤ last_comparison) }
+    ensures { comparison_no (comparison_meant result) ≡ joined_kind sign }
 {
     match sign {
         EQUAL => Comparison::Equal,
@@ -86,8 +86,8 @@ fn comparison_of(sign: u32) -> Comparison
 }
 
 fn operator_of(sign: u32) -> Operator
-    requires { (firstJoin ≤ sign) × (sign ≤ lastComparison) }
-    ensures { operatorNo result ≡ joinedKind sign }
+    requires { (first_join ≤ sign) × (sign ≤ last_comparison) }
+    ensures { operator_no result ≡ joined_kind sign }
 {
     if sign < EQUAL {
         return Operator::Joins(join_of(sign));
@@ -96,8 +96,8 @@ fn operator_of(sign: u32) -> Operator
 }
 
 fn prefix_of(sign: u32) -> Prefix
-    requires { (firstPrefix ≤ sign) × (sign ≤ lastPrefix) }
-    ensures { prefixNo (prefixMeant result) ≡ prefixedKind sign }
+    requires { (first_prefix ≤ sign) × (sign ≤ last_prefix) }
+    ensures { prefix_no (prefix_meant result) ≡ prefixed_kind sign }
 {
     if sign == NOT {
         return Prefix::Not;
@@ -114,9 +114,9 @@ pub(crate) fn put_joined(
     token: usize,
     left: usize,
 )
-    requires fits { Fits nodes.old node × Has tape.now token × (left < mostTokens) }
-    requires first_join_le_sign { (firstJoin ≤ sign) × (sign ≤ lastComparison) }
-    ensures { nodes.new ≡ sets nodes.old (nodeAt node) (operatorWords (joinedKind sign) (start_at tape.now token) left) }
+    requires fits { Fits nodes.old node × Has tape.now token × (left < most_tokens) }
+    requires first_join_le_sign { (first_join ≤ sign) × (sign ≤ last_comparison) }
+    ensures { nodes.new ≡ sets nodes.old (node_at node) (operator_words (joined_kind sign) (start_at tape.now token) left) }
 {
     trees::put_operator(nodes, node, start_at(tape, token), operator_of(sign), left);
 }
@@ -124,8 +124,8 @@ pub(crate) fn put_joined(
 // The node of an operator before its operand.
 pub(crate) fn put_prefixed(tape: &[u32], nodes: &mut [u32], node: usize, sign: u32, token: usize)
     requires fits { Fits nodes.old node × Has tape.now token }
-    requires first_prefix_le_sign { (firstPrefix ≤ sign) × (sign ≤ lastPrefix) }
-    ensures { nodes.new ≡ sets nodes.old (nodeAt node) (operatorWords (prefixedKind sign) (start_at tape.now token) 0) }
+    requires first_prefix_le_sign { (first_prefix ≤ sign) × (sign ≤ last_prefix) }
+    ensures { nodes.new ≡ sets nodes.old (node_at node) (operator_words (prefixed_kind sign) (start_at tape.now token) 0) }
 {
     trees::put_prefix(nodes, node, start_at(tape, token), prefix_of(sign));
 }

@@ -8,27 +8,27 @@ use mathlib.Core.List.{List}
 use Rattle.paper.specs.Answers.{ok}
 use Rattle.paper.specs.Tokens.{notSign, minusSign}
 use Rattle.paper.specs.Keys.{Kind}
-use Rattle.paper.specs.Entry.{Match, isExact}
+use Rattle.paper.specs.Entry.{Match, is_exact}
 use Rattle.paper.specs.Grammar.{Tree}
 use Rattle.paper.specs.Types.{when, and_then, typed}
-use Rattle.paper.specs.Meaning.{Value, truth, whole, matched, value_of, isTrue, prefixValue, Connective, both, either, ifThen, connect, joinValue}
+use Rattle.paper.specs.Meaning.{Value, truth, whole, matched, value_of, is_true, prefix_value, Connective, both, either, ifThen, connect, join_value}
 use Rattle.paper.proofs.TypeSoundness.{judged}
-use Rattle.keys.specs.Says.{keysIn}
-use Rattle.keys.proofs.Conforming.{matches-length}
+use Rattle.keys.specs.Says.{keys_in}
+use Rattle.keys.proofs.Conforming.{matches_length}
 use Rattle.values.specs.Held.{Is}
-use Rattle.operands.specs.Conforming.{entryIn}
+use Rattle.operands.specs.Conforming.{entry_in}
 use Rattle.judging.specs.Truths.{IsTruth, settles, settled}
 
 -- what is read off a value that is right
-pub of-value : (o : Option Value) (v : Value) (b : Bool) → Is o v → b ≡ isTrue (some v) → IsTruth o b
-of-value none v b i e = tt
-of-value (some (truth a)) v b i e = e ∙ ap (λ (x : Value). isTrue (some x)) i
-of-value (some (whole z)) v b i e = tt
-of-value (some (matched k w m)) v b i e = tt
+pub of_value : (o : Option Value) (v : Value) (b : Bool) → Is o v → b ≡ is_true (some v) → IsTruth o b
+of_value none v b i e = tt
+of_value (some (truth a)) v b i e = e ∙ ap (λ (x : Value). is_true (some x)) i
+of_value (some (whole z)) v b i e = tt
+of_value (some (matched k w m)) v b i e = tt
 
 -- "!" turns a truth
 
-pub turned : (o : Option Value) (b : Bool) → IsTruth o b → IsTruth (and_then o (prefixValue notSign)) (not b)
+pub turned : (o : Option Value) (b : Bool) → IsTruth o b → IsTruth (and_then o (prefix_value notSign)) (not b)
 turned none b h = tt
 turned (some (truth a)) b h = ap not h
 turned (some (whole z)) b h = tt
@@ -36,21 +36,21 @@ turned (some (matched k w m)) b h = tt
 
 -- "-" makes none, so any bool is right
 
-kept-match : (t : Bool) (k : Kind) (w : ℕ) (m : Match) (b : Bool) → IsTruth (when t (matched k w m)) b
-kept-match true k w m b = tt
-kept-match false k w m b = tt
+kept_match : (t : Bool) (k : Kind) (w : ℕ) (m : Match) (b : Bool) → IsTruth (when t (matched k w m)) b
+kept_match true k w m b = tt
+kept_match false k w m b = tt
 
-pub no_truth : (o : Option Value) (b : Bool) → IsTruth (and_then o (prefixValue minusSign)) b
+pub no_truth : (o : Option Value) (b : Bool) → IsTruth (and_then o (prefix_value minusSign)) b
 no_truth none b = tt
 no_truth (some (truth a)) b = tt
 no_truth (some (whole z)) b = tt
-no_truth (some (matched k w m)) b = kept-match (isExact k) k w _ b
+no_truth (some (matched k w m)) b = kept_match (is_exact k) k w _ b
 
 -- joins
 
 -- a bool that is the connective's, whatever truth the right operand is worth
 joined : (c : Connective) (o p : Option Value) (a r : Bool) → IsTruth o a → ((b : Bool) → p ≡ some (truth b) → r ≡ connect c a b)
-    → IsTruth (and_then o (λ x. and_then p (joinValue c x))) r
+    → IsTruth (and_then o (λ x. and_then p (join_value c x))) r
 joined c none p a r h k = tt
 joined c (some (truth x)) none a r h k = tt
 joined c (some (truth x)) (some (truth y)) a r h k = k y refl ∙ ap (λ (z : Bool). connect c z y) h
@@ -70,18 +70,18 @@ settling either false b = refl
 settling ifThen true b = refl
 settling ifThen false b = refl
 
-pub by_left : (c : Connective) (o p : Option Value) (a : Bool) → IsTruth o a → settles c a ≡ true → IsTruth (and_then o (λ x. and_then p (joinValue c x))) (settled c)
+pub by_left : (c : Connective) (o p : Option Value) (a : Bool) → IsTruth o a → settles c a ≡ true → IsTruth (and_then o (λ x. and_then p (join_value c x))) (settled c)
 by_left c o p a h e = joined c o p a (settled c) h (λ b _. sym (settling c a b ∙ ap (λ (t : Bool). cond t (settled c) b) e))
 
 pub by_right : (c : Connective) (o p : Option Value) (a r : Bool) → IsTruth o a → settles c a ≡ false → IsTruth p r
-    → IsTruth (and_then o (λ x. and_then p (joinValue c x))) r
+    → IsTruth (and_then o (λ x. and_then p (join_value c x))) r
 by_right c o p a r h e k =
     joined c o p a r h (λ b f. subst (λ (q : Option Value). IsTruth q r) f k ∙ sym (settling c a b ∙ ap (λ (t : Bool). cond t (settled c) b) e))
 
 -- a tree that has the right types
-pub truth-told : (list entry : List ℕ) (t : Tree) → typed (keysIn list) t ≡ ok tt → (b : Bool) → IsTruth (value_of (keysIn list) (entryIn list entry) t) b
-    → b ≡ isTrue (value_of (keysIn list) (entryIn list entry) t)
-truth-told list entry t right b i =
-    let w = judged (keysIn list) (entryIn list entry) (matches-length entry 0 (keysIn list)) t right in
+pub truth_told : (list entry : List ℕ) (t : Tree) → typed (keys_in list) t ≡ ok tt → (b : Bool) → IsTruth (value_of (keys_in list) (entry_in list entry) t) b
+    → b ≡ is_true (value_of (keys_in list) (entry_in list entry) t)
+truth_told list entry t right b i =
+    let w = judged (keys_in list) (entry_in list entry) (matches_length entry 0 (keys_in list)) t right in
     let h : b ≡ w.0 = subst (λ (o : Option Value). IsTruth o b) w.1 i in
-    h ∙ sym (ap isTrue w.1)
+    h ∙ sym (ap is_true w.1)

@@ -1,10 +1,10 @@
 // Nodes with no operand.
 ghost use Rattle.std.specs.Prelude.{◌+◌, ◌*◌, ◌≤◌, length};
-ghost use Rattle.keys.specs.Says.{keysIn};
+ghost use Rattle.keys.specs.Says.{keys_in};
 ghost use Rattle.values.specs.Held.{held, Is};
-ghost use Rattle.operands.specs.Conforming.{entryIn, Conforming};
+ghost use Rattle.operands.specs.Conforming.{entry_in, Conforming};
 ghost use Rattle.trees.specs.Marks.{operand_at};
-ghost use Rattle.judging.specs.Values.{operandValue};
+ghost use Rattle.judging.specs.Values.{operand_value};
 
 use number::Magnitude;
 use trees::Operand;
@@ -13,7 +13,7 @@ use values::Cell;
 // By its marks. An attribute is worth the priority, whatever it is called: no other has a value.
 pub(crate) fn leaf_value(list: &[u8], entry: &[u8], nodes: &[u32], i: usize) -> Cell
     requires { (i * 8 + 8 ≤ length nodes.now) × Conforming list.now entry.now }
-    ensures { Is (operandValue (keysIn list.now) (entryIn list.now entry.now) (operand_at nodes.now i)) (held result) }
+    ensures { Is (operand_value (keys_in list.now) (entry_in list.now entry.now) (operand_at nodes.now i)) (held result) }
 {
     let operand = Operand::read(nodes, i);
     match operand {

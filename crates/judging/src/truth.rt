@@ -1,10 +1,10 @@
 // Whether a tree is true: the walk of joins, which needs no more than a bool of each operand.
 ghost use Rattle.std.specs.Prelude.{◌≡◌, List, ℕ, ◌+◌, ◌*◌, ◌≤◌, length};
 ghost use Rattle.paper.specs.Meaning.{value_of, connective};
-ghost use Rattle.keys.specs.Says.{keysIn};
-ghost use Rattle.operands.specs.Conforming.{entryIn, Conforming};
+ghost use Rattle.keys.specs.Says.{keys_in};
+ghost use Rattle.operands.specs.Conforming.{entry_in, Conforming};
 ghost use Rattle.trees.specs.declared.node.Operator.TheVariants.{Compares};
-ghost use Rattle.trees.specs.Standing.{joinMeant, operatorOn, treeAt};
+ghost use Rattle.trees.specs.Standing.{join_meant, operator_on, tree_at};
 ghost use Rattle.trees.specs.Marks.{Marked};
 ghost use Rattle.judging.specs.Truths as truths;
 ghost use Rattle.judging.specs.Truths.{IsTruth};
@@ -14,7 +14,7 @@ use trees::{Comparison, Join, Node, Operator, Prefix};
 
 // Whether a join is settled by its left operand.
 fn settles(o: Join, a: bool) -> bool
-    ensures { result ≡ truths.settles (connective (joinMeant o)) a }
+    ensures { result ≡ truths.settles (connective (join_meant o)) a }
 {
     match o {
         Join::Sequel => !a,
@@ -26,7 +26,7 @@ fn settles(o: Join, a: bool) -> bool
 
 // What a join is worth that its left operand settles.
 fn settled(o: Join) -> bool
-    ensures { result ≡ truths.settled (connective (joinMeant o)) }
+    ensures { result ≡ truths.settled (connective (join_meant o)) }
 {
     match o {
         Join::Sequel => false,
@@ -46,10 +46,10 @@ pub(crate) fn compared(
     right: usize,
 ) -> bool
     requires { (left * 8 + 8 ≤ length nodes.now) × (right * 8 + 8 ≤ length nodes.now) × Conforming list.now entry.now }
-    ensures { (text : List ℕ) → Marked (keysIn list.now) text nodes.now (left + 1)
-        → Marked (keysIn list.now) text nodes.now (right + 1) → (at : ℕ)
-        → IsTruth (value_of (keysIn list.now) (entryIn list.now entry.now)
-        (operatorOn at (Compares c) (treeAt text nodes.now left) (treeAt text nodes.now right))) result }
+    ensures { (text : List ℕ) → Marked (keys_in list.now) text nodes.now (left + 1)
+        → Marked (keys_in list.now) text nodes.now (right + 1) → (at : ℕ)
+        → IsTruth (value_of (keys_in list.now) (entry_in list.now entry.now)
+        (operator_on at (Compares c) (tree_at text nodes.now left) (tree_at text nodes.now right))) result }
 {
     let a = walk::operand_value(list, entry, nodes, left);
     let b = walk::operand_value(list, entry, nodes, right);
@@ -60,8 +60,8 @@ pub(crate) fn compared(
 // does not settle it.
 pub(crate) fn truth_at(list: &[u8], entry: &[u8], nodes: &[u32], at: usize) -> bool
     requires { (at * 8 + 8 ≤ length nodes.now) × Conforming list.now entry.now }
-    ensures { (text : List ℕ) → Marked (keysIn list.now) text nodes.now (at + 1)
-        → IsTruth (value_of (keysIn list.now) (entryIn list.now entry.now) (treeAt text nodes.now at)) result }
+    ensures { (text : List ℕ) → Marked (keys_in list.now) text nodes.now (at + 1)
+        → IsTruth (value_of (keys_in list.now) (entry_in list.now entry.now) (tree_at text nodes.now at)) result }
 {
     let n = Node::read(nodes, at);
     match n {

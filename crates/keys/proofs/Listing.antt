@@ -6,36 +6,36 @@ use mathlib.Core.Option.{none, some}
 use mathlib.Core.List.{List}
 use lib.ListN.{length}
 use borrow.Author.Tests.{eq-eqb, ne_eqb, le-leb, lt-leb}
-use Rattle.paper.specs.Answers.{Answer, ok, refused, ◌>>=◌, in_turn, inList}
-use Rattle.paper.specs.Keys.{recordSize, recordsIn, recordAt, name_of, find, keysFrom, RecordRule, recordTest}
-use Rattle.keys.specs.Says.{keysIn, countBy}
+use Rattle.paper.specs.Answers.{Answer, ok, refused, ◌>>=◌, in_turn, InList}
+use Rattle.paper.specs.Keys.{record_size, records_in, record_at, name_of, find, keys_from, RecordRule, record_test}
+use Rattle.keys.specs.Says.{keys_in, count_by}
 use Rattle.keys.proofs.Records.{keys_length}
 
 module _ (rule : RecordRule) (list : List ℕ) where
-  pub ragged : (length list % recordSize ≡ 0 → ⊥) → countBy rule list ≡ refused 2 inList (length list)
+  pub ragged : (length list % record_size ≡ 0 → ⊥) → count_by rule list ≡ refused 2 InList (length list)
   ragged h = rw (ne_eqb _ _ h)
 
-  pub too_long : length list % recordSize ≡ 0 → 2560 < length list → countBy rule list ≡ refused 2 inList (length list)
+  pub too_long : length list % record_size ≡ 0 → 2560 < length list → count_by rule list ≡ refused 2 InList (length list)
   too_long h g = rw (eq-eqb _ _ h, lt-leb _ _ g)
 
   counted : (a : Answer (Unit {0}))
-      → (a >>= (λ _. ok (keysIn list)) >>= λ ks. ok (length ks)) ≡ (a >>= λ _. ok (recordsIn list))
-  counted (ok u) = ap ok (keys_length list 0 (recordsIn list))
+      → (a >>= (λ _. ok (keys_in list)) >>= λ ks. ok (length ks)) ≡ (a >>= λ _. ok (records_in list))
+  counted (ok u) = ap ok (keys_length list 0 (records_in list))
   counted (refused n i at) = refl
 
   -- where the length is right the records decide
-  pub by-records : {a : Answer (Unit {0})} → length list % recordSize ≡ 0 → length list ≤ 2560
-      → in_turn (recordTest rule list) 0 (recordsIn list) ≡ a → countBy rule list ≡ (a >>= λ _. ok (recordsIn list))
-  by-records {a} h g e = rw (eq-eqb _ _ h, le-leb _ _ g, e) (counted a)
+  pub by_records : {a : Answer (Unit {0})} → length list % record_size ≡ 0 → length list ≤ 2560
+      → in_turn (record_test rule list) 0 (records_in list) ≡ a → count_by rule list ≡ (a >>= λ _. ok (records_in list))
+  by_records {a} h g e = rw (eq-eqb _ _ h, le-leb _ _ g, e) (counted a)
 
 -- what is found of record k decides its test
-module _ (rule : RecordRule) (list : List ℕ) (k : ℕ) {r : List ℕ} (at : r ≡ recordAt list k) where
-  pub broken : rule k r ≡ false → recordTest rule list k ≡ refused 3 inList (k * recordSize)
+module _ (rule : RecordRule) (list : List ℕ) (k : ℕ) {r : List ℕ} (at : r ≡ record_at list k) where
+  pub broken : rule k r ≡ false → record_test rule list k ≡ refused 3 InList (k * record_size)
   broken e = rw (← at, e)
 
   module _ {name : List ℕ} (good : rule k r ≡ true) (named : name ≡ name_of r) where
-    pub repeated : {j : ℕ} → find (keysFrom list 0 k) name ≡ some j → recordTest rule list k ≡ refused 4 inList (k * recordSize)
+    pub repeated : {j : ℕ} → find (keys_from list 0 k) name ≡ some j → record_test rule list k ≡ refused 4 InList (k * record_size)
     repeated f = rw (← at, good, ← named, f)
 
-    pub new : find (keysFrom list 0 k) name ≡ none → recordTest rule list k ≡ ok tt
+    pub new : find (keys_from list 0 k) name ≡ none → record_test rule list k ≡ ok tt
     new f = rw (← at, good, ← named, f)

@@ -5,20 +5,20 @@ use mathlib.Core.Bool.{true, false}
 use mathlib.Core.Option.{Option, none, some}
 use mathlib.Core.List.{List}
 use native.Mathlib.Numerals.{add-one}
-use Rattle.paper.specs.Tokens.{sameBytes}
-use Rattle.paper.specs.Keys.{recordAt, name_of, keysFrom, findFrom}
+use Rattle.paper.specs.Tokens.{same_bytes}
+use Rattle.paper.specs.Keys.{record_at, name_of, keys_from, find_from}
 use Rattle.spelling.proofs.Steps.{one_less, none_left}
 
 -- what the search from k on finds
-abbrev pub findOn : List ℕ → List ℕ → ℕ → ℕ → Option ℕ
-findOn list word n k = findFrom k (keysFrom list k (n - k)) word
+abbrev pub find_on : List ℕ → List ℕ → ℕ → ℕ → Option ℕ
+find_on list word n k = find_from k (keys_from list k (n - k)) word
 
-module _ (list word : List ℕ) (n k : ℕ) (h : k < n) {r name : List ℕ} (at : r ≡ recordAt list k) (is : name ≡ name_of r) where
-  pub find-here : sameBytes name word ≡ true → findOn list word n k ≡ some k
-  find-here e = rw (one_less n k h, ← at, ← is, e)
+module _ (list word : List ℕ) (n k : ℕ) (h : k < n) {r name : List ℕ} (at : r ≡ record_at list k) (is : name ≡ name_of r) where
+  pub find_here : same_bytes name word ≡ true → find_on list word n k ≡ some k
+  find_here e = rw (one_less n k h, ← at, ← is, e)
 
-  pub find-on : sameBytes name word ≡ false → findOn list word n k ≡ findOn list word n (k + 1)
-  find-on e = rw (one_less n k h, ← at, ← is, e, add-one k)
+  pub find_on_lem : same_bytes name word ≡ false → find_on list word n k ≡ find_on list word n (k + 1)
+  find_on_lem e = rw (one_less n k h, ← at, ← is, e, add-one k)
 
-pub find-end : (list word : List ℕ) (n k : ℕ) → n ≤ k → findOn list word n k ≡ none
-find-end list word n k h = rw (none_left n k h)
+pub find_end : (list word : List ℕ) (n k : ℕ) → n ≤ k → find_on list word n k ≡ none
+find_end list word n k h = rw (none_left n k h)

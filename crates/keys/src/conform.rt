@@ -1,7 +1,7 @@
 // The check of a whole entry.
 ghost use Rattle.std.specs.Prelude.{◌≡◌};
-ghost use Rattle.paper.specs.Answers.{checkingSays};
-ghost use Rattle.keys.specs.Says.{keysIn, conforms};
+ghost use Rattle.paper.specs.Answers.{checking_says};
+ghost use Rattle.keys.specs.Says.{keys_in, conforms};
 
 use crate::entry::{Entry, Matched};
 use crate::record::KeyRecord;
@@ -10,7 +10,7 @@ use paper::{Checking, Place, refused};
 
 // Whether an entry conforms to a good key list, or its refusal, 19 or 20.
 pub fn check_entry(list: &[u8], entry: &[u8]) -> Checking
-    ensures { checkingSays result ≡ conforms (keysIn list.now) entry.now }
+    ensures { checking_says result ≡ conforms (keys_in list.now) entry.now }
 {
     let n = list.len() / KeyRecord::SIZE;
     let size = entry.len();

@@ -1,9 +1,9 @@
 // The bytes of an entry: its head, and a record for each key.
 ghost use Rattle.std.specs.Prelude.{◌≡◌, ◌+◌, ◌*◌, ◌/◌, ◌≤◌, ◌<◌, length};
 ghost use Rattle.paper.specs.Numbers.{byte_at};
-ghost use Rattle.paper.specs.Tokens.{sameBytes};
-ghost use Rattle.paper.specs.Keys.{recordSize, recordAt, kind_of, key_of};
-ghost use Rattle.paper.specs.Entry.{headSize, priorityOf, matchSize, matchAt, spelledOut, absent, match_of};
+ghost use Rattle.paper.specs.Tokens.{same_bytes};
+ghost use Rattle.paper.specs.Keys.{record_size, record_at, kind_of, key_of};
+ghost use Rattle.paper.specs.Entry.{head_size, priority_of, match_size, match_at, spelled_out, absent, match_of};
 ghost use Rattle.keys.specs.Says.{meant};
 
 use crate::record::KeyRecord;
@@ -25,8 +25,8 @@ impl Entry {
 
     // Reads the head of an entry.
     pub fn read(entry: &[u8]) -> Entry
-        requires { headSize ≤ length entry.now }
-        ensures { result.priority ≡ priorityOf entry.now }
+        requires { head_size ≤ length entry.now }
+        ensures { result.priority ≡ priority_of entry.now }
     {
         Entry {
             priority: number::word(entry, 0),
@@ -47,10 +47,10 @@ impl Matched {
 
     // Reads the record of key k in an entry, present or absent.
     pub fn read(list: &[u8], entry: &[u8], k: usize) -> Matched
-        requires k_in_bounds { k < length list.now / recordSize }
-        requires k_bound { byte_at (recordAt list.now k) 2 ≤ 128 }
-        requires match_size_in_bounds { headSize + (k + 1) * matchSize ≤ length entry.now }
-        ensures { meant result ≡ match_of (key_of (recordAt list.now k)) (matchAt entry.now k) }
+        requires k_in_bounds { k < length list.now / record_size }
+        requires k_bound { byte_at (record_at list.now k) 2 ≤ 128 }
+        requires match_size_in_bounds { head_size + (k + 1) * match_size ≤ length entry.now }
+        ensures { meant result ≡ match_of (key_of (record_at list.now k)) (match_at entry.now k) }
     {
         let bytes = match_at(entry, k);
         if bytes[0] == 0 {
@@ -61,8 +61,8 @@ impl Matched {
 
     // Reads a record as it is spelled out, as if its key were present.
     pub(crate) fn spelled_out(bytes: &[u8]) -> Matched
-        requires { length bytes.now ≡ matchSize }
-        ensures { meant result ≡ spelledOut bytes.now }
+        requires { length bytes.now ≡ match_size }
+        ensures { meant result ≡ spelled_out bytes.now }
     {
         Matched {
             first: Magnitude::from_bytes(bytes, 4),
@@ -92,9 +92,9 @@ impl Matched {
 
 // The bytes of key k's record in an entry.
 pub(crate) fn match_at(entry: &[u8], k: usize) -> &[u8]
-    requires { headSize + (k + 1) * matchSize ≤ length entry.now }
-    ensures result_value { result.now ≡ matchAt entry.now k }
-    ensures result_len { length result.now ≡ matchSize }
+    requires { head_size + (k + 1) * match_size ≤ length entry.now }
+    ensures result_value { result.now ≡ match_at entry.now k }
+    ensures result_len { length result.now ≡ match_size }
 {
     let from = Entry::HEAD + k * Matched::SIZE;
     let to = from + Matched::SIZE;
@@ -103,9 +103,9 @@ pub(crate) fn match_at(entry: &[u8], k: usize) -> &[u8]
 
 // Whether the record of key k has the same bytes in two entries.
 pub fn same_record(a: &[u8], b: &[u8], k: usize) -> bool
-    requires match_size_in_bounds { headSize + (k + 1) * matchSize ≤ length a.now }
-    requires match_size_in_bounds_2 { headSize + (k + 1) * matchSize ≤ length b.now }
-    ensures { result ≡ sameBytes (matchAt a.now k) (matchAt b.now k) }
+    requires match_size_in_bounds { head_size + (k + 1) * match_size ≤ length a.now }
+    requires match_size_in_bounds_2 { head_size + (k + 1) * match_size ≤ length b.now }
+    ensures { result ≡ same_bytes (match_at a.now k) (match_at b.now k) }
 {
     bytes::same_bytes(match_at(a, k), match_at(b, k))
 }

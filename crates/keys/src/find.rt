@@ -1,7 +1,7 @@
 // The key of a name.
 ghost use Rattle.std.specs.Prelude.{◌≡◌, ◌≤◌, ◌/◌, length};
-ghost use Rattle.paper.specs.Keys.{recordSize, keysFrom, find};
-ghost use Rattle.keys.specs.Says.{found, keysIn};
+ghost use Rattle.paper.specs.Keys.{record_size, keys_from, find};
+ghost use Rattle.keys.specs.Says.{found, keys_in};
 
 use crate::record;
 use crate::record::KeyRecord;
@@ -15,8 +15,8 @@ pub enum Found {
 
 // The first of the first n keys that has a name.
 pub(crate) fn find_among(list: &[u8], n: usize, word: &[u8]) -> Found
-    requires { n ≤ length list.now / recordSize }
-    ensures { found result ≡ find (keysFrom list.now 0 n) word.now }
+    requires { n ≤ length list.now / record_size }
+    ensures { found result ≡ find (keys_from list.now 0 n) word.now }
 {
     let mut k = 0;
     while k < n {
@@ -30,7 +30,7 @@ pub(crate) fn find_among(list: &[u8], n: usize, word: &[u8]) -> Found
 
 // The first key of a list that has a name.
 pub fn find_key(list: &[u8], word: &[u8]) -> Found
-    ensures { found result ≡ find (keysIn list.now) word.now }
+    ensures { found result ≡ find (keys_in list.now) word.now }
 {
     find_among(list, list.len() / KeyRecord::SIZE, word)
 }

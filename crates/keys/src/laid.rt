@@ -1,14 +1,14 @@
 // Entries laid end to end.
 ghost use Rattle.std.specs.Prelude.{◌≡◌, ◌+◌, ◌*◌, ◌≤◌, length, take, drop};
-ghost use Rattle.paper.specs.Counting.{entrySize};
-ghost use Rattle.keys.specs.Says.{keysIn};
+ghost use Rattle.paper.specs.Counting.{entry_size};
+ghost use Rattle.keys.specs.Says.{keys_in};
 
 use crate::entry::{Entry, Matched};
 use crate::record::KeyRecord;
 
 // The bytes of an entry for a key list.
 pub fn entry_size(list: &[u8]) -> usize
-    ensures { result ≡ entrySize (keysIn list.now) }
+    ensures { result ≡ entry_size (keys_in list.now) }
 {
     Entry::HEAD + Matched::SIZE * (list.len() / KeyRecord::SIZE)
 }

@@ -1,9 +1,9 @@
 // The check of a whole key list, by what is asked of each record.
 ghost use Rattle.std.specs.Prelude.{◌≡◌, length};
-ghost use Rattle.paper.specs.Answers.{countedSays};
-ghost use Rattle.paper.specs.Keys.{recordSize};
-ghost use Rattle.paper.specs.Drafting.{nameRule};
-ghost use Rattle.keys.specs.Says.{ruleMeant, countBy, keyCount, nameCount};
+ghost use Rattle.paper.specs.Answers.{counted_says};
+ghost use Rattle.paper.specs.Keys.{record_size};
+ghost use Rattle.paper.specs.Drafting.{name_rule};
+ghost use Rattle.keys.specs.Says.{rule_meant, count_by, key_count, name_count};
 
 use crate::find::Found;
 use crate::record::KeyRecord;
@@ -26,8 +26,8 @@ const INPUT_WIDTH: u8 = 64;
 
 // Whether record k, which is lent, names an input: an exact key of an input's width, among the first ones.
 fn input_ok(k: usize, key: &[u8]) -> bool
-    requires { length key.now ≡ recordSize }
-    ensures { result ≡ nameRule k key.now }
+    requires { length key.now ≡ record_size }
+    ensures { result ≡ name_rule k key.now }
 {
     if !record::record_ok(key) {
         return false;
@@ -42,8 +42,8 @@ fn input_ok(k: usize, key: &[u8]) -> bool
 }
 
 fn keeps(rule: Rule, k: usize, key: &[u8]) -> bool
-    requires { length key.now ≡ recordSize }
-    ensures { result ≡ ruleMeant rule k key.now }
+    requires { length key.now ≡ record_size }
+    ensures { result ≡ rule_meant rule k key.now }
 {
     match rule {
         Rule::Layout => record::record_ok(key),
@@ -52,7 +52,7 @@ fn keeps(rule: Rule, k: usize, key: &[u8]) -> bool
 }
 
 fn check_by(rule: Rule, list: &[u8]) -> Counted
-    ensures { countedSays result ≡ countBy (ruleMeant rule) list.now }
+    ensures { counted_says result ≡ count_by (rule_meant rule) list.now }
 {
     let size = list.len();
     if size % KeyRecord::SIZE != 0 {
@@ -78,14 +78,14 @@ fn check_by(rule: Rule, list: &[u8]) -> Counted
 
 // How many keys a list holds, or its refusal, 2, 3 or 4.
 pub fn check_list(list: &[u8]) -> Counted
-    ensures { countedSays result ≡ keyCount list.now }
+    ensures { counted_says result ≡ key_count list.now }
 {
     check_by(Rule::Layout, list)
 }
 
 // The same of a list that names the inputs of a contract.
 pub fn check_names(list: &[u8]) -> Counted
-    ensures { countedSays result ≡ nameCount list.now }
+    ensures { counted_says result ≡ name_count list.now }
 {
     check_by(Rule::Input, list)
 }

@@ -1,7 +1,7 @@
 // A key's record in the key list.
 ghost use Rattle.std.specs.Prelude.{◌≡◌, ◌<◌, ◌/◌, length};
-ghost use Rattle.paper.specs.Keys.{recordAt, recordSize, recordOk, name_of};
-ghost use Rattle.keys.specs.Names.{nameOk};
+ghost use Rattle.paper.specs.Keys.{record_at, record_size, record_ok, name_of};
+ghost use Rattle.keys.specs.Names.{name_ok};
 ghost use Rattle.keys.specs.Says.{KeyRead};
 
 use paper::kinds;
@@ -38,7 +38,7 @@ impl KeyRecord {
 
     // Reads the kind and the width of key k, and whether it must be present.
     pub fn read(list: &[u8], k: usize) -> KeyRecord
-        requires { k < length list.now / recordSize }
+        requires { k < length list.now / record_size }
         ensures { KeyRead list.now k result }
     {
         let key = record_at(list, k);
@@ -51,8 +51,8 @@ impl KeyRecord {
 
     // The name of key k, where it lies in the list.
     pub fn name(list: &[u8], k: usize) -> &[u8]
-        requires { k < length list.now / recordSize }
-        ensures { result.now ≡ name_of (recordAt list.now k) }
+        requires { k < length list.now / record_size }
+        ensures { result.now ≡ name_of (record_at list.now k) }
     {
         name_of(record_at(list, k))
     }
@@ -60,9 +60,9 @@ impl KeyRecord {
 
 // The bytes of key k's record in the list.
 pub(crate) fn record_at(list: &[u8], k: usize) -> &[u8]
-    requires { k < length list.now / recordSize }
-    ensures result_value { result.now ≡ recordAt list.now k }
-    ensures result_len { length result.now ≡ recordSize }
+    requires { k < length list.now / record_size }
+    ensures result_value { result.now ≡ record_at list.now k }
+    ensures result_len { length result.now ≡ record_size }
 {
     let from = k * KeyRecord::SIZE;
     let to = from + KeyRecord::SIZE;
@@ -71,7 +71,7 @@ pub(crate) fn record_at(list: &[u8], k: usize) -> &[u8]
 
 // The name in a key's record, which it never leaves, whatever the record's first byte says.
 pub(crate) fn name_of(key: &[u8]) -> &[u8]
-    requires { length key.now ≡ recordSize }
+    requires { length key.now ≡ record_size }
     ensures { result.now ≡ name_of key.now }
 {
     let size = key[0];
@@ -83,7 +83,7 @@ pub(crate) fn name_of(key: &[u8]) -> &[u8]
 }
 
 fn name_ok(s: &[u8]) -> bool
-    ensures { result ≡ nameOk s.now }
+    ensures { result ≡ name_ok s.now }
 {
     if !word::is_key(s) {
         return false;
@@ -96,8 +96,8 @@ fn name_ok(s: &[u8]) -> bool
 
 // Whether a key's record keeps its layout.
 pub(crate) fn record_ok(key: &[u8]) -> bool
-    requires { length key.now ≡ recordSize }
-    ensures { result ≡ recordOk key.now }
+    requires { length key.now ≡ record_size }
+    ensures { result ≡ record_ok key.now }
 {
     let size = key[0];
     if size == 0 {

@@ -2,7 +2,7 @@
 ghost use Rattle.std.specs.Prelude.{◌≡◌, ◌-◌, ◌^◌, eqb, length};
 ghost use Rattle.number.specs.Values.{value};
 ghost use Rattle.paper.specs.Keys.{exact, ternary, lpm, range, optional, kind_of};
-ghost use Rattle.paper.specs.Entry.{matchSize, kindRule, absentRule, presentRule, matchOk};
+ghost use Rattle.paper.specs.Entry.{match_size, kind_rule, absent_rule, present_rule, match_ok};
 ghost use Rattle.keys.specs.Says.{meant, unnamed};
 
 use crate::entry::Matched;
@@ -12,7 +12,7 @@ use paper::kinds;
 use spelling::bytes;
 
 fn exact_ok(m: Matched) -> bool
-    ensures { result ≡ kindRule exact 0 (meant m) }
+    ensures { result ≡ kind_rule exact 0 (meant m) }
 {
     let second = m.second;
     if m.length != 0 {
@@ -22,7 +22,7 @@ fn exact_ok(m: Matched) -> bool
 }
 
 fn ternary_ok(m: Matched) -> bool
-    ensures { result ≡ kindRule ternary 0 (meant m) }
+    ensures { result ≡ kind_rule ternary 0 (meant m) }
 {
     let first = m.first;
     let second = m.second;
@@ -33,7 +33,7 @@ fn ternary_ok(m: Matched) -> bool
 }
 
 fn lpm_ok(width: u8, m: Matched) -> bool
-    ensures { result ≡ kindRule lpm width (meant m) }
+    ensures { result ≡ kind_rule lpm width (meant m) }
 {
     let first = m.first;
     let second = m.second;
@@ -47,7 +47,7 @@ fn lpm_ok(width: u8, m: Matched) -> bool
 }
 
 fn range_ok(m: Matched) -> bool
-    ensures { result ≡ kindRule range 0 (meant m) }
+    ensures { result ≡ kind_rule range 0 (meant m) }
 {
     let first = m.first;
     let second = m.second;
@@ -67,7 +67,7 @@ fn all_ones(mask: Magnitude, width: u8) -> bool
 }
 
 fn optional_ok(width: u8, m: Matched) -> bool
-    ensures { result ≡ kindRule optional width (meant m) }
+    ensures { result ≡ kind_rule optional width (meant m) }
 {
     let mask = m.second;
     if !ternary_ok(m) {
@@ -80,7 +80,7 @@ fn optional_ok(width: u8, m: Matched) -> bool
 }
 
 fn kind_ok(key: KeyRecord, m: Matched) -> bool
-    ensures { result ≡ kindRule (kind_of key.kind) key.width (meant m) }
+    ensures { result ≡ kind_rule (kind_of key.kind) key.width (meant m) }
 {
     let kind = key.kind;
     let width = key.width;
@@ -95,8 +95,8 @@ fn kind_ok(key: KeyRecord, m: Matched) -> bool
 
 // Whether a key may be absent, and its record in the entry is that of an absent one.
 fn absent_ok(key: KeyRecord, bytes: &[u8]) -> bool
-    requires { length bytes.now ≡ matchSize }
-    ensures { result ≡ absentRule (unnamed key) bytes.now }
+    requires { length bytes.now ≡ match_size }
+    ensures { result ≡ absent_rule (unnamed key) bytes.now }
 {
     if key.kind == kinds::EXACT {
         return false;
@@ -108,8 +108,8 @@ fn absent_ok(key: KeyRecord, bytes: &[u8]) -> bool
 }
 
 fn present_ok(key: KeyRecord, bytes: &[u8]) -> bool
-    requires { length bytes.now ≡ matchSize }
-    ensures { result ≡ presentRule (unnamed key) bytes.now }
+    requires { length bytes.now ≡ match_size }
+    ensures { result ≡ present_rule (unnamed key) bytes.now }
 {
     if !bytes::all_zero(&bytes[2..4]) {
         return false;
@@ -129,8 +129,8 @@ fn present_ok(key: KeyRecord, bytes: &[u8]) -> bool
 
 // Whether a key's record in an entry keeps the rule of the key's kind.
 pub(crate) fn match_ok(key: KeyRecord, bytes: &[u8]) -> bool
-    requires { length bytes.now ≡ matchSize }
-    ensures { result ≡ matchOk (unnamed key) bytes.now }
+    requires { length bytes.now ≡ match_size }
+    ensures { result ≡ match_ok (unnamed key) bytes.now }
 {
     if bytes[0] == 0 {
         return absent_ok(key, bytes);

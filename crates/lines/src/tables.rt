@@ -1,7 +1,7 @@
 // A table of user numbers from bytes, eight to a number, big-endian.
 ghost use Rattle.std.specs.Prelude.{◌+◌, ◌*◌, ◌≤◌, ◌≡◌, length, take};
 ghost use Rattle.paper.specs.Numbers.{number_at};
-ghost use Rattle.lines.specs.Tables.{keptOf, numbersFrom};
+ghost use Rattle.lines.specs.Tables.{kept_of, numbers_from};
 
 // The bytes of a number.
 pub const NUMBER: usize = 8;
@@ -11,7 +11,7 @@ pub const KEPT: usize = 17;
 
 // How many are kept of so many.
 pub fn kept(count: usize) -> usize
-    ensures { (result ≡ keptOf count) × (result ≤ count) × (result ≤ 17) }
+    ensures { (result ≡ kept_of count) × (result ≤ count) × (result ≤ 17) }
 {
     if count < KEPT { count } else { KEPT }
 }
@@ -29,7 +29,7 @@ fn number_at(s: &[u8], at: usize) -> u64
 // The n numbers from an offset on, and zeros.
 pub fn numbers(s: &[u8], at: usize, n: usize) -> [u64; 17]
     requires { (n ≤ 17) × (at + 8 * n ≤ length s.now) }
-    ensures { take n result ≡ numbersFrom s.now at n }
+    ensures { take n result ≡ numbers_from s.now at n }
 {
     let mut table = [0u64; KEPT];
     let mut i = 0;

@@ -6,15 +6,15 @@ use lib.ListN.{length-map}
 use Rattle.paper.specs.Answers.{Answer, ok, refused, ◌>>=◌}
 use Rattle.paper.specs.Keys.{Key}
 use Rattle.paper.specs.Entry.{Entry}
-use Rattle.paper.specs.Loading.{program, runAlong, leftTrue, stepsTaken}
-use Rattle.paper.specs.Calls.{over, ranTo}
-use Rattle.paper.specs.Counting.{entrySize, wholeIn, laidOut, entriesIn}
-use Rattle.paper.specs.RunAll.{ranOn, verdictByte, stepsOn, sum, verdictsOn}
-use Rattle.paper.proofs.EntriesLaid.{laid-length, laid_next}
-use Rattle.paper.proofs.Overwritten.{over-next}
-use Rattle.paper.proofs.RunAllRight.{sum-append}
+use Rattle.paper.specs.Loading.{program, run_along, left_true, steps_taken}
+use Rattle.paper.specs.Calls.{over, ran_to}
+use Rattle.paper.specs.Counting.{entry_size, whole_in, laid_out, entries_in}
+use Rattle.paper.specs.RunAll.{ran_on, verdict_byte, steps_on, sum, verdicts_on}
+use Rattle.paper.proofs.EntriesLaid.{laid_length, laid_next}
+use Rattle.paper.proofs.Overwritten.{over_next}
+use Rattle.paper.proofs.RunAllRight.{sum_append}
 use Rattle.keys.specs.Says.{conforms}
-use Rattle.keys.proofs.Conforming.{entryIn, entered, not_entered}
+use Rattle.keys.proofs.Conforming.{entry_in, entered, not_entered}
 use Rattle.machine.specs.Running.{passes, byte_of}
 
 -- what passes
@@ -28,81 +28,81 @@ inside true n i h = (refl, h)
 inside false n i h = absurd (omega (arith, h))
 
 module _ (ks : List Key) (blocks : List ℕ) where
-  abbrev byteIn : List ℕ → ℕ
-  byteIn e = verdictByte (ranOn ks blocks e)
+  abbrev byte_in : List ℕ → ℕ
+  byte_in e = verdict_byte (ran_on ks blocks e)
 
-  abbrev stepsIn : List ℕ → ℕ
-  stepsIn e = stepsOn (ranOn ks blocks e)
+  abbrev steps_in : List ℕ → ℕ
+  steps_in e = steps_on (ran_on ks blocks e)
 
   -- what is told of one entry
   pub record TellsOf (entry : List ℕ) (byte steps : ℕ) : Type 0 where
-    pub byte-so : byte ≡ byteIn entry
-    pub steps-so : steps ≡ stepsIn entry
+    pub byte_so : byte ≡ byte_in entry
+    pub steps_so : steps ≡ steps_in entry
 
   module _ (entry : List ℕ) where
     -- of one that conforms, what its run comes to
-    pub tells-run : conforms ks entry ≡ ok tt → (left : Bool) (steps : ℕ)
-        → let run = runAlong ks (entryIn ks entry) (program blocks) in
-        left ≡ leftTrue run → steps ≡ stepsTaken run → TellsOf entry (byte_of true left) steps
-    unfolding ranOn
-    tells-run e left steps left_so steps-so =
-        let there = ap (λ (x : Answer Entry). x >>= λ m. ok (ranTo (runAlong ks m (program blocks)))) (entered ks entry e) in
+    pub tells_run : conforms ks entry ≡ ok tt → (left : Bool) (steps : ℕ)
+        → let run = run_along ks (entry_in ks entry) (program blocks) in
+        left ≡ left_true run → steps ≡ steps_taken run → TellsOf entry (byte_of true left) steps
+    unfolding ran_on
+    tells_run e left steps left_so steps_so =
+        let there = ap (λ (x : Answer Entry). x >>= λ m. ok (ran_to (run_along ks m (program blocks)))) (entered ks entry e) in
         record {
-          byte-so = ap (λ b. byte_of true b) left_so ∙ ap verdictByte (sym there);
-          steps-so = steps-so ∙ ap stepsOn (sym there);
+          byte_so = ap (λ b. byte_of true b) left_so ∙ ap verdict_byte (sym there);
+          steps_so = steps_so ∙ ap steps_on (sym there);
         }
 
     -- of one that does not, that it is refused, and no step
     pub tells_none : (a : Answer (Unit {0})) → conforms ks entry ≡ a → passes a ≡ false → (left : Bool) → TellsOf entry (byte_of false left) 0
-    unfolding ranOn
+    unfolding ran_on
     tells_none (ok t) e f left = absurd (true≢false f)
     tells_none (refused n i at) e f left =
-        let there = ap (λ (x : Answer Entry). x >>= λ m. ok (ranTo (runAlong ks m (program blocks)))) (not_entered ks entry e) in
-        record { byte-so = ap verdictByte (sym there); steps-so = ap stepsOn (sym there) }
+        let there = ap (λ (x : Answer Entry). x >>= λ m. ok (ran_to (run_along ks m (program blocks)))) (not_entered ks entry e) in
+        record { byte_so = ap verdict_byte (sym there); steps_so = ap steps_on (sym there) }
 
   pub record Tabled (size : ℕ) (entries before : List ℕ) (k : ℕ) (answers : List ℕ) (total : ℕ) : Type 0 where
-    pub bytes : answers ≡ over (map byteIn (laidOut size k entries)) before
-    pub steps : total ≡ sum (map stepsIn (laidOut size k entries)) % 2 ^ 64
+    pub bytes : answers ≡ over (map byte_in (laid_out size k entries)) before
+    pub steps : total ≡ sum (map steps_in (laid_out size k entries)) % 2 ^ 64
 
   module _ (size : ℕ) (entries before : List ℕ) where
-    pub tabled-none : Tabled size entries before 0 before 0
-    tabled-none = record { bytes = refl; steps = refl }
+    pub tabled_none : Tabled size entries before 0 before 0
+    tabled_none = record { bytes = refl; steps = refl }
 
     -- one entry more
-    pub tabled-next : {k : ℕ} {answers : List ℕ} {total : ℕ} → Tabled size entries before k answers total → k < length before
+    pub tabled_next : {k : ℕ} {answers : List ℕ} {total : ℕ} → Tabled size entries before k answers total → k < length before
         → {entry : List ℕ} → entry ≡ take size (drop (k * size) entries) → {byte steps sum : ℕ} → TellsOf entry byte steps
         → sum ≡ (total + steps) % 2 ^ 64 → Tabled size entries before (k + 1) (set answers k byte) sum
-    tabled-next {k} {answers} {total} t more {entry} e {byte} {steps} {sum = total'} told added =
-        let es = laidOut size k entries in
-        let next : es ++ (entry ∷ []) ≡ laidOut size (k + 1) entries = ap (λ x. es ++ (x ∷ [])) e ∙ sym (laid_next size k entries) in
-        let bytes = map byteIn es in
-        let many : length bytes ≡ k = length-map es byteIn ∙ laid-length size k entries in
-        let one_more : sum (map stepsIn es) + stepsIn entry ≡ sum (map stepsIn es ++ (stepsIn entry ∷ [])) =
-        let both = sum-append (map stepsIn es) (stepsIn entry ∷ []) in
+    tabled_next {k} {answers} {total} t more {entry} e {byte} {steps} {sum = total'} told added =
+        let es = laid_out size k entries in
+        let next : es ++ (entry ∷ []) ≡ laid_out size (k + 1) entries = ap (λ x. es ++ (x ∷ [])) e ∙ sym (laid_next size k entries) in
+        let bytes = map byte_in es in
+        let many : length bytes ≡ k = length-map es byte_in ∙ laid_length size k entries in
+        let one_more : sum (map steps_in es) + steps_in entry ≡ sum (map steps_in es ++ (steps_in entry ∷ [])) =
+        let both = sum_append (map steps_in es) (steps_in entry ∷ []) in
         omega (arith, both) in
         record {
           bytes =
               ap₂ (λ l i. set l i byte) t.bytes (sym many)
-              ∙ over-next bytes before byte (omega (arith, many, more))
-              ∙ ap (λ b. over (bytes ++ (b ∷ [])) before) told.byte-so
-              ∙ ap (λ l. over l before) (sym (map-append byteIn es (entry ∷ [])))
-              ∙ ap (λ fs. over (map byteIn fs) before) next;
+              ∙ over_next bytes before byte (omega (arith, many, more))
+              ∙ ap (λ b. over (bytes ++ (b ∷ [])) before) told.byte_so
+              ∙ ap (λ l. over l before) (sym (map-append byte_in es (entry ∷ [])))
+              ∙ ap (λ fs. over (map byte_in fs) before) next;
           steps =
               added
-              ∙ ap₂ (λ a b. (a + b) % 2 ^ 64) t.steps told.steps-so
-              ∙ mod-add-mod (sum (map stepsIn es)) (2 ^ 64) (stepsIn entry)
+              ∙ ap₂ (λ a b. (a + b) % 2 ^ 64) t.steps told.steps_so
+              ∙ mod-add-mod (sum (map steps_in es)) (2 ^ 64) (steps_in entry)
               ∙ ap (λ m. m % 2 ^ 64) one_more
-              ∙ ap (λ l. sum l % 2 ^ 64) (sym (map-append stepsIn es (entry ∷ [])))
-              ∙ ap (λ fs. sum (map stepsIn fs) % 2 ^ 64) next;
+              ∙ ap (λ l. sum l % 2 ^ 64) (sym (map-append steps_in es (entry ∷ [])))
+              ∙ ap (λ fs. sum (map steps_in fs) % 2 ^ 64) next;
         }
 
     -- all of them
-    pub tabled-all : {k : ℕ} {answers : List ℕ} {total : ℕ} → Tabled size entries before k answers total → size ≡ entrySize ks
-        → k ≡ wholeIn ks entries
-        → (total ≡ (verdictsOn ks blocks entries).steps) × (answers ≡ over (verdictsOn ks blocks entries).bytes before)
-    unfolding verdictsOn
-    tabled-all {k} t s all =
-        let es : laidOut size k entries ≡ entriesIn ks entries = ap₂ (λ m n. laidOut m n entries) s all in (
-          t.steps ∙ ap (λ fs. sum (map stepsIn fs) % 2 ^ 64) es,
-          t.bytes ∙ ap (λ fs. over (map byteIn fs) before) es,
+    pub tabled_all : {k : ℕ} {answers : List ℕ} {total : ℕ} → Tabled size entries before k answers total → size ≡ entry_size ks
+        → k ≡ whole_in ks entries
+        → (total ≡ (verdicts_on ks blocks entries).steps) × (answers ≡ over (verdicts_on ks blocks entries).bytes before)
+    unfolding verdicts_on
+    tabled_all {k} t s all =
+        let es : laid_out size k entries ≡ entries_in ks entries = ap₂ (λ m n. laid_out m n entries) s all in (
+          t.steps ∙ ap (λ fs. sum (map steps_in fs) % 2 ^ 64) es,
+          t.bytes ∙ ap (λ fs. over (map byte_in fs) before) es,
         )

@@ -1,10 +1,10 @@
 // The load check: the types are followed, and each skip's landing is held to what its skip leaves.
 ghost use Rattle.std.specs.Prelude.{◌≡◌, ◌*◌, ◌^◌, ◌<◌, ◌≤◌, List, length};
 ghost use Rattle.paper.specs.Keys.{Key};
-ghost use Rattle.paper.specs.Answers.{refused, inBlocks, checkingSays};
-ghost use Rattle.paper.specs.Blocks.{in_block, mostBlocks, blocksIn};
-ghost use Rattle.paper.specs.Loading.{instructionAt, instructionsFrom, typesAlong, loadCheck};
-ghost use Rattle.keys.specs.Says.{keysIn};
+ghost use Rattle.paper.specs.Answers.{refused, inBlocks, checking_says};
+ghost use Rattle.paper.specs.Blocks.{in_block, most_blocks, blocks_in};
+ghost use Rattle.paper.specs.Loading.{instruction_at, instructions_from, types_along, load_check};
+ghost use Rattle.keys.specs.Says.{keys_in};
 ghost use Rattle.machine.specs.Following.{Followed, Fitted};
 
 use crate::decoding::{over_at, place_of};
@@ -19,8 +19,8 @@ const FEW_MARKS: usize = 256;
 const ALL_MARKS: usize = Block::MOST * Block::INSTRUCTIONS + 1;
 
 fn refused_at(i: usize) -> Checking
-    requires { instructionAt i < 2 ^ 64 }
-    ensures { checkingSays result ≡ refused 18 inBlocks (instructionAt i) }
+    requires { instruction_at i < 2 ^ 64 }
+    ensures { checking_says result ≡ refused 18 inBlocks (instruction_at i) }
 {
     Checking::Refused(refused::INSTRUCTION, Place::Blocks(place_of(i)))
 }
@@ -28,7 +28,7 @@ fn refused_at(i: usize) -> Checking
 // The number of the first instruction before `upto` whose landing does not fit, or `upto`. A landing past it is not compared. An instruction
 // that passes nothing over lands on the next, and is compared with itself.
 fn misfit(blocks: &[u8], n: usize, upto: usize, marks: &[u32]) -> usize
-    requires n_bound { n ≤ in_block * blocksIn blocks.now }
+    requires n_bound { n ≤ in_block * blocks_in blocks.now }
     requires upto_le_n { (upto ≤ n) × (upto < length marks.now) }
     ensures { (ks : List Key) → Followed ks blocks.now n marks.now upto → Fitted ks blocks.now n marks.now result }
 {
@@ -47,8 +47,8 @@ fn misfit(blocks: &[u8], n: usize, upto: usize, marks: &[u32]) -> usize
 
 // The load check, with room for a mark at each point.
 fn check_marking(list: &[u8], blocks: &[u8], n: usize, marks: &mut [u32]) -> Checking
-    requires { (n ≤ in_block * blocksIn blocks.now) × (n < length marks.old) }
-    ensures { checkingSays result ≡ loadCheck (length blocks.now) (typesAlong (keysIn list.now) (instructionsFrom blocks.now 0 n)) }
+    requires { (n ≤ in_block * blocks_in blocks.now) × (n < length marks.old) }
+    ensures { checking_says result ≡ load_check (length blocks.now) (types_along (keys_in list.now) (instructions_from blocks.now 0 n)) }
 {
     let upto = follow(list, blocks, n, marks);
     let at = misfit(blocks, n, upto, marks);
@@ -63,8 +63,8 @@ fn check_marking(list: &[u8], blocks: &[u8], n: usize, marks: &mut [u32]) -> Che
 
 // Whether the first n instructions of blocks pass the load check against a key list, or refusal 18.
 pub fn check_code(list: &[u8], blocks: &[u8], n: usize) -> Checking
-    requires { (n ≤ in_block * blocksIn blocks.now) × (n ≤ in_block * mostBlocks) }
-    ensures { checkingSays result ≡ loadCheck (length blocks.now) (typesAlong (keysIn list.now) (instructionsFrom blocks.now 0 n)) }
+    requires { (n ≤ in_block * blocks_in blocks.now) × (n ≤ in_block * most_blocks) }
+    ensures { checking_says result ≡ load_check (length blocks.now) (types_along (keys_in list.now) (instructions_from blocks.now 0 n)) }
 {
     if n < FEW_MARKS {
         let mut few = [0u32; FEW_MARKS];

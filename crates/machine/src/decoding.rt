@@ -3,11 +3,11 @@ ghost use Rattle.std.specs.Prelude.{◌≡◌, ℕ, ◌+◌, ◌^◌, ◌<◌, �
 ghost use Rattle.std.proofs.Math.Option.{some};
 ghost use Rattle.paper.specs.Types.{when};
 ghost use Rattle.paper.specs.Code as paper;
-ghost use Rattle.paper.specs.Code.{instructionSize, parts_at, decode};
-ghost use Rattle.paper.specs.Loading.{instructionAt};
+ghost use Rattle.paper.specs.Code.{instruction_size, parts_at, decode};
+ghost use Rattle.paper.specs.Loading.{instruction_at};
 ghost use Rattle.number.specs.Values.{value};
-ghost use Rattle.machine.specs.Following.{overIn};
-ghost use Rattle.machine.specs.Decoded.{opMeant, partsMeant, instructionMeant};
+ghost use Rattle.machine.specs.Following.{over_in};
+ghost use Rattle.machine.specs.Decoded.{op_meant, parts_meant, instruction_meant};
 
 use crate::instruction::{Instruction, Op};
 use blocks::{Block, two_bytes};
@@ -32,8 +32,8 @@ struct Parts {
 }
 
 fn parts_at(blocks: &[u8], at: usize) -> Parts
-    requires { at + instructionSize ≤ length blocks.now }
-    ensures { partsMeant result ≡ parts_at blocks.now at }
+    requires { at + instruction_size ≤ length blocks.now }
+    ensures { parts_meant result ≡ parts_at blocks.now at }
 {
     let constant = Magnitude::from_bytes(blocks, at + 4);
     Parts {
@@ -46,14 +46,14 @@ fn parts_at(blocks: &[u8], at: usize) -> Parts
 
 // An operation, where the other parts are right.
 fn only(right: bool, op: Op) -> Op
-    ensures { (n : ℕ) (i : paper.Instruction) → opMeant op n ≡ some i → opMeant result n ≡ when right i }
+    ensures { (n : ℕ) (i : paper.Instruction) → op_meant op n ≡ some i → op_meant result n ≡ when right i }
 {
     if right { op } else { Op::Wrong }
 }
 
 // What the parts spell, where so many instructions are left after it.
 fn op_of(p: Parts, left: usize) -> Op
-    ensures { opMeant result (value p.constant) ≡ decode left (partsMeant p) }
+    ensures { op_meant result (value p.constant) ≡ decode left (parts_meant p) }
 {
     let operation = p.operation;
     let detail = p.detail;
@@ -100,8 +100,8 @@ fn op_of(p: Parts, left: usize) -> Op
 
 // The offset of the first byte of instruction number i.
 pub fn place_of(i: usize) -> usize
-    requires { instructionAt i < 2 ^ 64 }
-    ensures { result ≡ instructionAt i }
+    requires { instruction_at i < 2 ^ 64 }
+    ensures { result ≡ instruction_at i }
 {
     Block::SIZE * (i / Block::INSTRUCTIONS)
         + Block::HEAD
@@ -110,8 +110,8 @@ pub fn place_of(i: usize) -> usize
 
 // How many instructions the one of number i passes over, if it is an instruction.
 pub(crate) fn over_at(blocks: &[u8], i: usize) -> usize
-    requires { instructionAt i + instructionSize ≤ length blocks.now }
-    ensures { (result ≡ overIn (parts_at blocks.now (instructionAt i))) × (result < 2 ^ 16) }
+    requires { instruction_at i + instruction_size ≤ length blocks.now }
+    ensures { (result ≡ over_in (parts_at blocks.now (instruction_at i))) × (result < 2 ^ 16) }
 {
     let at = place_of(i);
     if blocks[at] == operations::SKIP {
@@ -122,8 +122,8 @@ pub(crate) fn over_at(blocks: &[u8], i: usize) -> usize
 
 // The instruction number i of blocks, where so many are left after it.
 pub(crate) fn instruction_at(blocks: &[u8], i: usize, left: usize) -> Instruction
-    requires { instructionAt i + instructionSize ≤ length blocks.now }
-    ensures { instructionMeant result ≡ decode left (parts_at blocks.now (instructionAt i)) }
+    requires { instruction_at i + instruction_size ≤ length blocks.now }
+    ensures { instruction_meant result ≡ decode left (parts_at blocks.now (instruction_at i)) }
 {
     let parts = parts_at(blocks, place_of(i));
     let constant = parts.constant;
@@ -135,7 +135,7 @@ pub(crate) fn instruction_at(blocks: &[u8], i: usize, left: usize) -> Instructio
 
 // An instruction that uses no constant.
 fn without_constant(op: Op) -> Instruction
-    ensures { instructionMeant result ≡ opMeant op 0 }
+    ensures { instruction_meant result ≡ op_meant op 0 }
 {
     Instruction {
         op: op,
@@ -146,8 +146,8 @@ fn without_constant(op: Op) -> Instruction
 // The instruction number i of blocks that load. What stands there is an instruction, so no part is tested, and the constant is read only
 // where it is used.
 pub(crate) fn loaded_at(blocks: &[u8], i: usize) -> Instruction
-    requires { instructionAt i + instructionSize ≤ length blocks.now }
-    ensures { (left : ℕ) (x : paper.Instruction) → decode left (parts_at blocks.now (instructionAt i)) ≡ some x → instructionMeant result ≡ some x }
+    requires { instruction_at i + instruction_size ≤ length blocks.now }
+    ensures { (left : ℕ) (x : paper.Instruction) → decode left (parts_at blocks.now (instruction_at i)) ≡ some x → instruction_meant result ≡ some x }
 {
     let at = place_of(i);
     let operation = blocks[at];

@@ -2,12 +2,12 @@
 // and its floor (packing.rt). A skip leaves a bool on top, and no instruction makes anything else of a bool; so at a skip and at its
 // landing the same types are held where the marks are the same.
 ghost use Rattle.std.specs.Prelude.{◌≡◌, ◌+◌, ◌*◌, ◌<◌, ◌≤◌, length, if◌then◌else◌, nat_eq};
-ghost use Rattle.paper.specs.Code.{mostHeld, actionOf, typeAction};
-ghost use Rattle.paper.specs.Blocks.{in_block, blocksIn};
-ghost use Rattle.keys.specs.Says.{keysIn};
-ghost use Rattle.values.specs.Typed.{tyMeant, typingMeant};
+ghost use Rattle.paper.specs.Code.{most_held, action_of, type_action};
+ghost use Rattle.paper.specs.Blocks.{in_block, blocks_in};
+ghost use Rattle.keys.specs.Says.{keys_in};
+ghost use Rattle.values.specs.Typed.{ty_meant, typing_meant};
 ghost use Rattle.machine.specs.Acting.{gives};
-ghost use Rattle.machine.specs.Decoded.{instructionMeant};
+ghost use Rattle.machine.specs.Decoded.{instruction_meant};
 ghost use Rattle.machine.specs.Following.{floors, Followed};
 
 use crate::decoding::instruction_at;
@@ -23,7 +23,7 @@ pub const ONE_BOOL: u32 = FLOORS;
 
 // What an instruction leaves, of the types of its lowest operand and its uppermost.
 fn typed(list: &[u8], instruction: Instruction, low: Type, top: Type) -> Typing
-    ensures { typingMeant result ≡ gives (actionOf (typeAction (keysIn list.now)) (instructionMeant instruction)) (tyMeant low) (tyMeant top) }
+    ensures { typing_meant result ≡ gives (action_of (type_action (keys_in list.now)) (instruction_meant instruction)) (ty_meant low) (ty_meant top) }
 {
     let op = instruction.op;
     match op {
@@ -44,7 +44,7 @@ fn typed(list: &[u8], instruction: Instruction, low: Type, top: Type) -> Typing
 
 // The floor of what is held up to a place: that of what lies under it where there is a bool, and else the place's own height.
 fn floor_on(truth: bool, base: usize, under: u32) -> u32
-    requires { base < mostHeld }
+    requires { base < most_held }
     ensures { result ≡ (if truth then (if nat_eq base 0 then 0 else under) else base + 1) }
 {
     if truth {
@@ -58,7 +58,7 @@ fn floor_on(truth: bool, base: usize, under: u32) -> u32
 
 // The mark of a height and a floor.
 fn mark_of(height: usize, floor: u32) -> u32
-    requires { (height ≤ mostHeld) × (floor ≤ mostHeld) }
+    requires { (height ≤ most_held) × (floor ≤ most_held) }
     ensures { result ≡ height * floors + floor }
 {
     height as u32 * FLOORS + floor
@@ -66,8 +66,8 @@ fn mark_of(height: usize, floor: u32) -> u32
 
 // The number of the first instruction that fails by itself, or n; each point up to it is marked.
 pub(crate) fn follow(list: &[u8], blocks: &[u8], n: usize, marks: &mut [u32]) -> usize
-    requires { (n ≤ in_block * blocksIn blocks.now) × (n < length marks.old) }
-    ensures { Followed (keysIn list.now) blocks.now n marks.new result }
+    requires { (n ≤ in_block * blocks_in blocks.now) × (n < length marks.old) }
+    ensures { Followed (keys_in list.now) blocks.now n marks.new result }
 {
     let mut stack = [0u32; MOST_HELD];
     let mut height = 0;

@@ -1,9 +1,9 @@
 // Instructions, by value.
 ghost use Rattle.std.specs.Prelude.{◌≡◌, ◌≤◌, min, List};
 ghost use Rattle.paper.specs.Keys.{Key};
-ghost use Rattle.paper.specs.Code.{actionOf, typeAction};
-ghost use Rattle.machine.specs.Acting.{takesOf};
-ghost use Rattle.machine.specs.Decoded.{instructionMeant};
+ghost use Rattle.paper.specs.Code.{action_of, type_action};
+ghost use Rattle.machine.specs.Acting.{takes_of};
+ghost use Rattle.machine.specs.Decoded.{instruction_meant};
 
 use keys::KeyRecord;
 use number::Magnitude;
@@ -38,7 +38,7 @@ pub struct Instruction {
 
 // How many operands an instruction takes.
 pub(crate) fn takes(instruction: Instruction) -> usize
-    ensures { (ks : List Key) → result ≡ takesOf (actionOf (typeAction ks) (instructionMeant instruction)) }
+    ensures { (ks : List Key) → result ≡ takes_of (action_of (type_action ks) (instruction_meant instruction)) }
 {
     let op = instruction.op;
     match op {

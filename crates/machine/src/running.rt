@@ -2,13 +2,13 @@
 ghost use Rattle.std.specs.Prelude.{◌≡◌, ◌≤◌, length, if◌then◌else◌};
 ghost use Rattle.paper.specs.Answers.{ok};
 ghost use Rattle.paper.specs.Keys.{keys};
-ghost use Rattle.paper.specs.Meaning.{truth, compareValue};
-ghost use Rattle.paper.specs.Code.{comparisonOf, mostHeld};
+ghost use Rattle.paper.specs.Meaning.{truth, compare_value};
+ghost use Rattle.paper.specs.Code.{comparison_of, most_held};
 ghost use Rattle.paper.specs.Loading.{loaded};
 ghost use Rattle.paper.specs.Calls.{over};
-ghost use Rattle.paper.specs.Counting.{wholeIn};
-ghost use Rattle.paper.specs.RunAll.{verdictsOn};
-ghost use Rattle.keys.specs.Says.{keysIn, conforms};
+ghost use Rattle.paper.specs.Counting.{whole_in};
+ghost use Rattle.paper.specs.RunAll.{verdicts_on};
+ghost use Rattle.keys.specs.Says.{keys_in, conforms};
 ghost use Rattle.values.specs.Held.{held, Is};
 ghost use Rattle.machine.specs.Running.{passes, byte_of};
 
@@ -28,14 +28,14 @@ pub const VIOLATED: u8 = 2;
 
 // Whether a comparison holds of its operands. The loop makes its own cell of that, so that the one that `compared` makes is not copied.
 fn holds(low: Cell, comparison: u8, top: Cell) -> bool
-    ensures { Is (compareValue (comparisonOf comparison) (held low) (held top)) (truth result) }
+    ensures { Is (compare_value (comparison_of comparison) (held low) (held top)) (truth result) }
 {
     low.compared(comparison, top).is_true()
 }
 
 // Whether an entry conforms, so that the blocks can be run on it.
 fn enters(list: &[u8], entry: &[u8]) -> bool
-    ensures { result ≡ passes (conforms (keysIn list.now) entry.now) }
+    ensures { result ≡ passes (conforms (keys_in list.now) entry.now) }
 {
     match keys::check_entry(list, entry) {
         Checking::Passed => true,
@@ -46,7 +46,7 @@ fn enters(list: &[u8], entry: &[u8]) -> bool
 // The cells of a run, before anything is stored. Made by a function of their own they are cleared all at once. Made by the function with the loops they
 // were stored one by one, and the smallest run took 1.4 times as long.
 fn cleared() -> [Cell; MOST_HELD]
-    ensures { length result ≡ mostHeld }
+    ensures { length result ≡ most_held }
 {
     [Cell::truth(false); MOST_HELD]
 }
@@ -73,11 +73,11 @@ fn verdict(enters: bool, left: bool) -> u8
 
 // The runs of n loaded instructions on entries that lie end to end: a byte for each of them in `answers`, and the steps of all.
 pub fn run_each(list: &[u8], blocks: &[u8], entries: &[u8], n: usize, answers: &mut [u8]) -> u64
-    requires list_value { keys list.now ≡ ok (keysIn list.now) }
-    requires blocks_value { loaded (keysIn list.now) blocks.now ≡ ok n }
-    requires entries_in_bounds { wholeIn (keysIn list.now) entries.now ≤ length answers.old }
-    ensures value { result ≡ (verdictsOn (keysIn list.now) blocks.now entries.now).steps }
-    ensures answers_after { answers.new ≡ over (verdictsOn (keysIn list.now) blocks.now entries.now).bytes answers.old }
+    requires list_value { keys list.now ≡ ok (keys_in list.now) }
+    requires blocks_value { loaded (keys_in list.now) blocks.now ≡ ok n }
+    requires entries_in_bounds { whole_in (keys_in list.now) entries.now ≤ length answers.old }
+    ensures value { result ≡ (verdicts_on (keys_in list.now) blocks.now entries.now).steps }
+    ensures answers_after { answers.new ≡ over (verdicts_on (keys_in list.now) blocks.now entries.now).bytes answers.old }
 {
     let size = keys::entry_size(list);
     let whole = entries.len() / size;

@@ -16,14 +16,14 @@ product {a} {b} ha hb hc =
     let p : a * b ≤ (2 ^ 32 - 1) * (2 ^ 32 - 1) = mul-le-mul {n₂ = 2 ^ 32 - 1} {m₂ = 2 ^ 32 - 1} (omega arith) (omega arith) in
     omega arith
 
-past-four : (o : ℕ) → 2 ^ 32 * (2 ^ 32 * (2 ^ 32 * (2 ^ 32 * o))) ≡ 2 ^ 128 * o
-past-four o =
+past_four : (o : ℕ) → 2 ^ 32 * (2 ^ 32 * (2 ^ 32 * (2 ^ 32 * o))) ≡ 2 ^ 128 * o
+past_four o =
     let e : 2 ^ 32 * (2 ^ 32 * (2 ^ 32 * o)) ≡ 2 ^ 96 * o = omega arith in
     ap (λ (x : ℕ). 2 ^ 32 * x) e ∙ sym (mul_assoc (2 ^ 32) (2 ^ 96) o)
 
 -- a fifth digit is what four limbs cannot hold
 five : (a b c d o : ℕ) → nested a b c (d + 2 ^ 32 * o) ≡ nested a b c d + 2 ^ 128 * o
-five a b c d o = go (2 ^ 32 * o) ∙ ap (λ (x : ℕ). nested a b c d + x) (past-four o)
+five a b c d o = go (2 ^ 32 * o) ∙ ap (λ (x : ℕ). nested a b c d + x) (past_four o)
   where
     go : (x : ℕ) → nested a b c (d + x) ≡ nested a b c d + 2 ^ 32 * (2 ^ 32 * (2 ^ 32 * x))
     go x = omega arith
@@ -49,21 +49,21 @@ grows r o t e h s =
       kept = rest_of (2 ^ 128) (value r.number) o t h s;
     }
 
-pub grown-exact : {n : ℕ} {r : Extended} → Grows n r → r.ok ≡ true → value r.number ≡ n
-grown-exact {n} g e = g.kept ∙ mod-eq_of_lt (ltb-true n (2 ^ 128) (sym g.told ∙ e))
+pub grown_exact : {n : ℕ} {r : Extended} → Grows n r → r.ok ≡ true → value r.number ≡ n
+grown_exact {n} g e = g.kept ∙ mod-eq_of_lt (ltb-true n (2 ^ 128) (sym g.told ∙ e))
 
-scale-step : (n o l k c N M : ℕ) → n + 2 ^ 32 * o ≡ l * k + c → N ≡ M * k + o → n + 2 ^ 32 * N ≡ (l + 2 ^ 32 * M) * k + c
-scale-step n o l k c N M e f = rw (f, add-mul l (2 ^ 32 * M) k, mul_assoc (2 ^ 32) M k) (omega arith)
+scale_step : (n o l k c N M : ℕ) → n + 2 ^ 32 * o ≡ l * k + c → N ≡ M * k + o → n + 2 ^ 32 * N ≡ (l + 2 ^ 32 * M) * k + c
+scale_step n o l k c N M e f = rw (f, add-mul l (2 ^ 32 * M) k, mul_assoc (2 ^ 32) M k) (omega arith)
 
 -- four limbs times a base, plus a digit: each limb hands on what is over
-pub scaled-four : (m : Magnitude) (k c : ℕ) (r0 r1 r2 r3 : Carry) → r0.limb + 2 ^ 32 * r0.over ≡ limb m 0 * k + c
+pub scaled_four : (m : Magnitude) (k c : ℕ) (r0 r1 r2 r3 : Carry) → r0.limb + 2 ^ 32 * r0.over ≡ limb m 0 * k + c
     → r1.limb + 2 ^ 32 * r1.over ≡ limb m 1 * k + r0.over → r2.limb + 2 ^ 32 * r2.over ≡ limb m 2 * k + r1.over
     → r3.limb + 2 ^ 32 * r3.over ≡ limb m 3 * k + r2.over
     → nested r0.limb r1.limb r2.limb r3.limb + 2 ^ 128 * r3.over ≡ value m * k + c
 unfolding value
-scaled-four m k c r0 r1 r2 r3 e0 e1 e2 e3 =
+scaled_four m k c r0 r1 r2 r3 e0 e1 e2 e3 =
     sym (five r0.limb r1.limb r2.limb r3.limb r3.over)
-    ∙ scale-step _ _ _ _ _ _ _ e0 (scale-step _ _ _ _ _ _ _ e1 (scale-step _ _ _ _ _ _ _ e2 e3))
+    ∙ scale_step _ _ _ _ _ _ _ e0 (scale_step _ _ _ _ _ _ _ e1 (scale_step _ _ _ _ _ _ _ e2 e3))
 
 -- a limb taken from zero borrows unless it is zero
 pub borrows : (l : ℕ) {r : ℕ} → Fits w32 l → Fits w32 r → (r + l) % 2 ^ 32 ≡ 0 → r + l + 0 ≡ 2 ^ 32 * bit (not (eqb l 0))
@@ -74,11 +74,11 @@ take_step : (r a k o R A t : ℕ) → r + a + k ≡ 2 ^ 32 * o → R + A + o ≡
 take_step r a k o R A t e f = omega arith
 
 -- four limbs taken from zero: each borrows from the next
-pub taken-four : (m : Magnitude) (r0 r1 r2 r3 : Borrowed) → r0.limb + limb m 0 + 0 ≡ 2 ^ 32 * bit r0.owed
+pub taken_four : (m : Magnitude) (r0 r1 r2 r3 : Borrowed) → r0.limb + limb m 0 + 0 ≡ 2 ^ 32 * bit r0.owed
     → r1.limb + limb m 1 + bit r0.owed ≡ 2 ^ 32 * bit r1.owed → r2.limb + limb m 2 + bit r1.owed ≡ 2 ^ 32 * bit r2.owed
     → r3.limb + limb m 3 + bit r2.owed ≡ 2 ^ 32 * bit r3.owed
     → nested r0.limb r1.limb r2.limb r3.limb + value m ≡ 2 ^ 128 * bit r3.owed
 unfolding value
-taken-four m r0 r1 r2 r3 e0 e1 e2 e3 =
+taken_four m r0 r1 r2 r3 e0 e1 e2 e3 =
     sym (add-zero (nested r0.limb r1.limb r2.limb r3.limb + value m))
-    ∙ take_step _ _ _ _ _ _ _ e0 (take_step _ _ _ _ _ _ _ e1 (take_step _ _ _ _ _ _ _ e2 e3)) ∙ past-four (bit r3.owed)
+    ∙ take_step _ _ _ _ _ _ _ e0 (take_step _ _ _ _ _ _ _ e1 (take_step _ _ _ _ _ _ _ e2 e3)) ∙ past_four (bit r3.owed)

@@ -5,12 +5,12 @@ use Rattle.std.proofs.Common.{◌≡◌, ℕ, zero, suc, ◌+◌, ◌-◌, ◌*�
 use native.Mathlib.Nat.{mod-eq-sub-mod}
 use borrow.Author.Tests.{lt-leb}
 use lib.Dec.{leb-zero}
-use Rattle.paper.specs.Types.{fitsIn}
+use Rattle.paper.specs.Types.{fits_in}
 use Rattle.number.proofs.Orders.{agree}
 
 -- from the half up to its double, only the half leaves nothing
-half-itself : (n h : ℕ) → h ≤ n → n < 2 * h → eqb (n % h) 0 ≡ leb n h
-half-itself n h l m =
+half_itself : (n h : ℕ) → h ≤ n → n < 2 * h → eqb (n % h) 0 ≡ leb n h
+half_itself n h l m =
     let rest : n % h ≡ n - h = mod-eq-sub-mod l ∙ mod-eq_of_lt (omega arith) in
     agree (eqb (n % h) 0) (leb n h)
     (λ e. let none_left : n % h ≡ 0 = eqb-true (n % h) 0 e in le-leb n h (omega arith))
@@ -23,18 +23,18 @@ module _ (n k w : ℕ) (e : k ≡ w - 1) where
   abbrev half : ℕ
   half = 2 ^ k
 
-  at-half : leb n half ≡ leb n (2 ^ (w - 1))
-  at-half = ap (λ (j : ℕ). leb n (2 ^ j)) e
+  at_half : leb n half ≡ leb n (2 ^ (w - 1))
+  at_half = ap (λ (j : ℕ). leb n (2 ^ j)) e
 
   pub below_half : n < half → true ≡ leb n (2 ^ (w - 1))
-  below_half l = sym (le-leb n half (omega arith)) ∙ at-half
+  below_half l = sym (le-leb n half (omega arith)) ∙ at_half
 
-  pub up-to-double : half ≤ n → n < 2 ^ (k + 1) → eqb (n % half) 0 ≡ leb n (2 ^ (w - 1))
-  up-to-double l m = half-itself n half l (rw (← doubled k) m) ∙ at-half
+  pub up_to_double : half ≤ n → n < 2 ^ (k + 1) → eqb (n % half) 0 ≡ leb n (2 ^ (w - 1))
+  up_to_double l m = half_itself n half l (rw (← doubled k) m) ∙ at_half
 
-  pub past-double : 2 ^ (k + 1) ≤ n → false ≡ leb n (2 ^ (w - 1))
-  past-double l = sym (lt-leb n half (let d = doubled k in let p = pow_pos k in omega (arith, d, p, l))) ∙ at-half
+  pub past_double : 2 ^ (k + 1) ≤ n → false ≡ leb n (2 ^ (w - 1))
+  past_double l = sym (lt-leb n half (let d = doubled k in let p = pow_pos k in omega (arith, d, p, l))) ∙ at_half
 
-pub below-zero-fits : (n w : ℕ) → leb n (2 ^ (w - 1)) ≡ fitsIn w (neg_ℤ (pos n))
-below-zero-fits zero w = leb-zero (2 ^ (w - 1)) ∙ sym (lt-ltb 0 (2 ^ w) (pow_pos w))
-below-zero-fits (suc n) w = refl
+pub below_zero_fits : (n w : ℕ) → leb n (2 ^ (w - 1)) ≡ fits_in w (neg_ℤ (pos n))
+below_zero_fits zero w = leb-zero (2 ^ (w - 1)) ∙ sym (lt-ltb 0 (2 ^ w) (pow_pos w))
+below_zero_fits (suc n) w = refl

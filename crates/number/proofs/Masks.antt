@@ -9,14 +9,14 @@ use Rattle.number.proofs.Limbs.{Held}
 turned : (a m : ℕ) → m * 2 ^ 32 + a ≡ a + 2 ^ 32 * m
 turned a m = add_comm (m * 2 ^ 32) a ∙ ap (λ (k : ℕ). a + k) (mul_comm m (2 ^ 32))
 
-and-digit : (a b m n : ℕ) → a < 2 ^ 32 → b < 2 ^ 32 → bit_and (a + 2 ^ 32 * m) (b + 2 ^ 32 * n) ≡ bit_and a b + 2 ^ 32 * bit_and m n
-and-digit a b m n ha hb =
+and_digit : (a b m n : ℕ) → a < 2 ^ 32 → b < 2 ^ 32 → bit_and (a + 2 ^ 32 * m) (b + 2 ^ 32 * n) ≡ bit_and a b + 2 ^ 32 * bit_and m n
+and_digit a b m n ha hb =
     ap₂ bit_and (sym (turned a m)) (sym (turned b n)) ∙ and_block 32 m n a b ha hb ∙ turned (bit_and a b) (bit_and m n)
 
-pub and-limbs : (a b : Magnitude) → Held a → Held b
+pub and_limbs : (a b : Magnitude) → Held a → Held b
     → bit_and (value a) (value b) ≡ nested (bit_and (limb a 0) (limb b 0)) (bit_and (limb a 1) (limb b 1)) (bit_and (limb a 2) (limb b 2)) (bit_and (limb a 3) (limb b 3))
 unfolding value
-and-limbs a b ha hb =
-    and-digit _ _ _ _ ha.l0.fits hb.l0.fits
-    ∙ ap (λ (k : ℕ). bit_and (limb a 0) (limb b 0) + 2 ^ 32 * k) (and-digit _ _ _ _ ha.l1.fits hb.l1.fits
-    ∙ ap (λ (k : ℕ). bit_and (limb a 1) (limb b 1) + 2 ^ 32 * k) (and-digit _ _ _ _ ha.l2.fits hb.l2.fits))
+and_limbs a b ha hb =
+    and_digit _ _ _ _ ha.l0.fits hb.l0.fits
+    ∙ ap (λ (k : ℕ). bit_and (limb a 0) (limb b 0) + 2 ^ 32 * k) (and_digit _ _ _ _ ha.l1.fits hb.l1.fits
+    ∙ ap (λ (k : ℕ). bit_and (limb a 1) (limb b 1) + 2 ^ 32 * k) (and_digit _ _ _ _ ha.l2.fits hb.l2.fits))

@@ -10,8 +10,8 @@ use lib.Pow.{mod-pow-add}
 use Rattle.number.specs.declared.magnitude.Magnitude.{Magnitude}
 use Rattle.number.specs.Values.{limb, value}
 use Rattle.number.proofs.Limbs.{Held}
-use Rattle.number.proofs.Orders.{eqb-iff}
-use Rattle.number.proofs.Powers.{mod-wide, mod-min, mod-digit}
+use Rattle.number.proofs.Orders.{eqb_iff}
+use Rattle.number.proofs.Powers.{mod_wide, mod_min, mod_digit}
 
 -- the lowest bit, and those above it
 halved : (n k : ℕ) → n % 2 ^ suc k ≡ n / 2 % 2 ^ k * 2 + n % 2
@@ -30,30 +30,30 @@ counted (suc w) n (suc k) l = go (n % 2) refl (counted w (n / 2) k (omega arith)
     go : (d : ℕ) → n % 2 ≡ d → leb k (count_trailing_zeros w (n / 2)) ≡ eqb above 0 → leb (suc k) (under d (count_trailing_zeros w (n / 2))) ≡ eqb (n % 2 ^ suc k) 0
     go zero e told =
         leb-suc-suc k (count_trailing_zeros w (n / 2)) ∙ told
-        ∙ eqb-iff above 0 (n % 2 ^ suc k) 0 (λ h. omega (arith, halved n k)) (λ h. omega (arith, halved n k))
+        ∙ eqb_iff above 0 (n % 2 ^ suc k) 0 (λ h. omega (arith, halved n k)) (λ h. omega (arith, halved n k))
     go (suc d) e told = leb-suc-zero k ∙ sym (ne_eqb (n % 2 ^ suc k) 0 (λ h. omega (arith, halved n k)))
 
 -- of a number that fits w bits, for every k: all w are zero where k is more
-pub zeros-tell : (w n k : ℕ) → n < 2 ^ w → leb (min k w) (count_trailing_zeros w n) ≡ eqb (n % 2 ^ k) 0
-zeros-tell w n k h = rw (mod-min n w k h) (counted w n (min k w) (omega arith))
+pub zeros_tell : (w n k : ℕ) → n < 2 ^ w → leb (min k w) (count_trailing_zeros w n) ≡ eqb (n % 2 ^ k) 0
+zeros_tell w n k h = rw (mod_min n w k h) (counted w n (min k w) (omega arith))
 
 -- a digit that is not zero decides for those above it
 decides : (k a m : ℕ) → a < 2 ^ 32 → (a ≡ 0 → ⊥) → eqb (a % 2 ^ k) 0 ≡ eqb ((a + 2 ^ 32 * m) % 2 ^ k) 0
 decides k a m l n =
-    eqb-iff (a % 2 ^ k) 0 ((a + 2 ^ 32 * m) % 2 ^ k) 0 (λ h. go h (dec_le k 32)) (λ h. omega (arith, mod-digit k a m l))
+    eqb_iff (a % 2 ^ k) 0 ((a + 2 ^ 32 * m) % 2 ^ k) 0 (λ h. go h (dec_le k 32)) (λ h. omega (arith, mod_digit k a m l))
   where
     go : a % 2 ^ k ≡ 0 → Dec (k ≤ 32) → (a + 2 ^ 32 * m) % 2 ^ k ≡ 0
     go h (yes p) =
         let e : k - 32 ≡ 0 = omega arith in
-        rw (mod-digit k a m l, h, e, mod-one) (omega arith)
-    go h (no p) = absurd (n (sym (mod-wide a 32 k l (omega arith)) ∙ h))
+        rw (mod_digit k a m l, h, e, mod-one) (omega arith)
+    go h (no p) = absurd (n (sym (mod_wide a 32 k l (omega arith)) ∙ h))
 
 -- one that is zero leaves it to them, for the bits past it
 passes : (j k a m : ℕ) → j ≡ k - 32 → a ≡ 0 → eqb (m % 2 ^ j) 0 ≡ eqb ((a + 2 ^ 32 * m) % 2 ^ k) 0
 passes j k a m e z =
-    let q = mod-digit k a m (omega arith) in
+    let q = mod_digit k a m (omega arith) in
     let low : a % 2 ^ k ≡ 0 = rw z (zero-mod (2 ^ k)) in
-    rw e (eqb-iff (m % 2 ^ (k - 32)) 0 ((a + 2 ^ 32 * m) % 2 ^ k) 0 (λ h. omega (arith, q, low)) (λ h. omega (arith, q, low)))
+    rw e (eqb_iff (m % 2 ^ (k - 32)) 0 ((a + 2 ^ 32 * m) % 2 ^ k) 0 (λ h. omega (arith, q, low)) (λ h. omega (arith, q, low)))
 
 -- the lowest limb that is not zero decides for a number, and the last where none is
 module _ (k : ℕ) (m : Magnitude) (h : Held m) where

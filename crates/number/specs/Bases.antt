@@ -6,14 +6,14 @@ use Rattle.number.specs.declared.base.Base.{Base}
 use Rattle.number.specs.declared.base.Base.TheVariants.{Decimal, Binary, Hex}
 use Rattle.number.specs.declared.base.Literal.{Literal}
 
-abbrev pub baseMeant : Base → P.Base
-baseMeant Decimal = P.decimal
-baseMeant Binary = P.binary
-baseMeant Hex = P.hex
+abbrev pub base_meant : Base → P.Base
+base_meant Decimal = P.decimal
+base_meant Binary = P.binary
+base_meant Hex = P.hex
 
 -- a word holds the radix of a base; of any other number it is decimal
-abbrev pub ofRadix : ℕ → Base
-ofRadix n = cond (n == 2) Binary (cond (n == 16) Hex Decimal)
+abbrev pub of_radix : ℕ → Base
+of_radix n = cond (n == 2) Binary (cond (n == 16) Hex Decimal)
 
-abbrev pub literalMeant : Literal → P.Literal
-literalMeant l = P.literalIn (baseMeant l.base) (value l.number)
+abbrev pub literal_meant : Literal → P.Literal
+literal_meant l = P.literal_in (base_meant l.base) (value l.number)

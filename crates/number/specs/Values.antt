@@ -23,8 +23,8 @@ abbrev pub signed : Bool → ℕ → ℤ
 signed true n = neg_ℤ (pos n)
 signed false n = pos n
 
-abbrev pub wholeOf : Whole → ℤ
-wholeOf w = signed w.negative (value w.size)
+abbrev pub whole_of : Whole → ℤ
+whole_of w = signed w.negative (value w.size)
 
 -- what growing to n gives: whether n fits 128 bits, and those bits of it
 pub record Grows (n : ℕ) (r : Extended) : Type 0 where

@@ -1,7 +1,7 @@
 // How a numeral is written: the base of its digits, which tokens and nodes keep beside its number.
 ghost use Rattle.std.specs.Prelude.{◌≡◌, ◌≤◌};
 ghost use Rattle.paper.specs.Tokens as paper;
-ghost use Rattle.number.specs.Bases.{baseMeant, ofRadix, literalMeant};
+ghost use Rattle.number.specs.Bases.{base_meant, of_radix, literal_meant};
 
 use crate::magnitude::Magnitude;
 
@@ -22,7 +22,7 @@ pub struct Literal {
 impl Base {
     // How many digits the base has. A word that holds a base holds this number.
     pub fn radix(self) -> u32
-        ensures is { result ≡ paper.radix (baseMeant self) }
+        ensures is { result ≡ paper.radix (base_meant self) }
         ensures two { 2 ≤ result }
         ensures few { result ≤ 16 }
     {
@@ -35,7 +35,7 @@ impl Base {
 
     // The base that has so many digits. Of any other number, decimal.
     pub fn of_radix(radix: u32) -> Base
-        ensures { result ≡ ofRadix radix }
+        ensures { result ≡ of_radix radix }
     {
         match radix {
             2 => Base::Binary,

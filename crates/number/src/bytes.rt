@@ -1,7 +1,7 @@
 // Sixteen bytes of a slice, big-endian.
 ghost use Rattle.std.specs.Prelude.{◌≡◌, ◌+◌, ◌<◌, ◌≤◌, length};
 ghost use Rattle.std.proofs.lemmas.List.Edits.{sets};
-ghost use Rattle.paper.specs.Numbers.{number_at, bigEndian};
+ghost use Rattle.paper.specs.Numbers.{number_at, big_endian};
 ghost use Rattle.number.specs.Values.{value};
 
 use crate::magnitude::Magnitude;
@@ -22,7 +22,7 @@ pub fn word(s: &[u8], at: usize) -> u32
 
 fn put_word(out: &mut [u8], at: usize, n: u32)
     requires { at + 4 ≤ length out.old }
-    ensures { out.new ≡ sets out.old at (bigEndian 4 n) }
+    ensures { out.new ≡ sets out.old at (big_endian 4 n) }
 {
     out[at] = (n / 0x100_0000) as u8;
     out[at + 1] = (n / 0x1_0000 % 0x100) as u8;
@@ -49,7 +49,7 @@ impl Magnitude {
     // Writes the number into 16 bytes from an offset on; every other byte stays.
     pub fn put_bytes(self, out: &mut [u8], at: usize)
         requires { at + 16 ≤ length out.old }
-        ensures { out.new ≡ sets out.old at (bigEndian 16 (value self)) }
+        ensures { out.new ≡ sets out.old at (big_endian 16 (value self)) }
     {
         put_word(out, at, self.limbs[3]);
         put_word(out, at + 4, self.limbs[2]);

@@ -1,8 +1,8 @@
 // The digits of a number, in any base from 2 to 16.
 ghost use Rattle.std.specs.Prelude.{◌≡◌, ◌+◌, ◌*◌, ◌/◌, ◌%◌, ◌^◌, ◌<◌, ◌≤◌, true, false, length};
-ghost use Rattle.paper.specs.Print.{digitByte, numeralIn};
+ghost use Rattle.paper.specs.Print.{digit_byte, numeral_in};
 ghost use Rattle.number.specs.Values.{limb, value};
-ghost use Rattle.number.specs.Numerals.{Divides, Holds, Lies, Ends, Begins, mostLimbDigits};
+ghost use Rattle.number.specs.Numerals.{Divides, Holds, Lies, Ends, Begins, most_limb_digits};
 
 use crate::magnitude::Magnitude;
 
@@ -61,7 +61,7 @@ fn divide_limb(limb: u32, over: u32, by: u32) -> Split
 // The byte of a digit, a letter in lower case from ten on.
 fn digit_byte(digit: u32) -> u8
     requires { digit < 16 }
-    ensures { result ≡ digitByte digit }
+    ensures { result ≡ digit_byte digit }
 {
     if digit < 10 {
         return (48 + digit) as u8;
@@ -140,8 +140,8 @@ fn put_first(n: u32, base: u32, end: usize, bytes: &mut [u8]) -> usize
 // Writes the numeral of a limb at the end of bytes that have room for it in every base, and tells where it begins.
 pub fn put_limb_digits(n: u32, base: u32, bytes: &mut [u8]) -> usize
     requires le_base { (2 ≤ base) × (base ≤ 16) }
-    requires bytes_len { length bytes.old ≡ mostLimbDigits }
-    ensures { Lies (numeralIn base n) bytes.new result }
+    requires bytes_len { length bytes.old ≡ most_limb_digits }
+    ensures { Lies (numeral_in base n) bytes.new result }
 {
     put_first(n, base, MOST_LIMB_DIGITS, bytes)
 }
@@ -192,7 +192,7 @@ impl Magnitude {
     // be written are as many as the bytes before them. Most numbers have one limb, and nothing is cut off them.
     pub fn digits_in(self, base: u32) -> Digits
         requires { (2 ≤ base) × (base ≤ 16) }
-        ensures { Holds (numeralIn base (value self)) result }
+        ensures { Holds (numeral_in base (value self)) result }
     {
         let mut bytes = [0u8; 128];
         let mut end = 128;

@@ -1,8 +1,8 @@
 // Whole numbers: a size and a sign. Zero may carry either sign, and is the same number.
 ghost use Rattle.std.specs.Prelude.{◌≡◌, ◌^◌, min, pos, neg_ℤ};
-ghost use Rattle.paper.specs.Numbers.{modulo, sameWhole, lessWhole};
-ghost use Rattle.paper.specs.Types.{fitsIn};
-ghost use Rattle.number.specs.Values.{value, wholeOf};
+ghost use Rattle.paper.specs.Numbers.{modulo, same_whole, less_whole};
+ghost use Rattle.paper.specs.Types.{fits_in};
+ghost use Rattle.number.specs.Values.{value, whole_of};
 
 use crate::magnitude::Magnitude;
 
@@ -15,7 +15,7 @@ pub struct Whole {
 impl Whole {
     // The whole number of this size that is not negative.
     pub fn of(size: Magnitude) -> Whole
-        ensures { wholeOf result ≡ pos (value size) }
+        ensures { whole_of result ≡ pos (value size) }
     {
         Whole {
             negative: false,
@@ -25,7 +25,7 @@ impl Whole {
 
     // The whole number of the same size and the other sign.
     pub fn negated(self) -> Whole
-        ensures { wholeOf result ≡ neg_ℤ (wholeOf self) }
+        ensures { whole_of result ≡ neg_ℤ (whole_of self) }
     {
         let size = self.size;
         Whole {
@@ -36,7 +36,7 @@ impl Whole {
 
     // Whether the whole number is negative and not zero.
     fn below_zero(self) -> bool
-        ensures { result ≡ lessWhole (wholeOf self) (pos 0) }
+        ensures { result ≡ less_whole (whole_of self) (pos 0) }
     {
         let size = self.size;
         if self.negative {
@@ -47,7 +47,7 @@ impl Whole {
 
     // Whether the two whole numbers are equal.
     pub fn equal(self, other: Whole) -> bool
-        ensures { result ≡ sameWhole (wholeOf self) (wholeOf other) }
+        ensures { result ≡ same_whole (whole_of self) (whole_of other) }
     {
         let a = self.size;
         let b = other.size;
@@ -65,7 +65,7 @@ impl Whole {
 
     // Whether this whole number is below the other.
     pub fn less(self, other: Whole) -> bool
-        ensures { result ≡ lessWhole (wholeOf self) (wholeOf other) }
+        ensures { result ≡ less_whole (whole_of self) (whole_of other) }
     {
         let a = self.size;
         let b = other.size;
@@ -83,7 +83,7 @@ impl Whole {
 
     // The remainder modulo 2^w that is not negative; a w past 128 counts as 128.
     pub fn reduced(self, w: u32) -> Magnitude
-        ensures { value result ≡ modulo (wholeOf self) (2 ^ min w 128) }
+        ensures { value result ≡ modulo (whole_of self) (2 ^ min w 128) }
     {
         let size = self.size;
         if self.negative {
@@ -94,7 +94,7 @@ impl Whole {
 
     // Whether the whole number lies between -2^(w - 1) and 2^w - 1, so that w bits hold it with none lost.
     pub fn fits_in(self, w: u32) -> bool
-        ensures { result ≡ fitsIn w (wholeOf self) }
+        ensures { result ≡ fits_in w (whole_of self) }
     {
         let size = self.size;
         if self.negative {

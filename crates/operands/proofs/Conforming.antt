@@ -6,22 +6,22 @@ use mathlib.Core.List.{List}
 use lib.ListN.{length}
 use Rattle.paper.specs.Answers.{ok}
 use Rattle.paper.specs.Numbers.{byte_at}
-use Rattle.paper.specs.Keys.{recordSize, recordAt}
-use Rattle.paper.specs.Entry.{headSize, matchSize}
-use Rattle.keys.specs.Says.{keysIn, keyCount, conforms}
-use Rattle.keys.proofs.Records.{keys_length, width-most}
-use Rattle.keys.proofs.Checked.{listed, good-record}
+use Rattle.paper.specs.Keys.{record_size, record_at}
+use Rattle.paper.specs.Entry.{head_size, match_size}
+use Rattle.keys.specs.Says.{keys_in, key_count, conforms}
+use Rattle.keys.proofs.Records.{keys_length, width_most}
+use Rattle.keys.proofs.Checked.{listed, good_record}
 use Rattle.keys.proofs.Conforming.{entered, entry_length}
 use Rattle.operands.specs.Conforming.{Conforming}
 
-pub conforming : (list entry : List ℕ) {n : ℕ} → keyCount list ≡ ok n → conforms (keysIn list) entry ≡ ok tt → Conforming list entry
-conforming list entry l e = record { listed = (listed list l).0; entered = entered (keysIn list) entry e }
+pub conforming : (list entry : List ℕ) {n : ℕ} → key_count list ≡ ok n → conforms (keys_in list) entry ≡ ok tt → Conforming list entry
+conforming list entry l e = record { listed = (listed list l).0; entered = entered (keys_in list) entry e }
 
 module _ (list entry : List ℕ) (c : Conforming list entry) where
-  pub entry-size : length entry ≡ headSize + matchSize * (length list / recordSize)
-  entry-size = omega (arith, entry_length (keysIn list) entry c.entered, keys_length list 0 (length list / recordSize))
+  pub entry_size : length entry ≡ head_size + match_size * (length list / record_size)
+  entry_size = omega (arith, entry_length (keys_in list) entry c.entered, keys_length list 0 (length list / record_size))
 
   -- the record of an index can be read, from the list and from the entry
-  pub readable : (k : ℕ) → k < length list / recordSize
-      → (k < length list / recordSize) × ((byte_at (recordAt list k) 2 ≤ 128) × (headSize + (k + 1) * matchSize ≤ length entry))
-  readable k h = (h, (width-most (recordAt list k) (good-record list c.listed k h), omega (arith, entry-size)))
+  pub readable : (k : ℕ) → k < length list / record_size
+      → (k < length list / record_size) × ((byte_at (record_at list k) 2 ≤ 128) × (head_size + (k + 1) * match_size ≤ length entry))
+  readable k h = (h, (width_most (record_at list k) (good_record list c.listed k h), omega (arith, entry_size)))

@@ -7,11 +7,11 @@ use Rattle.values.specs.Typed.{named_of}
 use Rattle.values.specs.declared.fields.Named.{Named}
 use Rattle.values.specs.declared.fields.Named.TheVariants as N
 
-abbrev pub namedMeant : Named → Option Field
-namedMeant (N.Field n) = some (field_of n)
-namedMeant N.Nothing = none
+abbrev pub named_meant : Named → Option Field
+named_meant (N.Field n) = some (field_of n)
+named_meant N.Nothing = none
 
-pub named_back : (o : Option Field) → namedMeant (named_of o) ≡ o
+pub named_back : (o : Option Field) → named_meant (named_of o) ≡ o
 named_back none = refl
 named_back (some value) = refl
 named_back (some mask) = refl

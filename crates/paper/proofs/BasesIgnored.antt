@@ -1,5 +1,5 @@
 -- Types, values and code look at a number's value alone. So a tree whose numerals are decimal, and whose places went through p, has the
--- same value and code, and the same type or a refusal whose place went through p (`types-moved`). Two texts with one such tree pass the
+-- same value and code, and the same type or a refusal whose place went through p (`types_moved`). Two texts with one such tree pass the
 -- stages of a call together, or are refused with one number (`after`).
 use Prim.Native.Nat.{ℕ, ◌*◌, ◌≤◌}
 use mathlib.Core.Path.{◌≡◌, refl, sym, ap, ap₂, fun_ext, ◌∙◌}
@@ -10,27 +10,27 @@ use lib.ListN.{length}
 use lib.Dec.{leb}
 use lib.IntN.{neg_ℤ}
 use borrow.Author.Tests.{le-leb}
-use Rattle.paper.specs.Answers.{inText, inList, inEntry, inBlocks, inBuffer, inContract, in_table, Answer, ok, refused, ◌>>=◌, require}
-use Rattle.paper.specs.Tokens.{plain, bytes, sameBytes, notSign, minusSign, Comparison, mostText}
+use Rattle.paper.specs.Answers.{InText, InList, inEntry, inBlocks, inBuffer, inContract, in_table, Answer, ok, refused, ◌>>=◌, require}
+use Rattle.paper.specs.Tokens.{plain, bytes, same_bytes, notSign, minusSign, Comparison, most_text}
 use Rattle.paper.specs.Keys.{Key, keys, find}
 use Rattle.paper.specs.Entry.{Entry, entry_of}
 use Rattle.paper.specs.Grammar.{Tree, truth, number, key, field, attribute, prefixed, joined, compared, place_of}
-use Rattle.paper.specs.Types.{Ty, bool, int, of, when, and_then, bareType, fieldNamed, fieldType, prefixType, joinType, comparisonType, spelled, holdsAll, keepsBits, bitsKept, operatorType, comparedType, known, namedType, rootType, type_of, typed}
-use Rattle.paper.specs.Meaning.{ty_of, comparisonValue, value_of, isTrue}
-use Rattle.paper.specs.Blocks.{blockSize, blocksNeeded, blocksOf}
-use Rattle.paper.specs.Translating.{hasType, code_of}
+use Rattle.paper.specs.Types.{Ty, bool, int, of, when, and_then, bare_type, field_named, field_type, prefix_type, join_type, comparison_type, spelled, holds_all, keeps_bits, bits_kept, operator_type, compared_type, known, named_type, root_type, type_of, typed}
+use Rattle.paper.specs.Meaning.{ty_of, comparison_value, value_of, is_true}
+use Rattle.paper.specs.Blocks.{block_size, blocks_needed, blocks_of}
+use Rattle.paper.specs.Translating.{has_type, code_of}
 use Rattle.paper.specs.Print.{bare}
-use Rattle.paper.specs.Calls.{tree, Restriction, restriction, checkAnswer, judgeAnswer, room_for, translatable, translateAnswer, filled, laid, translateBuffer}
-use Rattle.paper.specs.BasesIgnored.{withoutBases, placed, AnsweredAlike, BasesIgnored}
-use Rattle.paper.proofs.Stages.{never-ok, test-again}
+use Rattle.paper.specs.Calls.{tree, Restriction, restriction, check_answer, judge_answer, room_for, translatable, translate_answer, filled, laid, translate_buffer}
+use Rattle.paper.specs.BasesIgnored.{without_bases, placed, AnsweredAlike, BasesIgnored}
+use Rattle.paper.proofs.Stages.{never_ok, test_again}
 
-has-placed : (p : ℕ → ℕ) (x : Answer Ty) → hasType (placed p x) ≡ hasType x
-has-placed p (ok a) = refl
-has-placed p (refused n i at) = refl
+has_placed : (p : ℕ → ℕ) (x : Answer Ty) → has_type (placed p x) ≡ has_type x
+has_placed p (ok a) = refl
+has_placed p (refused n i at) = refl
 
-laid-placed : (p : ℕ → ℕ) (x : Answer (List ℕ)) (buffer : List ℕ) → laid (placed p x) buffer ≡ laid x buffer
-laid-placed p (ok s) buffer = refl
-laid-placed p (refused n i at) buffer = refl
+laid_placed : (p : ℕ → ℕ) (x : Answer (List ℕ)) (buffer : List ℕ) → laid (placed p x) buffer ≡ laid x buffer
+laid_placed p (ok s) buffer = refl
+laid_placed p (refused n i at) buffer = refl
 
 -- numerals in decimal, and every place through p
 module _ (p : ℕ → ℕ) where
@@ -46,91 +46,91 @@ module _ (p : ℕ → ℕ) where
 
   -- types
 
-  bind-placed : {A B : Type 0} (x : Answer A) (f g : A → Answer B) → ((a : A) → g a ≡ placed p (f a)) → (placed p x >>= g) ≡ placed p (x >>= f)
-  bind-placed (ok a) f g h = h a
-  bind-placed (refused n i at) f g h = refl
+  bind_placed : {A B : Type 0} (x : Answer A) (f g : A → Answer B) → ((a : A) → g a ≡ placed p (f a)) → (placed p x >>= g) ≡ placed p (x >>= f)
+  bind_placed (ok a) f g h = h a
+  bind_placed (refused n i at) f g h = refl
 
-  known-moved : {A : Type 0} (at : ℕ) (o : Option A) → known (p at) o ≡ placed p (known at o)
-  known-moved at none = refl
-  known-moved at (some a) = refl
+  known_moved : {A : Type 0} (at : ℕ) (o : Option A) → known (p at) o ≡ placed p (known at o)
+  known_moved at none = refl
+  known_moved at (some a) = refl
 
-  named-moved : (at : ℕ) (o : Option Ty) → namedType (p at) o ≡ placed p (namedType at o)
-  named-moved at none = refl
-  named-moved at (some a) = refl
+  named_moved : (at : ℕ) (o : Option Ty) → named_type (p at) o ≡ placed p (named_type at o)
+  named_moved at none = refl
+  named_moved at (some a) = refl
 
-  operator-moved : (at : ℕ) (o : Option Ty) → operatorType (p at) o ≡ placed p (operatorType at o)
-  operator-moved at none = refl
-  operator-moved at (some a) = refl
+  operator_moved : (at : ℕ) (o : Option Ty) → operator_type (p at) o ≡ placed p (operator_type at o)
+  operator_moved at none = refl
+  operator_moved at (some a) = refl
 
-  place-moved : (t : Tree) → place_of (moved t) ≡ p (place_of t)
-  place-moved (truth at b) = refl
-  place-moved (number at n) = refl
-  place-moved (key at w) = refl
-  place-moved (field at w to f) = refl
-  place-moved (attribute at to f) = refl
-  place-moved (prefixed at o t) = refl
-  place-moved (joined at o l r) = refl
-  place-moved (compared at c l r) = refl
+  place_moved : (t : Tree) → place_of (moved t) ≡ p (place_of t)
+  place_moved (truth at b) = refl
+  place_moved (number at n) = refl
+  place_moved (key at w) = refl
+  place_moved (field at w to f) = refl
+  place_moved (attribute at to f) = refl
+  place_moved (prefixed at o t) = refl
+  place_moved (joined at o l r) = refl
+  place_moved (compared at c l r) = refl
 
-  spelled-moved : (t : Tree) → spelled (moved t) ≡ spelled t
-  spelled-moved (truth at b) = refl
-  spelled-moved (number at n) = refl
-  spelled-moved (key at w) = refl
-  spelled-moved (field at w to f) = refl
-  spelled-moved (attribute at to f) = refl
-  spelled-moved (prefixed at notSign t) = refl
-  spelled-moved (prefixed at minusSign t) = ap (map neg_ℤ) (spelled-moved t)
-  spelled-moved (joined at o l r) = refl
-  spelled-moved (compared at c l r) = refl
+  spelled_moved : (t : Tree) → spelled (moved t) ≡ spelled t
+  spelled_moved (truth at b) = refl
+  spelled_moved (number at n) = refl
+  spelled_moved (key at w) = refl
+  spelled_moved (field at w to f) = refl
+  spelled_moved (attribute at to f) = refl
+  spelled_moved (prefixed at notSign t) = refl
+  spelled_moved (prefixed at minusSign t) = ap (map neg_ℤ) (spelled_moved t)
+  spelled_moved (joined at o l r) = refl
+  spelled_moved (compared at c l r) = refl
 
-  keeps-moved : (t : Tree) (a : Ty) → keepsBits (moved t) a ≡ keepsBits t a
-  keeps-moved t bool = refl
-  keeps-moved t int = refl
-  keeps-moved t (of k w) = ap (holdsAll w) (spelled-moved t)
+  keeps_moved : (t : Tree) (a : Ty) → keeps_bits (moved t) a ≡ keeps_bits t a
+  keeps_moved t bool = refl
+  keeps_moved t int = refl
+  keeps_moved t (of k w) = ap (holds_all w) (spelled_moved t)
 
-  require-moved : (b : Bool) (n at : ℕ) → require b n inText (p at) ≡ placed p (require b n inText at)
-  require-moved true n at = refl
-  require-moved false n at = refl
+  require_moved : (b : Bool) (n at : ℕ) → require b n InText (p at) ≡ placed p (require b n InText at)
+  require_moved true n at = refl
+  require_moved false n at = refl
 
-  bits-moved : (t : Tree) (a : Ty) → bitsKept (moved t) a ≡ placed p (bitsKept t a)
-  bits-moved t a = rw (keeps-moved t a, place-moved t) (require-moved (keepsBits t a) 23 (place_of t))
+  bits_moved : (t : Tree) (a : Ty) → bits_kept (moved t) a ≡ placed p (bits_kept t a)
+  bits_moved t a = rw (keeps_moved t a, place_moved t) (require_moved (keeps_bits t a) 23 (place_of t))
 
-  compared-moved : (at : ℕ) (c : Comparison) (l r : Tree) (a b : Ty)
-      → comparedType (p at) c (moved l) (moved r) a b ≡ placed p (comparedType at c l r a b)
-  compared-moved at c l r a b =
-      rw (operator-moved at (comparisonType c a b), bits-moved l b, bits-moved r a)
-      (bind-placed (operatorType at (comparisonType c a b)) _ _
-      (λ t. bind-placed (bitsKept l b) _ _ (λ _. bind-placed (bitsKept r a) _ _ (λ _. refl))))
+  compared_moved : (at : ℕ) (c : Comparison) (l r : Tree) (a b : Ty)
+      → compared_type (p at) c (moved l) (moved r) a b ≡ placed p (compared_type at c l r a b)
+  compared_moved at c l r a b =
+      rw (operator_moved at (comparison_type c a b), bits_moved l b, bits_moved r a)
+      (bind_placed (operator_type at (comparison_type c a b)) _ _
+      (λ t. bind_placed (bits_kept l b) _ _ (λ _. bind_placed (bits_kept r a) _ _ (λ _. refl))))
 
-  types-moved : (ks : List Key) (t : Tree) → type_of ks (moved t) ≡ placed p (type_of ks t)
+  types_moved : (ks : List Key) (t : Tree) → type_of ks (moved t) ≡ placed p (type_of ks t)
   unfolding type_of
-  types-moved ks (truth at b) = refl
-  types-moved ks (number at n) = refl
-  types-moved ks (key at w) = known-moved at (and_then (find ks w) (bareType ks))
-  types-moved ks (field at w to f) =
-      rw (known-moved at (find ks w)) (bind-placed (known at (find ks w)) _ _ (λ k. named-moved to (and_then (fieldNamed f) (λ g. fieldType ks g k))))
-  types-moved ks (attribute at to f) = named-moved to (when (sameBytes f (bytes "priority")) int)
-  types-moved ks (prefixed at o t) = rw (types-moved ks t) (bind-placed (type_of ks t) _ _ (λ a. operator-moved at (prefixType o a)))
-  types-moved ks (joined at o l r) =
-      rw (types-moved ks l)
-      (bind-placed (type_of ks l) _ _
-      (λ a. rw (types-moved ks r) (bind-placed (type_of ks r) _ _ (λ b. operator-moved at (joinType a b)))))
-  types-moved ks (compared at c l r) =
-      rw (types-moved ks l)
-      (bind-placed (type_of ks l) _ _
-      (λ a. rw (types-moved ks r) (bind-placed (type_of ks r) _ _ (λ b. compared-moved at c l r a b))))
+  types_moved ks (truth at b) = refl
+  types_moved ks (number at n) = refl
+  types_moved ks (key at w) = known_moved at (and_then (find ks w) (bare_type ks))
+  types_moved ks (field at w to f) =
+      rw (known_moved at (find ks w)) (bind_placed (known at (find ks w)) _ _ (λ k. named_moved to (and_then (field_named f) (λ g. field_type ks g k))))
+  types_moved ks (attribute at to f) = named_moved to (when (same_bytes f (bytes "priority")) int)
+  types_moved ks (prefixed at o t) = rw (types_moved ks t) (bind_placed (type_of ks t) _ _ (λ a. operator_moved at (prefix_type o a)))
+  types_moved ks (joined at o l r) =
+      rw (types_moved ks l)
+      (bind_placed (type_of ks l) _ _
+      (λ a. rw (types_moved ks r) (bind_placed (type_of ks r) _ _ (λ b. operator_moved at (join_type a b)))))
+  types_moved ks (compared at c l r) =
+      rw (types_moved ks l)
+      (bind_placed (type_of ks l) _ _
+      (λ a. rw (types_moved ks r) (bind_placed (type_of ks r) _ _ (λ b. compared_moved at c l r a b))))
 
-  root-moved : (t : Tree) (a : Ty) → rootType (moved t) a ≡ placed p (rootType t a)
-  root-moved t bool = refl
-  root-moved t int = ap (refused 14 inText) (place-moved t)
-  root-moved t (of k w) = ap (refused 14 inText) (place-moved t)
+  root_moved : (t : Tree) (a : Ty) → root_type (moved t) a ≡ placed p (root_type t a)
+  root_moved t bool = refl
+  root_moved t int = ap (refused 14 InText) (place_moved t)
+  root_moved t (of k w) = ap (refused 14 InText) (place_moved t)
 
-  typed-moved : (ks : List Key) (t : Tree) → typed ks (moved t) ≡ placed p (typed ks t)
+  typed_moved : (ks : List Key) (t : Tree) → typed ks (moved t) ≡ placed p (typed ks t)
   unfolding typed
-  typed-moved ks t = rw (types-moved ks t) (bind-placed (type_of ks t) (rootType t) (rootType (moved t)) (root-moved t))
+  typed_moved ks t = rw (types_moved ks t) (bind_placed (type_of ks t) (root_type t) (root_type (moved t)) (root_moved t))
 
-  type-had : (ks : List Key) (t : Tree) → hasType (type_of ks (moved t)) ≡ hasType (type_of ks t)
-  type-had ks t = ap hasType (types-moved ks t) ∙ has-placed p (type_of ks t)
+  type_had : (ks : List Key) (t : Tree) → has_type (type_of ks (moved t)) ≡ has_type (type_of ks t)
+  type_had ks t = ap has_type (types_moved ks t) ∙ has_placed p (type_of ks t)
 
   -- values and code
 
@@ -148,34 +148,34 @@ module _ (p : ℕ → ℕ) where
       (ap₂
       (λ (left right : Ty → Bool).
       and_then (value_of ks e l)
-      (λ a. and_then (value_of ks e r) (λ b. and_then (comparisonValue c a b) (when (left (ty_of b) && right (ty_of a))))))
-      (fun_ext (keeps-moved l)) (fun_ext (keeps-moved r)))
+      (λ a. and_then (value_of ks e r) (λ b. and_then (comparison_value c a b) (when (left (ty_of b) && right (ty_of a))))))
+      (fun_ext (keeps_moved l)) (fun_ext (keeps_moved r)))
 
-  code-moved : (ks : List Key) (t : Tree) → code_of ks (moved t) ≡ code_of ks t
+  code_moved : (ks : List Key) (t : Tree) → code_of ks (moved t) ≡ code_of ks t
   unfolding code_of
-  code-moved ks (truth at b) = refl
-  code-moved ks (number at n) = refl
-  code-moved ks (key at w) = refl
-  code-moved ks (field at w to f) = refl
-  code-moved ks (attribute at to f) = refl
-  code-moved ks (prefixed at o t) = rw (code-moved ks t)
-  code-moved ks (joined at o l r) = rw (code-moved ks l, code-moved ks r)
-  code-moved ks (compared at c l r) = rw (code-moved ks l, code-moved ks r, type-had ks l, type-had ks r)
+  code_moved ks (truth at b) = refl
+  code_moved ks (number at n) = refl
+  code_moved ks (key at w) = refl
+  code_moved ks (field at w to f) = refl
+  code_moved ks (attribute at to f) = refl
+  code_moved ks (prefixed at o t) = rw (code_moved ks t)
+  code_moved ks (joined at o l r) = rw (code_moved ks l, code_moved ks r)
+  code_moved ks (compared at c l r) = rw (code_moved ks l, code_moved ks r, type_had ks l, type_had ks r)
 
 -- two trees that are one, moved by p
 module _ (p : ℕ → ℕ) (first second : Tree) (same : moved p first ≡ moved p second) where
-  pub types-alike : (ks : List Key) → placed p (type_of ks first) ≡ placed p (type_of ks second)
-  types-alike ks = sym (types-moved p ks first) ∙ ap (type_of ks) same ∙ types-moved p ks second
+  pub types_alike : (ks : List Key) → placed p (type_of ks first) ≡ placed p (type_of ks second)
+  types_alike ks = sym (types_moved p ks first) ∙ ap (type_of ks) same ∙ types_moved p ks second
 
-  pub values-alike : (ks : List Key) (e : Entry) → value_of ks e first ≡ value_of ks e second
-  values-alike ks e = sym (values_moved p ks e first) ∙ ap (value_of ks e) same ∙ values_moved p ks e second
+  pub values_alike : (ks : List Key) (e : Entry) → value_of ks e first ≡ value_of ks e second
+  values_alike ks e = sym (values_moved p ks e first) ∙ ap (value_of ks e) same ∙ values_moved p ks e second
 
   pub code_alike : (ks : List Key) → code_of ks first ≡ code_of ks second
-  code_alike ks = sym (code-moved p ks first) ∙ ap (code_of ks) same ∙ code-moved p ks second
+  code_alike ks = sym (code_moved p ks first) ∙ ap (code_of ks) same ∙ code_moved p ks second
 
 -- the two ways in which trees are the same
 
-stays : (t : Tree) → withoutBases t ≡ moved (λ at. at) t
+stays : (t : Tree) → without_bases t ≡ moved (λ at. at) t
 stays (truth at b) = refl
 stays (number at n) = refl
 stays (key at w) = refl
@@ -185,7 +185,7 @@ stays (prefixed at o t) = ap (prefixed at o) (stays t)
 stays (joined at o l r) = ap₂ (joined at o) (stays l) (stays r)
 stays (compared at c l r) = ap₂ (compared at c) (stays l) (stays r)
 
-aside : (t : Tree) → bare (withoutBases t) ≡ moved (λ at. 0) t
+aside : (t : Tree) → bare (without_bases t) ≡ moved (λ at. 0) t
 aside (truth at b) = refl
 aside (number at n) = refl
 aside (key at w) = refl
@@ -196,20 +196,20 @@ aside (joined at o l r) = ap₂ (joined 0 o) (aside l) (aside r)
 aside (compared at c l r) = ap₂ (compared 0 c) (aside l) (aside r)
 
 -- placed (λ at. at) leaves an answer as it is
-placed-here : {A : Type 0} (x : Answer A) → placed (λ at. at) x ≡ x
-placed-here (ok a) = refl
-placed-here (refused n inText at) = refl
-placed-here (refused n inList at) = refl
-placed-here (refused n inEntry at) = refl
-placed-here (refused n inBlocks at) = refl
-placed-here (refused n inBuffer at) = refl
-placed-here (refused n inContract at) = refl
-placed-here (refused n in_table at) = refl
+placed_here : {A : Type 0} (x : Answer A) → placed (λ at. at) x ≡ x
+placed_here (ok a) = refl
+placed_here (refused n InText at) = refl
+placed_here (refused n InList at) = refl
+placed_here (refused n inEntry at) = refl
+placed_here (refused n inBlocks at) = refl
+placed_here (refused n inBuffer at) = refl
+placed_here (refused n inContract at) = refl
+placed_here (refused n in_table at) = refl
 
 -- what is made of a text and a list that pass, where the buffer has room for their blocks
 
 abbrev roomed : List ℕ → Restriction → Answer (Unit {0})
-roomed buffer r = require (leb (blockSize * blocksNeeded (length (code_of r.keys r.root))) (length buffer)) 15 inBuffer (length buffer)
+roomed buffer r = require (leb (block_size * blocks_needed (length (code_of r.keys r.root))) (length buffer)) 15 inBuffer (length buffer)
 
 abbrev made : {B : Type 0} → (Restriction → B) → List ℕ → Restriction → Answer B
 made f buffer r = roomed buffer r >>= λ _. ok (f r)
@@ -218,56 +218,56 @@ abbrev count : Restriction → ℕ
 count r = length (code_of r.keys r.root)
 
 abbrev blocks : Restriction → List ℕ
-blocks r = blocksOf (length r.keys) (code_of r.keys r.root)
+blocks r = blocks_of (length r.keys) (code_of r.keys r.root)
 
 -- what each call is; nothing unfolds after this, since the checker would go on with the parser
 
 module _ (text list : List ℕ) where
-  pub restricted : (t : Tree) → length text ≤ mostText → tree text ≡ ok t
+  pub restricted : (t : Tree) → length text ≤ most_text → tree text ≡ ok t
       → restriction text list ≡ (keys list >>= λ ks. typed ks t >>= λ _. ok (record { keys = ks; root = t }))
   unfolding restriction
-  restricted t short read = rw (le-leb (length text) mostText short, read)
+  restricted t short read = rw (le-leb (length text) most_text short, read)
 
-  pub check-is : checkAnswer text list ≡ (restriction text list >>= λ _. ok tt)
-  unfolding checkAnswer
-  check-is = refl
+  pub check_is : check_answer text list ≡ (restriction text list >>= λ _. ok tt)
+  unfolding check_answer
+  check_is = refl
 
-  pub judge-is : (entry : List ℕ) → judgeAnswer text list entry
-      ≡ (restriction text list >>= λ r. entry_of r.keys entry >>= λ e. ok (isTrue (value_of r.keys e r.root)))
-  unfolding judgeAnswer
-  judge-is entry = refl
+  pub judge_is : (entry : List ℕ) → judge_answer text list entry
+      ≡ (restriction text list >>= λ r. entry_of r.keys entry >>= λ e. ok (is_true (value_of r.keys e r.root)))
+  unfolding judge_answer
+  judge_is entry = refl
 
-  translate-is : (buffer : List ℕ) → translateAnswer text list buffer
+  translate_is : (buffer : List ℕ) → translate_answer text list buffer
       ≡ (restriction text list >>= made count buffer)
-  unfolding translateAnswer
-  translate-is buffer = test-again (restriction text list) (roomed buffer) count
+  unfolding translate_answer
+  translate_is buffer = test_again (restriction text list) (roomed buffer) count
 
   fills : (x : Answer Restriction) (buffer : List ℕ)
       → filled x buffer ≡ laid (x >>= λ r. ok (blocks r)) buffer
   fills (ok r) buffer = refl
   fills (refused n i at) buffer = refl
 
-  buffer-is : (buffer : List ℕ) → translateBuffer text list buffer
+  buffer_is : (buffer : List ℕ) → translate_buffer text list buffer
       ≡ laid (restriction text list >>= made blocks buffer) buffer
-  unfolding translateBuffer translatable
-  buffer-is buffer =
+  unfolding translate_buffer translatable
+  buffer_is buffer =
       fills (restriction text list >>= room_for buffer) buffer
       ∙ ap (λ (x : Answer (List ℕ)). laid x buffer)
-      (test-again (restriction text list) (roomed buffer) blocks)
+      (test_again (restriction text list) (roomed buffer) blocks)
 
 -- two texts whose trees are one, moved by p
-module _ (p : ℕ → ℕ) (v w : List ℕ) (first second : Tree) (short-v : length v ≤ mostText) (short-w : length w ≤ mostText)
+module _ (p : ℕ → ℕ) (v w : List ℕ) (first second : Tree) (short-v : length v ≤ most_text) (short-w : length w ≤ most_text)
     (reads-v : tree v ≡ ok first) (reads-w : tree w ≡ ok second) (same : moved p first ≡ moved p second)
   where
-    typed-alike : (ks : List Key) → placed p (typed ks first) ≡ placed p (typed ks second)
-    typed-alike ks = sym (typed-moved p ks first) ∙ ap (typed ks) same ∙ typed-moved p ks second
+    typed_alike : (ks : List Key) → placed p (typed ks first) ≡ placed p (typed ks second)
+    typed_alike ks = sym (typed_moved p ks first) ∙ ap (typed ks) same ∙ typed_moved p ks second
 
     abbrev with : List Key → Tree → Restriction
     with ks t = record { keys = ks; root = t }
 
     -- a refusal as the answer of a later stage
     abbrev carried : {A B : Type 0} → Answer A → Answer B
-    carried (ok a) = refused 0 inText 0
+    carried (ok a) = refused 0 InText 0
     carried (refused n i at) = refused n i at
 
     -- whatever a call goes on with
@@ -278,48 +278,48 @@ module _ (p : ℕ → ℕ) (v w : List ℕ) (first second : Tree) (short-v : len
         typed_then : (ks : List Key) (x y : Answer (Unit {0})) → placed p x ≡ placed p y
             → placed p (x >>= (λ _. ok (with ks first)) >>= f) ≡ placed p (y >>= (λ _. ok (with ks second)) >>= f)
         typed_then ks (ok a) (ok b) e = h ks
-        typed_then ks (ok a) (refused n i at) e = absurd (never-ok (sym e))
-        typed_then ks (refused n i at) (ok b) e = absurd (never-ok e)
+        typed_then ks (ok a) (refused n i at) e = absurd (never_ok (sym e))
+        typed_then ks (refused n i at) (ok b) e = absurd (never_ok e)
         typed_then ks (refused n i at) (refused m j to) e = ap (carried {A = Unit {0}} {B = B}) e
 
         listed : (x : Answer (List Key))
             → placed p (x >>= (λ ks. typed ks first >>= λ _. ok (with ks first)) >>= f)
             ≡ placed p (x >>= (λ ks. typed ks second >>= λ _. ok (with ks second)) >>= f)
         listed (refused n i at) = refl
-        listed (ok ks) = typed_then ks (typed ks first) (typed ks second) (typed-alike ks)
+        listed (ok ks) = typed_then ks (typed ks first) (typed ks second) (typed_alike ks)
 
-    judged-alike : (entry : List ℕ) (ks : List Key)
-        → placed p (entry_of ks entry >>= λ e. ok (isTrue (value_of ks e first))) ≡ placed p (entry_of ks entry >>= λ e. ok (isTrue (value_of ks e second)))
-    judged-alike entry ks = go (entry_of ks entry)
+    judged_alike : (entry : List ℕ) (ks : List Key)
+        → placed p (entry_of ks entry >>= λ e. ok (is_true (value_of ks e first))) ≡ placed p (entry_of ks entry >>= λ e. ok (is_true (value_of ks e second)))
+    judged_alike entry ks = go (entry_of ks entry)
       where
-        go : (x : Answer Entry) → placed p (x >>= λ e. ok (isTrue (value_of ks e first))) ≡ placed p (x >>= λ e. ok (isTrue (value_of ks e second)))
+        go : (x : Answer Entry) → placed p (x >>= λ e. ok (is_true (value_of ks e first))) ≡ placed p (x >>= λ e. ok (is_true (value_of ks e second)))
         go (refused n i at) = refl
-        go (ok e) = ap (λ o. ok (isTrue o)) (values-alike p first second same ks e)
+        go (ok e) = ap (λ o. ok (is_true o)) (values_alike p first second same ks e)
 
     alike : AnsweredAlike p v w
     alike =
         record {
-          checked = λ list. rw (check-is v list, check-is w list) (after list (λ _. ok tt) (λ ks. refl));
-          judged = λ list entry. rw (judge-is v list entry, judge-is w list entry) (after list _ (judged-alike entry));
-          translated = λ list buffer. rw (translate-is v list buffer, translate-is w list buffer) (after list (made count buffer) (λ ks. rw (code_alike p first second same ks)));
+          checked = λ list. rw (check_is v list, check_is w list) (after list (λ _. ok tt) (λ ks. refl));
+          judged = λ list entry. rw (judge_is v list entry, judge_is w list entry) (after list _ (judged_alike entry));
+          translated = λ list buffer. rw (translate_is v list buffer, translate_is w list buffer) (after list (made count buffer) (λ ks. rw (code_alike p first second same ks)));
           blocks = λ list buffer.
-              buffer-is v list buffer
-              ∙ sym (laid-placed p (restriction v list >>= made blocks buffer) buffer)
+              buffer_is v list buffer
+              ∙ sym (laid_placed p (restriction v list >>= made blocks buffer) buffer)
               ∙ ap (λ (x : Answer (List ℕ)). laid x buffer) (after list (made blocks buffer) (λ ks. rw (code_alike p first second same ks)))
-              ∙ laid-placed p (restriction w list >>= made blocks buffer) buffer
-              ∙ sym (buffer-is w list buffer);
+              ∙ laid_placed p (restriction w list >>= made blocks buffer) buffer
+              ∙ sym (buffer_is w list buffer);
         }
 
-pub bases-ignored : BasesIgnored
-bases-ignored =
+pub bases_ignored : BasesIgnored
+bases_ignored =
     record {
-      types = λ ks t. ap (type_of ks) (stays t) ∙ types-moved (λ at. at) ks t ∙ placed-here (type_of ks t);
+      types = λ ks t. ap (type_of ks) (stays t) ∙ types_moved (λ at. at) ks t ∙ placed_here (type_of ks t);
       values = λ ks e t. ap (value_of ks e) (stays t) ∙ values_moved (λ at. at) ks e t;
-      code = λ ks t. ap (code_of ks) (stays t) ∙ code-moved (λ at. at) ks t;
+      code = λ ks t. ap (code_of ks) (stays t) ∙ code_moved (λ at. at) ks t;
       in_place = λ v w s.
           alike (λ at. at) v w s.first s.second s.short.0 s.short.1 s.reads.0 s.reads.1
           (sym (stays s.first) ∙ s.same ∙ stays s.second);
-      places-aside = λ v w s.
+      places_aside = λ v w s.
           alike (λ at. 0) v w s.first s.second s.short.0 s.short.1 s.reads.0 s.reads.1
           (sym (aside s.first) ∙ s.same ∙ aside s.second);
     }

@@ -9,80 +9,80 @@ use lib.ListN.{length}
 use lib.Dec.{eqb, ltb, leb}
 use borrow.Author.Tests.{eqb-true, eqb-false, leb-true, leb-false, ltb-true, ltb-false}
 use Rattle.paper.specs.Answers.{require, in_turn, inBlocks}
-use Rattle.paper.specs.Blocks.{blockSize, mostBlocks, blocksIn, blockOk, blockTest}
-use Rattle.paper.specs.Faults.{BlocksSize, no_blocks, blocks-uneven, blocks-over, BlocksLayout, block-broken}
+use Rattle.paper.specs.Blocks.{block_size, most_blocks, blocks_in, block_ok, block_test}
+use Rattle.paper.specs.Faults.{BlocksSize, no_blocks, blocks_uneven, blocks_over, BlocksLayout, block_broken}
 use Rattle.paper.specs.Table.{Free}
-use Rattle.paper.proofs.Basics.{either-false}
-use Rattle.paper.proofs.StagesInOrder.{Tells, test-tells}
-use Rattle.paper.proofs.Earliest.{Indexed, test-tells-at, tests-tell}
+use Rattle.paper.proofs.Basics.{either_false}
+use Rattle.paper.proofs.StagesInOrder.{Tells, test_tells}
+use Rattle.paper.proofs.Earliest.{Indexed, test_tells_at, tests_tell}
 
 -- the length
 
 module _ (blocks : List ℕ) where
-  abbrev some-there : Bool
-  some-there = ltb 0 (length blocks)
+  abbrev some_there : Bool
+  some_there = ltb 0 (length blocks)
 
   abbrev even : Bool
-  even = eqb (length blocks % blockSize) 0
+  even = eqb (length blocks % block_size) 0
 
   abbrev few : Bool
-  few = leb (length blocks) (mostBlocks * blockSize)
+  few = leb (length blocks) (most_blocks * block_size)
 
-  abbrev pub blocksSized : Bool
-  blocksSized = some-there && even && few
+  abbrev pub blocks_sized : Bool
+  blocks_sized = some_there && even && few
 
-  size-free : blocksSized ≡ true → Free (BlocksSize blocks)
-  size-free h =
-      let (front, last) = (and-eq-true_iff (some-there && even) few).0 h in
-      let (first, second) = (and-eq-true_iff some-there even).0 front in
-      go (ltb-true 0 (length blocks) first) (eqb-true (length blocks % blockSize) 0 second)
-      (leb-true (length blocks) (mostBlocks * blockSize) last)
+  size_free : blocks_sized ≡ true → Free (BlocksSize blocks)
+  size_free h =
+      let (front, last) = (and-eq-true_iff (some_there && even) few).0 h in
+      let (first, second) = (and-eq-true_iff some_there even).0 front in
+      go (ltb-true 0 (length blocks) first) (eqb-true (length blocks % block_size) 0 second)
+      (leb-true (length blocks) (most_blocks * block_size) last)
     where
-      go : 0 < length blocks → length blocks % blockSize ≡ 0 → length blocks ≤ mostBlocks * blockSize → Free (BlocksSize blocks)
+      go : 0 < length blocks → length blocks % block_size ≡ 0 → length blocks ≤ most_blocks * block_size → Free (BlocksSize blocks)
       go a b c n at (no_blocks e) = omega (arith, e)
-      go a b c n at (blocks-uneven d) = d b
-      go a b c n at (blocks-over l) = omega arith
+      go a b c n at (blocks_uneven d) = d b
+      go a b c n at (blocks_over l) = omega arith
 
-  size-fault : blocksSized ≡ false → BlocksSize blocks 16 (length blocks)
-  size-fault h = go (either-false (some-there && even) few h)
+  size_fault : blocks_sized ≡ false → BlocksSize blocks 16 (length blocks)
+  size_fault h = go (either_false (some_there && even) few h)
     where
-      by : (some-there ≡ false) ⊎ (even ≡ false) → BlocksSize blocks 16 (length blocks)
+      by : (some_there ≡ false) ⊎ (even ≡ false) → BlocksSize blocks 16 (length blocks)
       by (inl e) = no_blocks (omega (arith, ltb-false 0 (length blocks) e))
-      by (inr e) = blocks-uneven (eqb-false (length blocks % blockSize) 0 e)
+      by (inr e) = blocks_uneven (eqb-false (length blocks % block_size) 0 e)
 
-      go : (some-there && even ≡ false) ⊎ (few ≡ false) → BlocksSize blocks 16 (length blocks)
-      go (inl e) = by (either-false some-there even e)
-      go (inr e) = blocks-over (leb-false (length blocks) (mostBlocks * blockSize) e)
+      go : (some_there && even ≡ false) ⊎ (few ≡ false) → BlocksSize blocks 16 (length blocks)
+      go (inl e) = by (either_false some_there even e)
+      go (inr e) = blocks_over (leb-false (length blocks) (most_blocks * block_size) e)
 
-  size-only : (m to : ℕ) → BlocksSize blocks m to → (m ≡ 16) × (to ≡ length blocks)
-  size-only m to (no_blocks h) = (refl, refl)
-  size-only m to (blocks-uneven h) = (refl, refl)
-  size-only m to (blocks-over h) = (refl, refl)
+  size_only : (m to : ℕ) → BlocksSize blocks m to → (m ≡ 16) × (to ≡ length blocks)
+  size_only m to (no_blocks h) = (refl, refl)
+  size_only m to (blocks_uneven h) = (refl, refl)
+  size_only m to (blocks_over h) = (refl, refl)
 
-  pub blocks-size-tells : Tells inBlocks (BlocksSize blocks) (require blocksSized 16 inBlocks (length blocks))
-  blocks-size-tells = test-tells (BlocksSize blocks) blocksSized 16 inBlocks (length blocks) size-free size-fault size-only
+  pub blocks_size_tells : Tells inBlocks (BlocksSize blocks) (require blocks_sized 16 inBlocks (length blocks))
+  blocks_size_tells = test_tells (BlocksSize blocks) blocks_sized 16 inBlocks (length blocks) size_free size_fault size_only
 
 -- the blocks
 
 module _ (keys : ℕ) (blocks : List ℕ) where
   abbrev total : ℕ
-  total = blocksIn blocks
+  total = blocks_in blocks
 
-  indexed : Indexed (BlocksLayout keys blocks) total (λ k. k * blockSize)
+  indexed : Indexed (BlocksLayout keys blocks) total (λ k. k * block_size)
   indexed = record { index = index; rises = λ j k l. omega arith }
     where
-      index : (n at : ℕ) → BlocksLayout keys blocks n at → (k : ℕ) × (k < total) × (at ≡ k * blockSize)
-      index n at (block-broken k l h) = (k, l, refl)
+      index : (n at : ℕ) → BlocksLayout keys blocks n at → (k : ℕ) × (k < total) × (at ≡ k * block_size)
+      index n at (block_broken k l h) = (k, l, refl)
 
-  broken-at : (k n at : ℕ) → BlocksLayout keys blocks n at → at ≡ k * blockSize → blockOk keys blocks k ≡ false
-  broken-at k n at (block-broken j l h) e = let same : j ≡ k = omega arith in subst (λ x. blockOk keys blocks x ≡ false) same h
+  broken_at : (k n at : ℕ) → BlocksLayout keys blocks n at → at ≡ k * block_size → block_ok keys blocks k ≡ false
+  broken_at k n at (block_broken j l h) e = let same : j ≡ k = omega arith in subst (λ x. block_ok keys blocks x ≡ false) same h
 
   only : (n at : ℕ) → BlocksLayout keys blocks n at → n ≡ 17
-  only n at (block-broken k l h) = refl
+  only n at (block_broken k l h) = refl
 
-  pub blocks-layout-tells : Tells inBlocks (BlocksLayout keys blocks) (in_turn (blockTest keys blocks) 0 total)
-  blocks-layout-tells =
-      tests-tell inBlocks (BlocksLayout keys blocks) total (λ k. k * blockSize) indexed (blockTest keys blocks)
+  pub blocks_layout_tells : Tells inBlocks (BlocksLayout keys blocks) (in_turn (block_test keys blocks) 0 total)
+  blocks_layout_tells =
+      tests_tell inBlocks (BlocksLayout keys blocks) total (λ k. k * block_size) indexed (block_test keys blocks)
       (λ k l.
-      test-tells-at inBlocks (BlocksLayout keys blocks) total (λ k. k * blockSize) indexed k 17 (blockOk keys blocks k)
-      (λ good n h. true≢false (sym good ∙ broken-at k n (k * blockSize) h refl)) (block-broken k l) only)
+      test_tells_at inBlocks (BlocksLayout keys blocks) total (λ k. k * block_size) indexed k 17 (block_ok keys blocks k)
+      (λ good n h. true≢false (sym good ∙ broken_at k n (k * block_size) h refl)) (block_broken k l) only)

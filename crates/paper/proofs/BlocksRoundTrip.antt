@@ -12,23 +12,23 @@ use lib.Seq.{take_at, drop-drop, drop-cons, get_or-take, get_or-drop}
 use borrow.Author.Tests.{eq-eqb, le-leb, lt-ltb}
 use Rattle.paper.specs.Answers.{ok}
 use Rattle.paper.specs.Numbers.{bytes_at}
-use Rattle.paper.specs.Keys.{mostKeys}
-use Rattle.paper.specs.Code.{Instruction, pushPriority, instructionSize, encode, parts_at, decode}
-use Rattle.paper.specs.Blocks.{blockSize, in_block, mostBlocks, checkOf, sealed, blocksNeeded, blocks_from, blocksOf, countAt, countsFrom, blocksIn, totalOf, countOk, blockTest, layout}
-use Rattle.paper.specs.Loading.{instructionAt, instructionsFrom}
+use Rattle.paper.specs.Keys.{most_keys}
+use Rattle.paper.specs.Code.{Instruction, push_priority, instruction_size, encode, parts_at, decode}
+use Rattle.paper.specs.Blocks.{block_size, in_block, most_blocks, check_of, sealed, blocks_needed, blocks_from, blocks_of, count_at, counts_from, blocks_in, total_of, count_ok, block_test, layout}
+use Rattle.paper.specs.Loading.{instruction_at, instructions_from}
 use Rattle.paper.specs.BlocksRoundTrip.{Ranged, Written, BlocksBack}
-use Rattle.paper.proofs.Digits.{number-back}
-use Rattle.paper.proofs.InstructionsRoundTrip.{bytes_back, row-there}
-use Rattle.paper.proofs.RangedCode.{ranged-at}
-use Rattle.paper.proofs.OneBlock.{body, afterCode, at_count, at_code, block-passes, taken, block-length, blocks-length, block-there}
+use Rattle.paper.proofs.Digits.{number_back}
+use Rattle.paper.proofs.InstructionsRoundTrip.{bytes_back, row_there}
+use Rattle.paper.proofs.RangedCode.{ranged_at}
+use Rattle.paper.proofs.OneBlock.{body, after_code, at_count, at_code, block_passes, taken, block_length, blocks_length, block_there}
 use Rattle.paper.proofs.InTurn.{all_pass}
 
-module _ (keys : ℕ) (code : List Instruction) (keys-few : keys ≤ mostKeys) (nonempty : 1 ≤ length code) (few : length code ≤ mostBlocks * in_block) where
+module _ (keys : ℕ) (code : List Instruction) (keys-few : keys ≤ most_keys) (nonempty : 1 ≤ length code) (few : length code ≤ most_blocks * in_block) where
   abbrev total : ℕ
   total = length code
 
   abbrev many : ℕ
-  many = blocksNeeded total
+  many = blocks_needed total
 
   abbrev blocks : List ℕ
   blocks = blocks_from total keys 0 many code
@@ -40,105 +40,105 @@ module _ (keys : ℕ) (code : List Instruction) (keys-few : keys ≤ mostKeys) (
   part_length : (k : ℕ) → length (part k) ≡ min in_block (total - in_block * k)
   part_length k = length-take in_block (drop (in_block * k) code) ∙ ap (min in_block) (length-drop (in_block * k) code)
 
-  few-here : (k : ℕ) → length (part k) ≤ in_block
-  few-here k = taken (drop (in_block * k) code)
+  few_here : (k : ℕ) → length (part k) ≤ in_block
+  few_here k = taken (drop (in_block * k) code)
 
   abbrev body_of : ℕ → List ℕ
-  body_of k = body total keys k (part k) (few-here k)
+  body_of k = body total keys k (part k) (few_here k)
 
-  whole_length : length blocks ≡ blockSize * many
-  whole_length = blocks-length total keys many 0 code
+  whole_length : length blocks ≡ block_size * many
+  whole_length = blocks_length total keys many 0 code
 
-  here : (k : ℕ) → k < many → (rest : List ℕ) × (drop (k * blockSize) blocks ≡ sealed (body_of k) ++ rest)
+  here : (k : ℕ) → k < many → (rest : List ℕ) × (drop (k * block_size) blocks ≡ sealed (body_of k) ++ rest)
   here k h =
-      let r = block-there total keys many k 0 code h in
-      let at : k * blockSize ≡ blockSize * k = omega arith in
+      let r = block_there total keys many k 0 code h in
+      let at : k * block_size ≡ block_size * k = omega arith in
       (r.0, rw (at, r.1, zero-add k))
 
   -- the block after its body
-  rest-after : (k : ℕ) → k < many → (rest : List ℕ) × (drop (k * blockSize) blocks ≡ body_of k ++ rest)
-  rest-after k h =
+  rest_after : (k : ℕ) → k < many → (rest : List ℕ) × (drop (k * block_size) blocks ≡ body_of k ++ rest)
+  rest_after k h =
       let r = here k h in
-      (checkOf (body_of k) ++ r.0, r.1 ∙ append_assoc (body_of k) (checkOf (body_of k)) r.0)
+      (check_of (body_of k) ++ r.0, r.1 ∙ append_assoc (body_of k) (check_of (body_of k)) r.0)
 
-  count-there : (k : ℕ) → k < many → countAt blocks k ≡ length (part k)
-  count-there k h =
-      let r = rest-after k h in
-      number-back blocks _ (k * blockSize + 2) 2 (length (part k)) (at_count total keys k (part k) (few-here k) blocks r.0 (k * blockSize) r.1)
-      (omega (arith, few-here k))
+  count_there : (k : ℕ) → k < many → count_at blocks k ≡ length (part k)
+  count_there k h =
+      let r = rest_after k h in
+      number_back blocks _ (k * block_size + 2) 2 (length (part k)) (at_count total keys k (part k) (few_here k) blocks r.0 (k * block_size) r.1)
+      (omega (arith, few_here k))
 
-  counts : (n k : ℕ) → k + n ≡ many → countsFrom blocks k n ≡ total - in_block * k
+  counts : (n k : ℕ) → k + n ≡ many → counts_from blocks k n ≡ total - in_block * k
   counts zero k e = omega arith
-  counts (suc n) k e = rw (count-there k (omega arith)) (omega (arith, counts n (k + 1) (omega arith), part_length k))
+  counts (suc n) k e = rw (count_there k (omega arith)) (omega (arith, counts n (k + 1) (omega arith), part_length k))
 
-  as_many : length blocks / blockSize ≡ many
+  as_many : length blocks / block_size ≡ many
   as_many = rw whole_length (omega arith)
 
-  counted : totalOf blocks ≡ total
+  counted : total_of blocks ≡ total
   counted = rw as_many (counts many 0 (omega arith) ∙ sub-zero total)
 
   -- layout
 
-  stands : (k : ℕ) → k < many → bytes_at blocks (k * blockSize) blockSize ≡ sealed (body_of k)
+  stands : (k : ℕ) → k < many → bytes_at blocks (k * block_size) block_size ≡ sealed (body_of k)
   stands k h =
       let r = here k h in
-      ap (take blockSize) r.1 ∙ take_at (sealed (body_of k)) r.0 blockSize (block-length total keys k (part k) (few-here k))
+      ap (take block_size) r.1 ∙ take_at (sealed (body_of k)) r.0 block_size (block_length total keys k (part k) (few_here k))
 
-  count-ok : (n k : ℕ) → k + suc n ≡ many → countOk n (length (part k)) ≡ true
-  count-ok zero k e =
-      rw (le-leb 1 (length (part k)) (omega (arith, part_length k)), le-leb (length (part k)) in_block (few-here k))
-  count-ok (suc n) k e = eq-eqb (length (part k)) in_block (omega (arith, part_length k))
+  count_ok_lem : (n k : ℕ) → k + suc n ≡ many → count_ok n (length (part k)) ≡ true
+  count_ok_lem zero k e =
+      rw (le-leb 1 (length (part k)) (omega (arith, part_length k)), le-leb (length (part k)) in_block (few_here k))
+  count_ok_lem (suc n) k e = eq-eqb (length (part k)) in_block (omega (arith, part_length k))
 
-  each : (k : ℕ) → k < many → blockTest keys blocks k ≡ ok tt
+  each : (k : ℕ) → k < many → block_test keys blocks k ≡ ok tt
   each k h =
-      let later : blocksIn blocks - (k + 1) ≡ many - (k + 1) = rw as_many in
-      let fits : countOk (blocksIn blocks - (k + 1)) (length (part k)) ≡ true = rw later (count-ok (many - (k + 1)) k (omega arith)) in
-      rw (block-passes total keys k (part k) (few-here k) blocks (stands k h) counted fits (omega arith) (omega arith) (omega arith))
+      let later : blocks_in blocks - (k + 1) ≡ many - (k + 1) = rw as_many in
+      let fits : count_ok (blocks_in blocks - (k + 1)) (length (part k)) ≡ true = rw later (count_ok_lem (many - (k + 1)) k (omega arith)) in
+      rw (block_passes total keys k (part k) (few_here k) blocks (stands k h) counted fits (omega arith) (omega arith) (omega arith))
 
   passes : layout keys blocks ≡ ok tt
   unfolding layout
   passes =
-      let sized : length blocks ≤ mostBlocks * blockSize = omega (arith, whole_length) in
+      let sized : length blocks ≤ most_blocks * block_size = omega (arith, whole_length) in
       let long : 0 < length blocks = omega (arith, whole_length) in
-      let even : length blocks % blockSize ≡ 0 = omega (arith, whole_length) in
-      rw (lt-ltb 0 (length blocks) long, eq-eqb (length blocks % blockSize) 0 even, le-leb (length blocks) (mostBlocks * blockSize) sized, as_many)
-      (all_pass (blockTest keys blocks) many each)
+      let even : length blocks % block_size ≡ 0 = omega (arith, whole_length) in
+      rw (lt-ltb 0 (length blocks) long, eq-eqb (length blocks % block_size) 0 even, le-leb (length blocks) (most_blocks * block_size) sized, as_many)
+      (all_pass (block_test keys blocks) many each)
 
   -- the sequence
 
   module _ (ranged : Ranged code) where
     abbrev at : ℕ → Instruction
-    at i = get_or code i pushPriority
+    at i = get_or code i push_priority
 
     -- so many are left after it
-    instruction-back : (i left : ℕ) → i + 1 + left ≡ total → decode left (parts_at blocks (instructionAt i)) ≡ some (at i)
-    instruction-back i left e =
+    instruction_back : (i left : ℕ) → i + 1 + left ≡ total → decode left (parts_at blocks (instruction_at i)) ≡ some (at i)
+    instruction_back i left e =
         let k = i / in_block in
         let j = i % in_block in
-        let r = rest-after k (omega arith) in
-        let start = k * blockSize + 4 in
-        let row = row-there (part k) (afterCode total keys k (part k) (few-here k) r.0) j (omega (arith, part_length k)) in
-        let same : get_or (part k) j pushPriority ≡ at i =
-        get_or-take in_block (drop (in_block * k) code) j pushPriority (omega arith) ∙ get_or-drop (in_block * k) code j pushPriority
+        let r = rest_after k (omega arith) in
+        let start = k * block_size + 4 in
+        let row = row_there (part k) (after_code total keys k (part k) (few_here k) r.0) j (omega (arith, part_length k)) in
+        let same : get_or (part k) j push_priority ≡ at i =
+        get_or-take in_block (drop (in_block * k) code) j push_priority (omega arith) ∙ get_or-drop (in_block * k) code j push_priority
         ∙ ap at (div-add-mod i in_block)
         in
-        let place : instructionAt i ≡ start + instructionSize * j = omega arith in
-        bytes_back left (at i) (ranged-at code pushPriority ranged i left e) blocks row.0 (instructionAt i)
-        (ap (λ n. drop n blocks) place ∙ sym (drop-drop (instructionSize * j) start blocks)
-        ∙ ap (drop (instructionSize * j)) (at_code total keys k (part k) (few-here k) blocks r.0 (k * blockSize) r.1) ∙ row.1
+        let place : instruction_at i ≡ start + instruction_size * j = omega arith in
+        bytes_back left (at i) (ranged_at code push_priority ranged i left e) blocks row.0 (instruction_at i)
+        (ap (λ n. drop n blocks) place ∙ sym (drop-drop (instruction_size * j) start blocks)
+        ∙ ap (drop (instruction_size * j)) (at_code total keys k (part k) (few_here k) blocks r.0 (k * block_size) r.1) ∙ row.1
         ∙ ap (λ x. encode x ++ row.0) same)
 
-    sequence-back : (n i : ℕ) → i + n ≡ total → instructionsFrom blocks i n ≡ map some (drop i code)
-    sequence-back zero i e =
+    sequence_back : (n i : ℕ) → i + n ≡ total → instructions_from blocks i n ≡ map some (drop i code)
+    sequence_back zero i e =
         let past : total ≤ i = omega arith in
         rw (drop_of_length-le code past)
-    sequence-back (suc n) i e =
-        rw (drop-cons code i pushPriority (omega arith), instruction-back i n (omega arith))
-        (ap (λ s. some (at i) ∷ s) (sequence-back n (i + 1) (omega arith) ∙ ap (λ m. map some (drop m code)) (add-one i)))
+    sequence_back (suc n) i e =
+        rw (drop-cons code i push_priority (omega arith), instruction_back i n (omega arith))
+        (ap (λ s. some (at i) ∷ s) (sequence_back n (i + 1) (omega arith) ∙ ap (λ m. map some (drop m code)) (add-one i)))
 
     written : Written keys code blocks
-    written = record { size = whole_length; passes = passes; total = counted; back = rw counted (sequence-back total 0 (omega arith)) }
+    written = record { size = whole_length; passes = passes; total = counted; back = rw counted (sequence_back total 0 (omega arith)) }
 
-pub blocks-back : BlocksBack
-unfolding blocksOf
-blocks-back keys code keys-few nonempty few ranged = written keys code keys-few nonempty few ranged
+pub blocks_back : BlocksBack
+unfolding blocks_of
+blocks_back keys code keys-few nonempty few ranged = written keys code keys-few nonempty few ranged

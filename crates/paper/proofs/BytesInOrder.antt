@@ -3,9 +3,9 @@ use Prim.Native.Nat.{ℕ, zero, suc}
 use mathlib.Core.Path.{◌≡◌, refl, subst}
 use mathlib.Core.List.{List, [], ◌∷◌, ◌++◌}
 use lib.ListN.{take, drop, take-append-drop}
-use Rattle.paper.specs.Tokens.{Scan, blank, token, octalNumeral, noToken, tooLarge, taken, scan}
-use Rattle.paper.specs.Fixing.{piece_for, fixedFrom, fixed}
-use Rattle.paper.specs.FixedRight.{StandsAs, at-end, a_byte, in-hex, InOrder}
+use Rattle.paper.specs.Tokens.{Scan, blank, token, octal_numeral, no_token, tooLarge, taken, scan}
+use Rattle.paper.specs.Fixing.{piece_for, fixed_from, fixed}
+use Rattle.paper.specs.FixedRight.{StandsAs, at_end, a_byte, in_hex, InOrder}
 
 copied : (p : List ℕ) {s t : List ℕ} → StandsAs s t → StandsAs (p ++ s) (p ++ t)
 copied [] h = h
@@ -19,14 +19,14 @@ module _ (b : ℕ) (s : List ℕ) where
   stands : (c : Scan) → scan b s ≡ c → {t : List ℕ} → StandsAs (drop (taken c) s) t → StandsAs (b ∷ s) (piece_for c b s ++ t)
   stands (blank n) e h = piece n h
   stands (token k n) e h = piece n h
-  stands (octalNumeral v n) e h = in-hex b v n e h
-  stands noToken e h = a_byte b h
+  stands (octal_numeral v n) e h = in_hex b v n e h
+  stands no_token e h = a_byte b h
   stands tooLarge e h = a_byte b h
 
-from : (s : List ℕ) (n : ℕ) → StandsAs (drop n s) (fixedFrom n s)
-unfolding fixedFrom
-from [] zero = at-end
-from [] (suc n) = at-end
+from : (s : List ℕ) (n : ℕ) → StandsAs (drop n s) (fixed_from n s)
+unfolding fixed_from
+from [] zero = at_end
+from [] (suc n) = at_end
 from (b ∷ s) (suc n) = from s n
 from (b ∷ s) zero = stands b s (scan b s) refl (from s (taken (scan b s)))
 

@@ -14,19 +14,19 @@ use lib.Dec.{eqb, ltb}
 use lib.IntN.{pos}
 use borrow.Author.Tests.{eq-eqb}
 use Rattle.paper.specs.Answers.{ok, ◌>>=◌, require, in_turn, inEntry}
-use Rattle.paper.specs.Tokens.{bytes, sameBytes}
+use Rattle.paper.specs.Tokens.{bytes, same_bytes}
 use Rattle.paper.specs.Keys.{Key, find}
-use Rattle.paper.specs.Entry.{Entry, headSize, matchSize, matchAt, match_of, matchesFrom, ruleTest, priorityOf, entry_of}
+use Rattle.paper.specs.Entry.{Entry, head_size, match_size, match_at, match_of, matches_from, rule_test, priority_of, entry_of}
 use Rattle.paper.specs.Grammar as G
 use Rattle.paper.specs.Grammar.{Tree}
-use Rattle.paper.specs.Types.{when, and_then, Field, fieldNamed, keepsBits}
-use Rattle.paper.specs.Meaning.{Value, ty_of, value_of, bareValue, fieldValue, prefixValue, joinValue, connective, comparisonValue, isTrue, whole}
-use Rattle.paper.specs.Calls.{judgeAnswer}
-use Rattle.paper.specs.Named.{isIt, names, marked}
-use Rattle.paper.specs.Translating.{stepsOf}
-use Rattle.paper.specs.TranslationCorrect.{judgedInSteps}
+use Rattle.paper.specs.Types.{when, and_then, Field, field_named, keeps_bits}
+use Rattle.paper.specs.Meaning.{Value, ty_of, value_of, bare_value, field_value, prefix_value, join_value, connective, comparison_value, is_true, whole}
+use Rattle.paper.specs.Calls.{judge_answer}
+use Rattle.paper.specs.Named.{is_it, names, marked}
+use Rattle.paper.specs.Translating.{steps_of}
+use Rattle.paper.specs.TranslationCorrect.{judged_in_steps}
 use Rattle.paper.specs.RecheckedRight.{SameNamed, BothConform}
-use Rattle.paper.proofs.Stages.{ok_same, bind_ok, require-ok}
+use Rattle.paper.proofs.Stages.{ok_same, bind_ok, require_ok}
 
 -- two entries whose matches agree where a tree names the key, and whose priorities agree where it names that
 pub record Agree (ks : List Key) (t : Tree) (e f : Entry) : Type 0 where
@@ -36,15 +36,15 @@ pub record Agree (ks : List Key) (t : Tree) (e f : Entry) : Type 0 where
 module _ (ks : List Key) (e f : Entry) where
   -- the leaves
 
-  found-same : {A : Type 0} (o : Option ℕ) (g h : ℕ → Option A) → ((k : ℕ) → isIt k o ≡ true → g k ≡ h k) → and_then o g ≡ and_then o h
-  found-same none g h same = refl
-  found-same (some k) g h same = same k (eq-eqb k k refl)
+  found_same : {A : Type 0} (o : Option ℕ) (g h : ℕ → Option A) → ((k : ℕ) → is_it k o ≡ true → g k ≡ h k) → and_then o g ≡ and_then o h
+  found_same none g h same = refl
+  found_same (some k) g h same = same k (eq-eqb k k refl)
 
-  key-same : (k : ℕ) → get_elem? e.matches k ≡ get_elem? f.matches k → bareValue ks e k ≡ bareValue ks f k
-  key-same k h = rw h
+  key_same : (k : ℕ) → get_elem? e.matches k ≡ get_elem? f.matches k → bare_value ks e k ≡ bare_value ks f k
+  key_same k h = rw h
 
-  field-same : (g : Field) (k : ℕ) → get_elem? e.matches k ≡ get_elem? f.matches k → fieldValue ks e g k ≡ fieldValue ks f g k
-  field-same g k h = rw h
+  field_same : (g : Field) (k : ℕ) → get_elem? e.matches k ≡ get_elem? f.matches k → field_value ks e g k ≡ field_value ks f g k
+  field_same g k h = rw h
 
   rank_same : (b : Bool) → (b ≡ true → e.priority ≡ f.priority)
       → when b (whole (pos e.priority)) ≡ when b (whole (pos f.priority))
@@ -57,83 +57,83 @@ module _ (ks : List Key) (e f : Entry) where
     pub named : (k : ℕ) → names ks t k ≡ names ks l k || names ks r k
     pub mark : marked t ≡ marked l || marked r
 
-  pub left-agree : (l r t : Tree) → Joins l r t → Agree ks t e f → Agree ks l e f
-  left-agree l r t j h =
+  pub left_agree : (l r t : Tree) → Joins l r t → Agree ks t e f → Agree ks l e f
+  left_agree l r t j h =
       record {
         there = λ k g. h.there k (j.named k ∙ (or-eq-true_iff (names ks l k) (names ks r k)).1 (Or.inl g));
         rank = λ g. h.rank (j.mark ∙ (or-eq-true_iff (marked l) (marked r)).1 (Or.inl g));
       }
 
-  pub right-agree : (l r t : Tree) → Joins l r t → Agree ks t e f → Agree ks r e f
-  right-agree l r t j h =
+  pub right_agree : (l r t : Tree) → Joins l r t → Agree ks t e f → Agree ks r e f
+  right_agree l r t j h =
       record {
         there = λ k g. h.there k (j.named k ∙ (or-eq-true_iff (names ks l k) (names ks r k)).1 (Or.inr g));
         rank = λ g. h.rank (j.mark ∙ (or-eq-true_iff (marked l) (marked r)).1 (Or.inr g));
       }
 
-  pub agree-value : (t : Tree) → Agree ks t e f → value_of ks e t ≡ value_of ks f t
+  pub agree_value : (t : Tree) → Agree ks t e f → value_of ks e t ≡ value_of ks f t
   unfolding value_of names marked
-  agree-value (G.truth at b) h = refl
-  agree-value (G.number at n) h = refl
-  agree-value (G.key at w) h = found-same (find ks w) (bareValue ks e) (bareValue ks f) (λ k i. key-same k (h.there k i))
-  agree-value (G.field at w to g) h =
-      found-same (find ks w) (λ k. and_then (fieldNamed g) (λ x. fieldValue ks e x k)) (λ k. and_then (fieldNamed g) (λ x. fieldValue ks f x k))
-      (λ k i. ap (λ (o : Field → Option Value). and_then (fieldNamed g) o) (fun_ext (λ x. field-same x k (h.there k i))))
-  agree-value (G.attribute at to g) h = rank_same (sameBytes g (bytes "priority")) (λ _. h.rank refl)
-  agree-value (G.prefixed at o t) h =
-      ap (λ (v : Option Value). and_then v (prefixValue o)) (agree-value t (record { there = h.there; rank = h.rank }))
-  agree-value (G.joined at o l r) h =
+  agree_value (G.truth at b) h = refl
+  agree_value (G.number at n) h = refl
+  agree_value (G.key at w) h = found_same (find ks w) (bare_value ks e) (bare_value ks f) (λ k i. key_same k (h.there k i))
+  agree_value (G.field at w to g) h =
+      found_same (find ks w) (λ k. and_then (field_named g) (λ x. field_value ks e x k)) (λ k. and_then (field_named g) (λ x. field_value ks f x k))
+      (λ k i. ap (λ (o : Field → Option Value). and_then (field_named g) o) (fun_ext (λ x. field_same x k (h.there k i))))
+  agree_value (G.attribute at to g) h = rank_same (same_bytes g (bytes "priority")) (λ _. h.rank refl)
+  agree_value (G.prefixed at o t) h =
+      ap (λ (v : Option Value). and_then v (prefix_value o)) (agree_value t (record { there = h.there; rank = h.rank }))
+  agree_value (G.joined at o l r) h =
       let j : Joins l r (G.joined at o l r) = record { named = λ k. refl; mark = refl } in
-      ap₂ (λ (v w : Option Value). and_then v (λ x. and_then w (joinValue (connective o) x)))
-      (agree-value l (left-agree l r (G.joined at o l r) j h)) (agree-value r (right-agree l r (G.joined at o l r) j h))
-  agree-value (G.compared at c l r) h =
+      ap₂ (λ (v w : Option Value). and_then v (λ x. and_then w (join_value (connective o) x)))
+      (agree_value l (left_agree l r (G.joined at o l r) j h)) (agree_value r (right_agree l r (G.joined at o l r) j h))
+  agree_value (G.compared at c l r) h =
       let j : Joins l r (G.compared at c l r) = record { named = λ k. refl; mark = refl } in
-      let keeps : Value → Value → Bool = λ x y. keepsBits l (ty_of y) && keepsBits r (ty_of x) in
-      ap₂ (λ (v w : Option Value). and_then v (λ x. and_then w (λ y. and_then (comparisonValue c x y) (when (keeps x y)))))
-      (agree-value l (left-agree l r (G.compared at c l r) j h)) (agree-value r (right-agree l r (G.compared at c l r) j h))
+      let keeps : Value → Value → Bool = λ x y. keeps_bits l (ty_of y) && keeps_bits r (ty_of x) in
+      ap₂ (λ (v w : Option Value). and_then v (λ x. and_then w (λ y. and_then (comparison_value c x y) (when (keeps x y)))))
+      (agree_value l (left_agree l r (G.compared at c l r) j h)) (agree_value r (right_agree l r (G.compared at c l r) j h))
 
-  agree-steps : (t : Tree) → Agree ks t e f → stepsOf ks e t ≡ stepsOf ks f t
-  unfolding stepsOf names marked
-  agree-steps (G.truth at b) h = refl
-  agree-steps (G.number at n) h = refl
-  agree-steps (G.key at w) h = refl
-  agree-steps (G.field at w to g) h = refl
-  agree-steps (G.attribute at to g) h = refl
-  agree-steps (G.prefixed at o t) h = ap (λ (n : ℕ). n + 1) (agree-steps t (record { there = h.there; rank = h.rank }))
-  agree-steps (G.joined at o l r) h =
+  agree_steps : (t : Tree) → Agree ks t e f → steps_of ks e t ≡ steps_of ks f t
+  unfolding steps_of names marked
+  agree_steps (G.truth at b) h = refl
+  agree_steps (G.number at n) h = refl
+  agree_steps (G.key at w) h = refl
+  agree_steps (G.field at w to g) h = refl
+  agree_steps (G.attribute at to g) h = refl
+  agree_steps (G.prefixed at o t) h = ap (λ (n : ℕ). n + 1) (agree_steps t (record { there = h.there; rank = h.rank }))
+  agree_steps (G.joined at o l r) h =
       let j : Joins l r (G.joined at o l r) = record { named = λ k. refl; mark = refl } in
-      let left = left-agree l r (G.joined at o l r) j h in
-      let right = right-agree l r (G.joined at o l r) j h in
-      rw (agree-steps l left, agree-value l left, agree-steps r right)
-  agree-steps (G.compared at c l r) h =
+      let left = left_agree l r (G.joined at o l r) j h in
+      let right = right_agree l r (G.joined at o l r) j h in
+      rw (agree_steps l left, agree_value l left, agree_steps r right)
+  agree_steps (G.compared at c l r) h =
       let j : Joins l r (G.compared at c l r) = record { named = λ k. refl; mark = refl } in
-      let left = left-agree l r (G.compared at c l r) j h in
-      let right = right-agree l r (G.compared at c l r) j h in
-      rw (agree-steps l left, agree-steps r right)
+      let left = left_agree l r (G.compared at c l r) j h in
+      let right = right_agree l r (G.compared at c l r) j h in
+      rw (agree_steps l left, agree_steps r right)
 
 -- a conforming entry reads as its bytes say
 
-matches-at : (entry : List ℕ) (ks : List Key) (j k : ℕ)
-    → get_elem? (matchesFrom entry j ks) k ≡ map (λ (x : Key). match_of x (matchAt entry (j + k))) (get_elem? ks k)
-matches-at entry [] j k = refl
-matches-at entry (x ∷ ks) j zero = ap (λ (n : ℕ). some (match_of x (matchAt entry n))) (sym (add-zero j))
-matches-at entry (x ∷ ks) j (suc k) =
+matches_at : (entry : List ℕ) (ks : List Key) (j k : ℕ)
+    → get_elem? (matches_from entry j ks) k ≡ map (λ (x : Key). match_of x (match_at entry (j + k))) (get_elem? ks k)
+matches_at entry [] j k = refl
+matches_at entry (x ∷ ks) j zero = ap (λ (n : ℕ). some (match_of x (match_at entry n))) (sym (add-zero j))
+matches_at entry (x ∷ ks) j (suc k) =
     let next : suc j + k ≡ j + suc k = omega arith in
-    matches-at entry ks (suc j) k ∙ ap (λ (n : ℕ). map (λ (y : Key). match_of y (matchAt entry n)) (get_elem? ks k)) next
+    matches_at entry ks (suc j) k ∙ ap (λ (n : ℕ). map (λ (y : Key). match_of y (match_at entry n)) (get_elem? ks k)) next
 
 pub record Read (ks : List Key) (entry : List ℕ) (e : Entry) : Type 0 where
-  pub size : eqb (length entry) (headSize + matchSize * length ks) ≡ true
-  pub low : ltb (priorityOf entry) (2 ^ 31) ≡ true
-  pub rules : in_turn (ruleTest ks entry) 0 (length ks) ≡ ok tt
-  pub is : e ≡ record { priority = priorityOf entry; matches = matchesFrom entry 0 ks }
+  pub size : eqb (length entry) (head_size + match_size * length ks) ≡ true
+  pub low : ltb (priority_of entry) (2 ^ 31) ≡ true
+  pub rules : in_turn (rule_test ks entry) 0 (length ks) ≡ ok tt
+  pub is : e ≡ record { priority = priority_of entry; matches = matches_from entry 0 ks }
 
 pub entry_read : (ks : List Key) (entry : List ℕ) (e : Entry) → entry_of ks entry ≡ ok e → Read ks entry e
 unfolding entry_of
 entry_read ks entry e conforms =
-    let sized = eqb (length entry) (headSize + matchSize * length ks) in
-    let below = ltb (priorityOf entry) (2 ^ 31) in
-    let tests = in_turn (ruleTest ks entry) 0 (length ks) in
-    let read : Entry = record { priority = priorityOf entry; matches = matchesFrom entry 0 ks } in
+    let sized = eqb (length entry) (head_size + match_size * length ks) in
+    let below = ltb (priority_of entry) (2 ^ 31) in
+    let tests = in_turn (rule_test ks entry) 0 (length ks) in
+    let read : Entry = record { priority = priority_of entry; matches = matches_from entry 0 ks } in
     let high = require below 20 inEntry 0 in
     let (u, first, later) =
     bind_ok (require sized 19 inEntry (length entry)) (λ _. high >>= λ _. tests >>= λ _. ok read) e conforms
@@ -141,52 +141,52 @@ entry_read ks entry e conforms =
     let (v, second, last) = bind_ok high (λ _. tests >>= λ _. ok read) e later in
     let (_, third, is) = bind_ok tests (λ _. ok read) e last in
     record {
-      size = require-ok sized 19 inEntry (length entry) u first;
-      low = require-ok below 20 inEntry 0 v second;
+      size = require_ok sized 19 inEntry (length entry) u first;
+      low = require_ok below 20 inEntry 0 v second;
       rules = third;
       is = sym (ok_same read e is);
     }
 
 module _ (ks : List Key) (entry : List ℕ) (e : Entry) (reads : entry_of ks entry ≡ ok e) where
-  pub match-there : (k : ℕ) → get_elem? e.matches k ≡ map (λ (x : Key). match_of x (matchAt entry k)) (get_elem? ks k)
-  match-there k =
+  pub match_there : (k : ℕ) → get_elem? e.matches k ≡ map (λ (x : Key). match_of x (match_at entry k)) (get_elem? ks k)
+  match_there k =
       ap (λ (x : Entry). get_elem? x.matches k) (entry_read ks entry e reads).is
-      ∙ matches-at entry ks 0 k
-      ∙ ap (λ (n : ℕ). map (λ (x : Key). match_of x (matchAt entry n)) (get_elem? ks k)) (let z : 0 + k ≡ k = omega arith in z)
+      ∙ matches_at entry ks 0 k
+      ∙ ap (λ (n : ℕ). map (λ (x : Key). match_of x (match_at entry n)) (get_elem? ks k)) (let z : 0 + k ≡ k = omega arith in z)
 
 module _ (text list entry other : List ℕ) (both : BothConform text list entry other)
     (same : SameNamed both.rule.keys both.rule.root entry other) where
   abbrev ks : List Key
   ks = both.rule.keys
 
-  same-there : (k : ℕ) → matchAt entry k ≡ matchAt other k → get_elem? both.was.matches k ≡ get_elem? both.is.matches k
-  same-there k h =
-      match-there ks entry both.was both.old-conforms k
+  same_there : (k : ℕ) → match_at entry k ≡ match_at other k → get_elem? both.was.matches k ≡ get_elem? both.is.matches k
+  same_there k h =
+      match_there ks entry both.was both.old_conforms k
       ∙ ap (λ (r : List ℕ). map (λ (x : Key). match_of x r) (get_elem? ks k)) h
-      ∙ sym (match-there ks other both.is both.new-conforms k)
+      ∙ sym (match_there ks other both.is both.new_conforms k)
 
-  rank-of : (s : List ℕ) (x : Entry) → entry_of ks s ≡ ok x → x.priority ≡ priorityOf s
-  rank-of s x reads = ap (λ (y : Entry). y.priority) (entry_read ks s x reads).is
+  rank_of : (s : List ℕ) (x : Entry) → entry_of ks s ≡ ok x → x.priority ≡ priority_of s
+  rank_of s x reads = ap (λ (y : Entry). y.priority) (entry_read ks s x reads).is
 
   -- entries that are the same in the bytes agree in what is read from them
-  pub same-agree : Agree ks both.rule.root both.was both.is
-  same-agree =
+  pub same_agree : Agree ks both.rule.root both.was both.is
+  same_agree =
       record {
-        there = λ k n. same-there k (same.records k n);
-        rank = λ m. rank-of entry both.was both.old-conforms ∙ same.priority m ∙ sym (rank-of other both.is both.new-conforms);
+        there = λ k n. same_there k (same.records k n);
+        rank = λ m. rank_of entry both.was both.old_conforms ∙ same.priority m ∙ sym (rank_of other both.is both.new_conforms);
       }
 
   -- so the judge says the same, and the steps are as many
-  pub same-judgement : judgeAnswer text list entry ≡ judgeAnswer text list other
-  unfolding judgeAnswer
-  same-judgement =
-      rw (both.passes, both.old-conforms, both.new-conforms)
-      (ap (λ (v : Option Value). ok (isTrue v)) (agree-value ks both.was both.is both.rule.root same-agree))
+  pub same_judgement : judge_answer text list entry ≡ judge_answer text list other
+  unfolding judge_answer
+  same_judgement =
+      rw (both.passes, both.old_conforms, both.new_conforms)
+      (ap (λ (v : Option Value). ok (is_true v)) (agree_value ks both.was both.is both.rule.root same_agree))
 
-  pub same-steps : judgedInSteps text list entry ≡ judgedInSteps text list other
-  unfolding judgedInSteps
-  same-steps =
-      rw (both.passes, both.old-conforms, both.new-conforms)
-      (ap₂ (λ (v : Option Value) (n : ℕ). ok (record { accepted = isTrue v; steps = n }))
-      (agree-value ks both.was both.is both.rule.root same-agree)
-      (agree-steps ks both.was both.is both.rule.root same-agree))
+  pub same_steps : judged_in_steps text list entry ≡ judged_in_steps text list other
+  unfolding judged_in_steps
+  same_steps =
+      rw (both.passes, both.old_conforms, both.new_conforms)
+      (ap₂ (λ (v : Option Value) (n : ℕ). ok (record { accepted = is_true v; steps = n }))
+      (agree_value ks both.was both.is both.rule.root same_agree)
+      (agree_steps ks both.was both.is both.rule.root same_agree))

@@ -8,42 +8,42 @@ use mathlib.Core.List.{List, [], ◌∷◌, ◌++◌}
 use lib.ListN.{length, length-append}
 use lib.Dec.{ltb}
 use borrow.Author.Tests.{ltb-true, ltb-false}
-use Rattle.paper.specs.Numbers.{digitsAfter, inBase}
+use Rattle.paper.specs.Numbers.{digits_after, in_base}
 use Rattle.paper.specs.BlocksRoundTrip.{All}
 use Rattle.paper.proofs.Basics.{all_append}
-use Rattle.paper.specs.Print.{digitsIn}
+use Rattle.paper.specs.Print.{digits_in}
 
-last-digit : (base a : ℕ) (ds : List ℕ) (d : ℕ) → digitsAfter base a (ds ++ (d ∷ [])) ≡ digitsAfter base a ds * base + d
-last-digit base a [] d = refl
-last-digit base a (x ∷ ds) d = last-digit base (a * base + x) ds d
+last_digit : (base a : ℕ) (ds : List ℕ) (d : ℕ) → digits_after base a (ds ++ (d ∷ [])) ≡ digits_after base a ds * base + d
+last_digit base a [] d = refl
+last_digit base a (x ∷ ds) d = last_digit base (a * base + x) ds d
 
-pub digits-back : (base most n : ℕ) → 2 ≤ base → n < base ^ most → inBase base (digitsIn base most n) ≡ n
-digits-back base zero n two small = omega (arith, pow-zero base)
-digits-back base (suc most) n two small =
+pub digits_back : (base most n : ℕ) → 2 ≤ base → n < base ^ most → in_base base (digits_in base most n) ≡ n
+digits_back base zero n two small = omega (arith, pow-zero base)
+digits_back base (suc most) n two small =
     let less : n / base < base ^ most = (div-lt_iff_lt-mul {k = base} (omega arith)).1 (subst (λ x. n < x) (pow-suc base most) small) in
-    go (ltb n base) (digits-back base most (n / base) two less)
+    go (ltb n base) (digits_back base most (n / base) two less)
   where
-    go : (b : Bool) → inBase base (digitsIn base most (n / base)) ≡ n / base
-        → inBase base (cond b (n ∷ []) (digitsIn base most (n / base) ++ (n % base ∷ []))) ≡ n
+    go : (b : Bool) → in_base base (digits_in base most (n / base)) ≡ n / base
+        → in_base base (cond b (n ∷ []) (digits_in base most (n / base) ++ (n % base ∷ []))) ≡ n
     go true h = omega arith
     go false h =
-        last-digit base 0 (digitsIn base most (n / base)) (n % base) ∙ ap (λ x. x * base + n % base) h ∙ div-add-mod' n base
+        last_digit base 0 (digits_in base most (n / base)) (n % base) ∙ ap (λ x. x * base + n % base) h ∙ div-add-mod' n base
 
 -- each is a digit of the base
-pub digits-below : (base most n : ℕ) → 0 < base → All (λ d. d < base) (digitsIn base most n)
-digits-below base zero n pos = tt
-digits-below base (suc most) n pos = go (ltb n base) refl (digits-below base most (n / base) pos)
+pub digits_below : (base most n : ℕ) → 0 < base → All (λ d. d < base) (digits_in base most n)
+digits_below base zero n pos = tt
+digits_below base (suc most) n pos = go (ltb n base) refl (digits_below base most (n / base) pos)
   where
-    go : (b : Bool) → ltb n base ≡ b → All (λ d. d < base) (digitsIn base most (n / base))
-        → All (λ d. d < base) (cond b (n ∷ []) (digitsIn base most (n / base) ++ (n % base ∷ [])))
+    go : (b : Bool) → ltb n base ≡ b → All (λ d. d < base) (digits_in base most (n / base))
+        → All (λ d. d < base) (cond b (n ∷ []) (digits_in base most (n / base) ++ (n % base ∷ [])))
     go true e h = (ltb-true n base e, tt)
-    go false e h = all_append (λ d. d < base) (digitsIn base most (n / base)) (n % base ∷ []) h (mod-lt n pos, tt)
+    go false e h = all_append (λ d. d < base) (digits_in base most (n / base)) (n % base ∷ []) h (mod-lt n pos, tt)
 
 -- a number below base^k has at most k
-pub digits-few : (base most k n : ℕ) → 2 ≤ base → 1 ≤ k → n < base ^ k → length (digitsIn base most n) ≤ k
-digits-few base zero k n two one small = omega arith
-digits-few base (suc most) zero n two one small = absurd (omega arith)
-digits-few base (suc most) (suc k) n two one small = go (ltb n base) refl (λ p. digits-few base most k (n / base) two p less)
+pub digits_few : (base most k n : ℕ) → 2 ≤ base → 1 ≤ k → n < base ^ k → length (digits_in base most n) ≤ k
+digits_few base zero k n two one small = omega arith
+digits_few base (suc most) zero n two one small = absurd (omega arith)
+digits_few base (suc most) (suc k) n two one small = go (ltb n base) refl (λ p. digits_few base most k (n / base) two p less)
   where
     less : n / base < base ^ k
     less = (div-lt_iff_lt-mul {k = base} (omega arith)).1 (subst (λ x. n < x) (pow-suc base k) small)
@@ -55,8 +55,8 @@ digits-few base (suc most) (suc k) n two one small = go (ltb n base) refl (λ p.
         absurd (omega arith)
     some (suc j) e h = omega arith
 
-    go : (b : Bool) → ltb n base ≡ b → (1 ≤ k → length (digitsIn base most (n / base)) ≤ k)
-        → length (cond b (n ∷ []) (digitsIn base most (n / base) ++ (n % base ∷ []))) ≤ suc k
+    go : (b : Bool) → ltb n base ≡ b → (1 ≤ k → length (digits_in base most (n / base)) ≤ k)
+        → length (cond b (n ∷ []) (digits_in base most (n / base) ++ (n % base ∷ []))) ≤ suc k
     go true e h = omega arith
     go false e h =
-        omega (arith, length-append (digitsIn base most (n / base)) (n % base ∷ []), h (some k refl (ltb-false n base e)))
+        omega (arith, length-append (digits_in base most (n / base)) (n % base ∷ []), h (some k refl (ltb-false n base e)))

@@ -9,90 +9,90 @@ use lib.ListN.{length}
 use lib.Dec.{leb}
 use borrow.Author.Tests.{leb-true, leb-false}
 use Rattle.paper.specs.Answers.{inContract, in_table, inBuffer, ok, require}
-use Rattle.paper.specs.Tokens.{mostTokens}
+use Rattle.paper.specs.Tokens.{most_tokens}
 use Rattle.paper.specs.Keys.{Key}
-use Rattle.paper.specs.Grammar.{Tree, mostLevels}
+use Rattle.paper.specs.Grammar.{Tree, most_levels}
 use Rattle.paper.specs.Print.{print}
 use Rattle.paper.specs.Sized.{levels, count}
 use Rattle.paper.specs.Calls.{lends}
-use Rattle.paper.specs.Pact.{mostIndices}
+use Rattle.paper.specs.Pact.{most_indices}
 use Rattle.paper.specs.Contract.{clauses}
-use Rattle.paper.specs.Drafting.{contractTree, nameRule, names_of, tableSized, drafted, lendsText, draftable, draftAnswer}
-use Rattle.paper.specs.Faults.{Faults, TableSize, table-over, ContractFaults, TextLimits, LendingSize}
-use Rattle.paper.specs.Table.{Free, Stage, stage, Given, listStagesBy, draftStages}
-use Rattle.paper.proofs.StagesInOrder.{Tells, test-tells, given-tells, Follows, follows-one, follows-as, follows_then}
-use Rattle.paper.proofs.ListFaults.{list-follows-by}
-use Rattle.paper.proofs.ContractRead.{contract-tells}
-use Rattle.paper.proofs.LendingFaults.{lending-tells, limits-tell}
+use Rattle.paper.specs.Drafting.{contract_tree, name_rule, names_of, table_sized, drafted, lends_text, draftable, draft_answer}
+use Rattle.paper.specs.Faults.{Faults, TableSize, table_over, ContractFaults, TextLimits, LendingSize}
+use Rattle.paper.specs.Table.{Free, Stage, stage, Given, list_stages_by, draft_stages}
+use Rattle.paper.proofs.StagesInOrder.{Tells, test_tells, given_tells, Follows, follows_one, follows_as, follows_then}
+use Rattle.paper.proofs.ListFaults.{list_follows_by}
+use Rattle.paper.proofs.ContractRead.{contract_tells}
+use Rattle.paper.proofs.LendingFaults.{lending_tells, limits_tell}
 
 -- 24 of the table
 
-table-free : (table : List ℕ) → leb (length table) mostIndices ≡ true → Free (TableSize table)
-table-free table h n at (table-over l) = let e = leb-true (length table) mostIndices h in omega arith
+table_free : (table : List ℕ) → leb (length table) most_indices ≡ true → Free (TableSize table)
+table_free table h n at (table_over l) = let e = leb-true (length table) most_indices h in omega arith
 
-table-only : (table : List ℕ) (m to : ℕ) → TableSize table m to → (m ≡ 24) × (to ≡ mostIndices)
-table-only table m to (table-over l) = (refl, refl)
+table_only : (table : List ℕ) (m to : ℕ) → TableSize table m to → (m ≡ 24) × (to ≡ most_indices)
+table_only table m to (table_over l) = (refl, refl)
 
-table-tells : (table : List ℕ) → Tells in_table (TableSize table) (tableSized table)
-table-tells table =
-    test-tells (TableSize table) (leb (length table) mostIndices) 24 in_table mostIndices (table-free table)
-    (λ h. table-over (leb-false (length table) mostIndices h)) (table-only table)
+table_tells : (table : List ℕ) → Tells in_table (TableSize table) (table_sized table)
+table_tells table =
+    test_tells (TableSize table) (leb (length table) most_indices) 24 in_table most_indices (table_free table)
+    (λ h. table_over (leb-false (length table) most_indices h)) (table_only table)
 
 module _ (contract table list buffer : List ℕ) where
-  abbrev tableStages : List Stage
-  tableStages = stage in_table (TableSize table) ∷ []
+  abbrev table_stages : List Stage
+  table_stages = stage in_table (TableSize table) ∷ []
 
   -- 24 of the contract
 
-  abbrev inNames : List Key → Faults
-  inNames ks = ContractFaults (length ks) (length table) contract
+  abbrev in_names : List Key → Faults
+  in_names ks = ContractFaults (length ks) (length table) contract
 
-  abbrev contractStages : List Stage
-  contractStages = stage inContract (Given (names_of list) inNames) ∷ []
+  abbrev contract_stages : List Stage
+  contract_stages = stage inContract (Given (names_of list) in_names) ∷ []
 
-  contract-follows : (ks : List Key) → names_of list ≡ ok ks → Follows contractStages (clauses (length ks) (length table) contract)
-  contract-follows ks named =
+  contract_follows : (ks : List Key) → names_of list ≡ ok ks → Follows contract_stages (clauses (length ks) (length table) contract)
+  contract_follows ks named =
       let read = clauses (length ks) (length table) contract in
-      follows-one inContract (Given (names_of list) inNames) read
-      (given-tells (names_of list) ks named inNames inContract read (contract-tells (length ks) (length table) contract))
+      follows_one inContract (Given (names_of list) in_names) read
+      (given_tells (names_of list) ks named in_names inContract read (contract_tells (length ks) (length table) contract))
 
-  drafted-follows : Follows (listStagesBy nameRule list ++ (tableStages ++ contractStages)) (drafted contract table list)
+  drafted_follows : Follows (list_stages_by name_rule list ++ (table_stages ++ contract_stages)) (drafted contract table list)
   unfolding drafted names_of
-  drafted-follows =
-      follows_then (listStagesBy nameRule list) (tableStages ++ contractStages) (names_of list) _ (list-follows-by nameRule list)
+  drafted_follows =
+      follows_then (list_stages_by name_rule list) (table_stages ++ contract_stages) (names_of list) _ (list_follows_by name_rule list)
       (λ ks named.
-      follows_then tableStages contractStages (tableSized table) _ (follows-one in_table (TableSize table) (tableSized table) (table-tells table))
+      follows_then table_stages contract_stages (table_sized table) _ (follows_one in_table (TableSize table) (table_sized table) (table_tells table))
       (λ _ _.
-      follows-as contractStages (clauses (length ks) (length table) contract) (contractTree (map (λ (k : Key). k.name) ks) table)
-      (contract-follows ks named)))
+      follows_as contract_stages (clauses (length ks) (length table) contract) (contract_tree (map (λ (k : Key). k.name) ks) table)
+      (contract_follows ks named)))
 
   -- 21
 
-  abbrev limitFaults : Tree → Faults
-  limitFaults t = TextLimits t buffer
+  abbrev limit_faults : Tree → Faults
+  limit_faults t = TextLimits t buffer
 
-  abbrev sizeFaults : Tree → Faults
-  sizeFaults t = LendingSize (print t) buffer
+  abbrev size_faults : Tree → Faults
+  size_faults t = LendingSize (print t) buffer
 
-  abbrev limitStages : List Stage
-  limitStages = stage inBuffer (Given (drafted contract table list) limitFaults) ∷ []
+  abbrev limit_stages : List Stage
+  limit_stages = stage inBuffer (Given (drafted contract table list) limit_faults) ∷ []
 
-  abbrev lendingStages : List Stage
-  lendingStages = stage inBuffer (Given (drafted contract table list) sizeFaults) ∷ []
+  abbrev lending_stages : List Stage
+  lending_stages = stage inBuffer (Given (drafted contract table list) size_faults) ∷ []
 
-  text-follows : (t : Tree) → drafted contract table list ≡ ok t → Follows (limitStages ++ lendingStages) (lendsText t buffer)
-  text-follows t made =
-      let within = require (leb (count t) mostTokens && leb (levels t) mostLevels) 21 inBuffer (length buffer) in
-      follows_then limitStages lendingStages within (λ _. lends (print t) buffer)
-      (follows-one inBuffer (Given (drafted contract table list) limitFaults) within
-      (given-tells (drafted contract table list) t made limitFaults inBuffer within (limits-tell t buffer)))
+  text_follows : (t : Tree) → drafted contract table list ≡ ok t → Follows (limit_stages ++ lending_stages) (lends_text t buffer)
+  text_follows t made =
+      let within = require (leb (count t) most_tokens && leb (levels t) most_levels) 21 inBuffer (length buffer) in
+      follows_then limit_stages lending_stages within (λ _. lends (print t) buffer)
+      (follows_one inBuffer (Given (drafted contract table list) limit_faults) within
+      (given_tells (drafted contract table list) t made limit_faults inBuffer within (limits_tell t buffer)))
       (λ _ _.
-      follows-one inBuffer (Given (drafted contract table list) sizeFaults) (lends (print t) buffer)
-      (given-tells (drafted contract table list) t made sizeFaults inBuffer (lends (print t) buffer) (lending-tells (print t) buffer)))
+      follows_one inBuffer (Given (drafted contract table list) size_faults) (lends (print t) buffer)
+      (given_tells (drafted contract table list) t made size_faults inBuffer (lends (print t) buffer) (lending_tells (print t) buffer)))
 
-  pub draft-follows : Follows (draftStages contract table list buffer) (draftAnswer contract table list buffer)
-  unfolding draftAnswer draftable
-  draft-follows =
-      follows-as (draftStages contract table list buffer) (draftable contract table list buffer) length
-      (follows_then (listStagesBy nameRule list ++ (tableStages ++ contractStages)) (limitStages ++ lendingStages) (drafted contract table list)
-      (λ t. lendsText t buffer) drafted-follows text-follows)
+  pub draft_follows : Follows (draft_stages contract table list buffer) (draft_answer contract table list buffer)
+  unfolding draft_answer draftable
+  draft_follows =
+      follows_as (draft_stages contract table list buffer) (draftable contract table list buffer) length
+      (follows_then (list_stages_by name_rule list ++ (table_stages ++ contract_stages)) (limit_stages ++ lending_stages) (drafted contract table list)
+      (λ t. lends_text t buffer) drafted_follows text_follows)

@@ -22,17 +22,17 @@ module _ (i : Input) (F : Faults) (total : ℕ) (place : ℕ → ℕ) (indexed :
   TellsAt k (refused n j at) = (j ≡ i) × (at ≡ place k) × F n (place k) × ((m : ℕ) → F m (place k) → n ≤ m)
 
   -- of a test with one number
-  pub test-tells-at : (k n : ℕ) (b : Bool) → (b ≡ true → (m : ℕ) → ¬ F m (place k)) → (b ≡ false → F n (place k))
+  pub test_tells_at : (k n : ℕ) (b : Bool) → (b ≡ true → (m : ℕ) → ¬ F m (place k)) → (b ≡ false → F n (place k))
       → ((m at : ℕ) → F m at → m ≡ n) → TellsAt k (require b n i (place k))
-  test-tells-at k n true free fault only = free refl
-  test-tells-at k n false free fault only = (refl, refl, fault refl, λ m h. omega (arith, only m (place k) h))
+  test_tells_at k n true free fault only = free refl
+  test_tells_at k n false free fault only = (refl, refl, fault refl, λ m h. omega (arith, only m (place k) h))
 
   FreeBefore : ℕ → Type 0
   FreeBefore k = (j : ℕ) → j < k → (n : ℕ) → ¬ F n (place j)
 
-  free-next : (k : ℕ) → FreeBefore k → ((n : ℕ) → ¬ F n (place k)) → FreeBefore (suc k)
+  free_next : (k : ℕ) → FreeBefore k → ((n : ℕ) → ¬ F n (place k)) → FreeBefore (suc k)
   unfolding FreeBefore
-  free-next k before here j l = go (ℕ_discrete j k)
+  free_next k before here j l = go (ℕ_discrete j k)
     where
       go : Dec (j ≡ k) → (n : ℕ) → ¬ F n (place j)
       go (yes e) = rw e here
@@ -54,22 +54,22 @@ module _ (i : Input) (F : Faults) (total : ℕ) (place : ℕ → ℕ) (indexed :
           by (no other) (yes less) = absurd (before j less m there)
           by (no other) (no more) = inl (rw e (indexed.rises k j (omega arith)))
 
-  tells-from : (test : ℕ → Answer (Unit {0})) → ((k : ℕ) → k < total → TellsAt k (test k)) → (n k : ℕ) → k + n ≡ total → FreeBefore k
+  tells_from : (test : ℕ → Answer (Unit {0})) → ((k : ℕ) → k < total → TellsAt k (test k)) → (n k : ℕ) → k + n ≡ total → FreeBefore k
       → Tells i F (in_turn test k n)
   unfolding FreeBefore
-  tells-from test each zero k whole before = λ n at h.
+  tells_from test each zero k whole before = λ n at h.
       let (j, l, e) = indexed.index n at h in
       before j (omega arith) n (subst (F n) e h)
-  tells-from test each (suc n) k whole before = go (test k) (each k (omega arith)) (tells-from test each n (suc k) (omega arith))
+  tells_from test each (suc n) k whole before = go (test k) (each k (omega arith)) (tells_from test each n (suc k) (omega arith))
     where
       go : (a : Answer (Unit {0})) → TellsAt k a → (FreeBefore (suc k) → Tells i F (in_turn test (suc k) n))
           → Tells i F (a >>= λ _. in_turn test (suc k) n)
-      go (ok _) here later = later (free-next k before here)
+      go (ok _) here later = later (free_next k before here)
       go (refused m j at) (same-input, same_place, fault, low) later = (
         same-input,
         record { fault = rw same_place fault; first = λ o to h. rw same_place (not_earlier k m o to before low h) },
       )
 
-  pub tests-tell : (test : ℕ → Answer (Unit {0})) → ((k : ℕ) → k < total → TellsAt k (test k)) → Tells i F (in_turn test 0 total)
+  pub tests_tell : (test : ℕ → Answer (Unit {0})) → ((k : ℕ) → k < total → TellsAt k (test k)) → Tells i F (in_turn test 0 total)
   unfolding FreeBefore
-  tests-tell test each = tells-from test each total 0 (omega arith) (λ j l. absurd (omega arith))
+  tests_tell test each = tells_from test each total 0 (omega arith) (λ j l. absurd (omega arith))

@@ -10,8 +10,8 @@ use mathlib.Core.List.{List, [], ◌∷◌, ◌++◌, head-eq_of_cons-eq, tail-e
 use lib.ListN.{length}
 use lib.Dec.{ltb}
 use Rattle.paper.specs.Types.{when}
-use Rattle.paper.specs.Code.{Action, leaves, takesOne, takesTwo, mostHeld, put, act, Walk, fails, ends, goOn, walk}
-use Rattle.paper.proofs.Walks.{onWalk, walk-append}
+use Rattle.paper.specs.Code.{Action, leaves, takes_one, takes_two, most_held, put, act, Walk, fails, ends, go_on, walk}
+use Rattle.paper.proofs.Walks.{on_walk, walk_append}
 use Rattle.paper.proofs.Landings.{ends_same, never_ends}
 
 module _ {A : Type 0} where
@@ -19,13 +19,13 @@ module _ {A : Type 0} where
 
   abbrev up : Action A → ℕ
   up (leaves o) = 1
-  up (takesOne f) = 0
-  up (takesTwo f) = 0
+  up (takes_one f) = 0
+  up (takes_two f) = 0
 
   abbrev down : Action A → ℕ
   down (leaves o) = 0
-  down (takesOne f) = 0
-  down (takesTwo f) = 1
+  down (takes_one f) = 0
+  down (takes_two f) = 1
 
   abbrev ups : List (Action A) → ℕ
   ups [] = 0
@@ -35,39 +35,39 @@ module _ {A : Type 0} where
   downs [] = 0
   downs (x ∷ xs) = down x + downs xs
 
-  ups-append : (xs ys : List (Action A)) → ups (xs ++ ys) ≡ ups xs + ups ys
-  ups-append [] ys = omega arith
-  ups-append (x ∷ xs) ys = omega (arith, ups-append xs ys)
+  ups_append : (xs ys : List (Action A)) → ups (xs ++ ys) ≡ ups xs + ups ys
+  ups_append [] ys = omega arith
+  ups_append (x ∷ xs) ys = omega (arith, ups_append xs ys)
 
-  downs-append : (xs ys : List (Action A)) → downs (xs ++ ys) ≡ downs xs + downs ys
-  downs-append [] ys = omega arith
-  downs-append (x ∷ xs) ys = omega (arith, downs-append xs ys)
+  downs_append : (xs ys : List (Action A)) → downs (xs ++ ys) ≡ downs xs + downs ys
+  downs_append [] ys = omega arith
+  downs_append (x ∷ xs) ys = omega (arith, downs_append xs ys)
 
   -- behind an action
 
   record Moved (x : Action A) (before after : List A) : Type 0 where
-    some-held : 1 ≤ length after
+    some_held : 1 ≤ length after
     height : length after + down x ≡ length before + up x
 
   one_more : (o : Option A) (held after : List A) → put o held ≡ some after → length after ≡ suc (length held)
   one_more none held after h = absurd (none-ne-some after h)
-  one_more (some a) held after h = go (ltb (length held) mostHeld) h
+  one_more (some a) held after h = go (ltb (length held) most_held) h
     where
       go : (b : Bool) → when b (a ∷ held) ≡ some after → length after ≡ suc (length held)
       go true e = sym (ap length (some-injective (a ∷ held) after e))
       go false e = absurd (none-ne-some after e)
 
   moved : (x : Action A) (held after : List A) → act x held ≡ some after → Moved x held after
-  moved (leaves o) held after h = let k = one_more o held after h in record { some-held = omega (arith, k); height = omega (arith, k) }
-  moved (takesOne f) [] after h = absurd (none-ne-some after h)
-  moved (takesOne f) (a ∷ held) after h =
+  moved (leaves o) held after h = let k = one_more o held after h in record { some_held = omega (arith, k); height = omega (arith, k) }
+  moved (takes_one f) [] after h = absurd (none-ne-some after h)
+  moved (takes_one f) (a ∷ held) after h =
       let k = one_more (f a) held after h in
-      record { some-held = omega (arith, k); height = omega (arith, k) }
-  moved (takesTwo f) [] after h = absurd (none-ne-some after h)
-  moved (takesTwo f) (b ∷ []) after h = absurd (none-ne-some after h)
-  moved (takesTwo f) (b ∷ a ∷ held) after h =
+      record { some_held = omega (arith, k); height = omega (arith, k) }
+  moved (takes_two f) [] after h = absurd (none-ne-some after h)
+  moved (takes_two f) (b ∷ []) after h = absurd (none-ne-some after h)
+  moved (takes_two f) (b ∷ a ∷ held) after h =
       let k = one_more (f a b) held after h in
-      record { some-held = omega (arith, k); height = omega (arith, k) }
+      record { some_held = omega (arith, k); height = omega (arith, k) }
 
   -- behind a walk: how much is held, and something where there was before
 
@@ -82,21 +82,21 @@ module _ {A : Type 0} where
       record { height = omega (arith, ap length same); still = λ s. omega (arith, ap length same, s) }
   walked (x ∷ xs) i held after h = go (act x held) refl h (λ mid. walked xs (i + 1) mid after)
     where
-      go : (o : Option (List A)) → act x held ≡ o → goOn i o (walk (i + 1) xs) ≡ ends after
+      go : (o : Option (List A)) → act x held ≡ o → go_on i o (walk (i + 1) xs) ≡ ends after
           → ((mid : List A) → walk (i + 1) xs mid ≡ ends after → Walked xs mid after) → Walked (x ∷ xs) held after
       go none e p later = absurd (never_ends p)
       go (some mid) e p later =
           let m = moved x held mid e in
           let w = later mid p in
-          record { height = omega (arith, m.height, w.height); still = λ s. w.still m.some-held }
+          record { height = omega (arith, m.height, w.height); still = λ s. w.still m.some_held }
 
-  some-behind : (x : Action A) (xs : List (Action A)) (i : ℕ) (held after : List A) → walk i (x ∷ xs) held ≡ ends after → 1 ≤ length after
+  some_behind : (x : Action A) (xs : List (Action A)) (i : ℕ) (held after : List A) → walk i (x ∷ xs) held ≡ ends after → 1 ≤ length after
   unfolding walk
-  some-behind x xs i held after h = go (act x held) refl h
+  some_behind x xs i held after h = go (act x held) refl h
     where
-      go : (o : Option (List A)) → act x held ≡ o → goOn i o (walk (i + 1) xs) ≡ ends after → 1 ≤ length after
+      go : (o : Option (List A)) → act x held ≡ o → go_on i o (walk (i + 1) xs) ≡ ends after → 1 ≤ length after
       go none e p = absurd (never_ends p)
-      go (some mid) e p = (walked xs (i + 1) mid after p).still (moved x held mid e).some-held
+      go (some mid) e p = (walked xs (i + 1) mid after p).still (moved x held mid e).some_held
 
   -- from nothing, one value
 
@@ -106,21 +106,21 @@ module _ {A : Type 0} where
   balanced : (xs : List (Action A)) → LeavesOne xs → 1 + downs xs ≡ ups xs
   balanced xs (a, h) = omega (arith, (walked xs 0 [] (a ∷ []) h).height)
 
-  pub nothing-before : (p xs : List (Action A)) → LeavesOne (p ++ xs) → LeavesOne xs → p ≡ []
-  nothing-before [] xs h g = refl
-  nothing-before (x ∷ p) xs h g = absurd (go (walk 0 (x ∷ p) []) refl (sym (walk-append (x ∷ p) xs 0 []) ∙ h.1))
+  pub nothing_before : (p xs : List (Action A)) → LeavesOne (p ++ xs) → LeavesOne xs → p ≡ []
+  nothing_before [] xs h g = refl
+  nothing_before (x ∷ p) xs h g = absurd (go (walk 0 (x ∷ p) []) refl (sym (walk_append (x ∷ p) xs 0 []) ∙ h.1))
     where
-      go : (w : Walk A) → walk 0 (x ∷ p) [] ≡ w → onWalk w (walk (0 + length (x ∷ p)) xs) ≡ ends (h.0 ∷ []) → ⊥
+      go : (w : Walk A) → walk 0 (x ∷ p) [] ≡ w → on_walk w (walk (0 + length (x ∷ p)) xs) ≡ ends (h.0 ∷ []) → ⊥
       go (fails i) e f = never_ends f
       go (ends mid) e f =
           omega (
             arith,
             (walked (x ∷ p) 0 [] mid e).height,
-            some-behind x p 0 [] mid e,
+            some_behind x p 0 [] mid e,
             balanced ((x ∷ p) ++ xs) h,
             balanced xs g,
-            downs-append (x ∷ p) xs,
-            ups-append (x ∷ p) xs,
+            downs_append (x ∷ p) xs,
+            ups_append (x ∷ p) xs,
           )
 
 -- two ways to cut a list

@@ -10,67 +10,67 @@ use lib.Dec.{leb}
 use borrow.Author.Tests.{leb-true, le-leb}
 use Rattle.paper.specs.declared.Place.{Place}
 use Rattle.paper.specs.declared.Fixing.TheVariants as F
-use Rattle.paper.specs.Answers.{inText, ok, ◌>>=◌, input_of, offset_of}
-use Rattle.paper.specs.Tokens.{mostText}
+use Rattle.paper.specs.Answers.{InText, ok, ◌>>=◌, input_of, offset_of}
+use Rattle.paper.specs.Tokens.{most_text}
 use Rattle.paper.specs.Calls.{sized, lends, laid}
-use Rattle.paper.specs.Fixing.{oldTokens, fixed, fixable, fixAnswer, fixBuffer, fixingSays}
+use Rattle.paper.specs.Fixing.{old_tokens, fixed, fixable, fix_answer, fix_buffer, fixing_says}
 use Rattle.paper.specs.Promised.{FixResult, FixPromised}
 use Rattle.paper.specs.Demands.{Fixable, FixesRight}
-use Rattle.paper.proofs.Stages.{ok_same, bind_ok, require-ok}
-use Rattle.paper.proofs.Lending.{lends-has, lends-all, refused-before}
-use Rattle.paper.proofs.TokenFaults.{old-tokens-are-cut}
-use Rattle.paper.proofs.Promised.{fixing-same}
-use Rattle.paper.proofs.NeverLonger.{never-longer}
+use Rattle.paper.proofs.Stages.{ok_same, bind_ok, require_ok}
+use Rattle.paper.proofs.Lending.{lends_has, lends_all, refused_before}
+use Rattle.paper.proofs.TokenFaults.{old_tokens_are_cut}
+use Rattle.paper.proofs.Promised.{fixing_same}
+use Rattle.paper.proofs.NeverLonger.{never_longer}
 
 module _ (text buffer : List ℕ) where
-  answer-is : fixAnswer text buffer ≡ (fixable text buffer >>= λ s. ok (length s))
-  unfolding fixAnswer
-  answer-is = refl
+  answer_is : fix_answer text buffer ≡ (fixable text buffer >>= λ s. ok (length s))
+  unfolding fix_answer
+  answer_is = refl
 
-  buffer-is : fixBuffer text buffer ≡ laid (fixable text buffer) buffer
-  unfolding fixBuffer
-  buffer-is = refl
+  buffer_is : fix_buffer text buffer ≡ laid (fixable text buffer) buffer
+  unfolding fix_buffer
+  buffer_is = refl
 
-  fixable-is : fixable text buffer ≡ (sized text >>= λ _. oldTokens text >>= λ _. lends (fixed text) buffer)
+  fixable_is : fixable text buffer ≡ (sized text >>= λ _. old_tokens text >>= λ _. lends (fixed text) buffer)
   unfolding fixable
-  fixable-is = refl
+  fixable_is = refl
 
-  answer-fixable : (n : ℕ) → fixAnswer text buffer ≡ ok n → Fixable text buffer n
-  answer-fixable n e =
-      let (s, passed, last) = bind_ok (fixable text buffer) (λ s. ok (length s)) n (sym answer-is ∙ e) in
-      let (u, small, more) = bind_ok (sized text) (λ _. oldTokens text >>= λ _. lends (fixed text) buffer) s (sym fixable-is ∙ passed) in
-      let (ts, cut, rest) = bind_ok (oldTokens text) (λ _. lends (fixed text) buffer) s more in
-      let l = lends-has (fixed text) buffer s rest in
-      let few = require-ok (leb (length text) mostText) 1 inText mostText u small in
+  answer_fixable : (n : ℕ) → fix_answer text buffer ≡ ok n → Fixable text buffer n
+  answer_fixable n e =
+      let (s, passed, last) = bind_ok (fixable text buffer) (λ s. ok (length s)) n (sym answer_is ∙ e) in
+      let (u, small, more) = bind_ok (sized text) (λ _. old_tokens text >>= λ _. lends (fixed text) buffer) s (sym fixable_is ∙ passed) in
+      let (ts, cut, rest) = bind_ok (old_tokens text) (λ _. lends (fixed text) buffer) s more in
+      let l = lends_has (fixed text) buffer s rest in
+      let few = require_ok (leb (length text) most_text) 1 InText most_text u small in
       let same : length s ≡ n = ok_same (length s) n last in
       record {
-        short = leb-true (length text) mostText few;
+        short = leb-true (length text) most_text few;
         words = ts;
-        cut = (old-tokens-are-cut text ts).0 cut;
+        cut = (old_tokens_are_cut text ts).0 cut;
         count = sym same ∙ ap length (sym l.same);
         room = rw (← same) (leb-true (length s) (length buffer) l.room);
       }
 
-  fixable-bytes : (n : ℕ) → Fixable text buffer n → fixable text buffer ≡ ok (fixed text)
-  fixable-bytes n f =
-      let within : length (fixed text) ≤ mostText = omega (arith, never-longer text, f.short) in
-      rw (fixable-is, le-leb (length text) mostText f.short, (old-tokens-are-cut text f.words).1 f.cut)
-      (lends-all (fixed text) buffer within (rw (← f.count) f.room))
+  fixable_bytes : (n : ℕ) → Fixable text buffer n → fixable text buffer ≡ ok (fixed text)
+  fixable_bytes n f =
+      let within : length (fixed text) ≤ most_text = omega (arith, never_longer text, f.short) in
+      rw (fixable_is, le-leb (length text) most_text f.short, (old_tokens_are_cut text f.words).1 f.cut)
+      (lends_all (fixed text) buffer within (rw (← f.count) f.room))
 
   module _ (r : FixResult) (promised : FixPromised text buffer r) where
-    pub fix-unchanged : (n : ℕ) (at : Place) → r.answer ≡ F.Refused n at → r.buffer ≡ buffer
-    fix-unchanged n at e =
-        promised.holds ∙ buffer-is
-        ∙ refused-before buffer (fixable text buffer) n (input_of at) (offset_of at) (sym answer-is ∙ sym promised.says ∙ ap fixingSays e)
+    pub fix_unchanged : (n : ℕ) (at : Place) → r.answer ≡ F.Refused n at → r.buffer ≡ buffer
+    fix_unchanged n at e =
+        promised.holds ∙ buffer_is
+        ∙ refused_before buffer (fixable text buffer) n (input_of at) (offset_of at) (sym answer_is ∙ sym promised.says ∙ ap fixing_says e)
 
-    pub fixes-right : FixesRight text buffer r
-    fixes-right =
+    pub fixes_right : FixesRight text buffer r
+    fixes_right =
         record {
           fixes = λ n. (
-            λ e. answer-fixable n (sym promised.says ∙ ap fixingSays e),
+            λ e. answer_fixable n (sym promised.says ∙ ap fixing_says e),
             λ f.
-                fixing-same r.answer (F.Fixed n)
-                (promised.says ∙ answer-is ∙ ap (λ x. x >>= λ s. ok (length s)) (fixable-bytes n f) ∙ ap (λ m. ok m) (sym f.count)),
+                fixing_same r.answer (F.Fixed n)
+                (promised.says ∙ answer_is ∙ ap (λ x. x >>= λ s. ok (length s)) (fixable_bytes n f) ∙ ap (λ m. ok m) (sym f.count)),
           );
-          written = λ n f. promised.holds ∙ buffer-is ∙ ap (λ x. laid x buffer) (fixable-bytes n f);
+          written = λ n f. promised.holds ∙ buffer_is ∙ ap (λ x. laid x buffer) (fixable_bytes n f);
         }

@@ -8,13 +8,13 @@ use lib.ListN.{length}
 use Rattle.paper.specs.Answers.{ok}
 use Rattle.paper.specs.Tokens.{join, comparison, closing, Token, tokens}
 use Rattle.paper.specs.Grammar.{Tree, truth, number, key, field, attribute, prefixed, joined, compared, place_of, parsed}
-use Rattle.paper.specs.Sentences.{signAt}
+use Rattle.paper.specs.Sentences.{sign_at}
 use Rattle.paper.specs.Places.{Everywhere, Rising}
 use Rattle.paper.specs.Calls.{tree}
 use Rattle.paper.proofs.Stages.{bind_ok}
-use Rattle.paper.proofs.Refusals.{read-is-valid}
-use Rattle.paper.proofs.Offsets.{offsets-rise}
-use Rattle.paper.proofs.Phrases.{HandedOn, valid-has}
+use Rattle.paper.proofs.Refusals.{read_is_valid}
+use Rattle.paper.proofs.Offsets.{offsets_rise}
+use Rattle.paper.proofs.Phrases.{HandedOn, valid_has}
 
 abbrev Apart : Tree → Tree → Type 0
 Apart l r = Everywhere (λ p. Everywhere (λ q. p < q) r) l
@@ -30,15 +30,15 @@ InOrder (joined at o l r) = Apart l r × InOrder l × InOrder r
 InOrder (compared at c l r) = Apart l r × InOrder l × InOrder r
 
 -- a tree's own place is one of its places
-pub root-place : (P : ℕ → Type 0) (t : Tree) → Everywhere P t → P (place_of t)
-root-place P (truth at b) h = h
-root-place P (number at n) h = h
-root-place P (key at w) h = h
-root-place P (field at w to f) h = h.0
-root-place P (attribute at to f) h = h.0
-root-place P (prefixed at o t) h = h.0
-root-place P (joined at o l r) h = h.0
-root-place P (compared at c l r) h = h.0
+pub root_place : (P : ℕ → Type 0) (t : Tree) → Everywhere P t → P (place_of t)
+root_place P (truth at b) h = h
+root_place P (number at n) h = h
+root_place P (key at w) h = h
+root_place P (field at w to f) h = h.0
+root_place P (attribute at to f) h = h.0
+root_place P (prefixed at o t) h = h.0
+root_place P (joined at o l r) h = h.0
+root_place P (compared at c l r) h = h.0
 
 pub everywhere : (P Q : ℕ → Type 0) → ((p : ℕ) → P p → Q p) → (t : Tree) → Everywhere P t → Everywhere Q t
 everywhere P Q f (truth at b) h = f at h
@@ -117,43 +117,43 @@ between l r ls rs u from below h g rising =
       apart = apart from m.mid (suc u.at) below l r (omega (arith, m.back.0)) a.within b.within;
     }
 
-handed-on : HandedOn Fit
-handed-on =
+handed_on : HandedOn Fit
+handed_on =
     record {
-      of-truth = λ at b w from below h. record { within = (h.0, h.1); ordered = tt };
-      of-numeral = λ at n from below h. record { within = (h.0, h.1); ordered = tt };
-      of-address = λ at w a b c q n from below h. record { within = (h.0, h.1); ordered = tt };
-      of-key = λ at w from below h. record { within = (h.0, h.1); ordered = tt };
+      of_truth = λ at b w from below h. record { within = (h.0, h.1); ordered = tt };
+      of_numeral = λ at n from below h. record { within = (h.0, h.1); ordered = tt };
+      of_address = λ at w a b c q n from below h. record { within = (h.0, h.1); ordered = tt };
+      of_key = λ at w from below h. record { within = (h.0, h.1); ordered = tt };
       of_field = λ at w a to f from below h.
           record {
             within = ((h.0, h.1), (omega (arith, h.0, h.2.0, h.2.2.0), h.2.2.1));
             ordered = tt;
           };
-      of-attribute = λ at to f from below h.
+      of_attribute = λ at to f from below h.
           record { within = ((h.0, h.1), (omega (arith, h.0, h.2.0), h.2.1)); ordered = tt };
-      of-prefix = λ at o t ts g from below h.
+      of_prefix = λ at o t ts g from below h.
           let inner = looser (suc at) below from below t (omega (arith, h.0)) (le_refl below) (g (suc at) below h.2) in
           record { within = ((h.0, h.1), inner.within); ordered = inner.ordered };
-      of-parenthesis = λ at to t ts g from below h.
+      of_parenthesis = λ at to t ts g from below h.
           looser (suc at) below from below t (omega (arith, h.0)) (le_refl below)
-          (front_fits t ts (signAt to closing) (suc at) below g h.2);
-      of-join = λ at o l r ls rs g k from below h.
-          let b = between l r ls rs (signAt at (join o)) from below g k h in
+          (front_fits t ts (sign_at to closing) (suc at) below g h.2);
+      of_join = λ at o l r ls rs g k from below h.
+          let b = between l r ls rs (sign_at at (join o)) from below g k h in
           record {
             within = (b.here, b.left.within, b.right.within);
             ordered = (b.apart, b.left.ordered, b.right.ordered);
           };
-      of-comparison = λ at c l r ls rs g k from below h.
-          let b = between l r ls rs (signAt at (comparison c)) from below g k h in
+      of_comparison = λ at c l r ls rs g k from below h.
+          let b = between l r ls rs (sign_at at (comparison c)) from below g k h in
           record {
             within = (b.here, b.left.within, b.right.within);
             ordered = (b.apart, b.left.ordered, b.right.ordered);
           };
-      of-trailing = λ t ts u g from below h. front_fits t ts u from below g h;
+      of_trailing = λ t ts u g from below h. front_fits t ts u from below g h;
     }
 
-pub text_in-order : (text : List ℕ) (t : Tree) → tree text ≡ ok t → InOrder t
+pub text_in_order : (text : List ℕ) (t : Tree) → tree text ≡ ok t → InOrder t
 unfolding tree
-text_in-order text t h =
+text_in_order text t h =
     let (ts, cut, read) = bind_ok (tokens text) (parsed (length text)) t h in
-    (valid-has Fit handed-on t ts ((read-is-valid (length text) ts t).0 read) 0 (length text) (offsets-rise text ts cut)).ordered
+    (valid_has Fit handed_on t ts ((read_is_valid (length text) ts t).0 read) 0 (length text) (offsets_rise text ts cut)).ordered

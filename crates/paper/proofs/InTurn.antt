@@ -15,8 +15,8 @@ module _ (test : ℕ → Answer (Unit {0})) where
       let e : k + suc j ≡ suc k + j = omega arith in
       rw e (each_from n (suc k) j (bind_ok (test k) (λ _. in_turn test (suc k) n) tt h).2 (omega arith))
 
-  pub each-passes : (n : ℕ) → in_turn test 0 n ≡ ok tt → (k : ℕ) → k < n → test k ≡ ok tt
-  each-passes n h k l = let e : 0 + k ≡ k = omega arith in rw e at (each_from n 0 k h l)
+  pub each_passes : (n : ℕ) → in_turn test 0 n ≡ ok tt → (k : ℕ) → k < n → test k ≡ ok tt
+  each_passes n h k l = let e : 0 + k ≡ k = omega arith in rw e at (each_from n 0 k h l)
 
   all_from : (n k : ℕ) → ((j : ℕ) → j < k + n → test j ≡ ok tt) → in_turn test k n ≡ ok tt
   all_from zero k each = refl
@@ -33,8 +33,8 @@ module _ (test : ℕ → Answer (Unit {0})) where
   pub stops : (n k : ℕ) {m : ℕ} {i : Input} {at : ℕ} → k < n → test k ≡ refused m i at → in_turn test k (n - k) ≡ refused m i at
   stops n k l h = let e : n - k ≡ suc (n - (k + 1)) = omega arith in rw (e, h)
 
-  pub is-over : (n k : ℕ) → n ≤ k → in_turn test k (n - k) ≡ ok tt
-  is-over n k l = let e : n - k ≡ 0 = omega arith in rw e
+  pub is_over : (n k : ℕ) → n ≤ k → in_turn test k (n - k) ≡ ok tt
+  is_over n k l = let e : n - k ≡ 0 = omega arith in rw e
 
 -- tests that agree, one after another
 same_from : (f g : ℕ → Answer (Unit {0})) (n k : ℕ) → ((j : ℕ) → j < k + n → f j ≡ g j) → in_turn f k n ≡ in_turn g k n

@@ -8,22 +8,22 @@ use mathlib.Core.List.{List, [], ◌∷◌, ◌++◌, map, map-append}
 use lib.ListN.{take, drop, take-append-drop}
 use Rattle.paper.specs.Keys.{Key}
 use Rattle.paper.specs.Types.{Ty, same_ty}
-use Rattle.paper.specs.Code.{Skip, Instruction, Action, act, Walk, fails, ends, goOn, walk, typeAction, actionOf, skipOf}
-use Rattle.paper.specs.Loading.{sameTypes, sameAt, landsWell, checkFrom}
-use Rattle.paper.proofs.MeetingTypes.{same-types, same_self}
-use Rattle.paper.proofs.Walks.{walk-front}
+use Rattle.paper.specs.Code.{Skip, Instruction, Action, act, Walk, fails, ends, go_on, walk, type_action, action_of, skip_of}
+use Rattle.paper.specs.Loading.{same_types, same_at, lands_well, check_from}
+use Rattle.paper.proofs.MeetingTypes.{same_types_lem, same_self}
+use Rattle.paper.proofs.Walks.{walk_front}
 
 -- equal types held
 
-pub same-held : (s t : List Ty) → sameTypes s t ≡ true → s ≡ t
-same-held [] [] h = refl
-same-held [] (b ∷ t) h = absurd (false≢true h)
-same-held (a ∷ s) [] h = absurd (false≢true h)
-same-held (a ∷ s) (b ∷ t) h =
-    let p = (and-eq-true_iff (same_ty a b) (sameTypes s t)).0 h in
-    rw (same-types a b p.0, same-held s t p.1)
+pub same_held : (s t : List Ty) → same_types s t ≡ true → s ≡ t
+same_held [] [] h = refl
+same_held [] (b ∷ t) h = absurd (false≢true h)
+same_held (a ∷ s) [] h = absurd (false≢true h)
+same_held (a ∷ s) (b ∷ t) h =
+    let p = (and-eq-true_iff (same_ty a b) (same_types s t)).0 h in
+    rw (same_types_lem a b p.0, same_held s t p.1)
 
-pub held_same : (s : List Ty) → sameTypes s s ≡ true
+pub held_same : (s : List Ty) → same_types s s ≡ true
 held_same [] = refl
 held_same (a ∷ s) = rw (same_self a, held_same s)
 
@@ -40,48 +40,48 @@ pub never_ends : {A : Type 0} {i : ℕ} {t : List A} → fails i ≡ ends t → 
 never_ends {A} {i} {t} z = let o : ◌≡◌ {A = ℕ} 0 1 = cc in omega arith
 
 module _ (ks : List Key) where
-  abbrev pub onTypes : Option Instruction → Action Ty
-  onTypes x = actionOf (typeAction ks) x
+  abbrev pub on_types : Option Instruction → Action Ty
+  on_types x = action_of (type_action ks) x
 
   -- what stands after an instruction of code that passes
   pub record Passes (x : Option Instruction) (xs : List (Option Instruction)) (i : ℕ) (held t : List Ty) : Type 0 where
     pub later : List Ty
-    pub acts : act (onTypes x) held ≡ some later
-    pub lands : landsWell ks (skipOf x) xs later ≡ true
-    pub goes_on : checkFrom ks (i + 1) xs later ≡ ends t
+    pub acts : act (on_types x) held ≡ some later
+    pub lands : lands_well ks (skip_of x) xs later ≡ true
+    pub goes_on : check_from ks (i + 1) xs later ≡ ends t
 
   pub first_passes : (x : Option Instruction) (xs : List (Option Instruction)) (i : ℕ) (held t : List Ty)
-      → checkFrom ks i (x ∷ xs) held ≡ ends t → Passes x xs i held t
-  unfolding checkFrom
-  first_passes x xs i held t h = go (act (onTypes x) held) refl h
+      → check_from ks i (x ∷ xs) held ≡ ends t → Passes x xs i held t
+  unfolding check_from
+  first_passes x xs i held t h = go (act (on_types x) held) refl h
     where
-      landed : (later : List Ty) → act (onTypes x) held ≡ some later → (b : Bool) → landsWell ks (skipOf x) xs later ≡ b
-          → cond b (checkFrom ks (i + 1) xs later) (fails i) ≡ ends t → Passes x xs i held t
+      landed : (later : List Ty) → act (on_types x) held ≡ some later → (b : Bool) → lands_well ks (skip_of x) xs later ≡ b
+          → cond b (check_from ks (i + 1) xs later) (fails i) ≡ ends t → Passes x xs i held t
       landed later e true l p = record { later = later; acts = e; lands = l; goes_on = p }
       landed later e false l p = absurd (never_ends p)
 
-      go : (o : Option (List Ty)) → act (onTypes x) held ≡ o
-          → goOn i o (λ later. cond (landsWell ks (skipOf x) xs later) (checkFrom ks (i + 1) xs later) (fails i)) ≡ ends t
+      go : (o : Option (List Ty)) → act (on_types x) held ≡ o
+          → go_on i o (λ later. cond (lands_well ks (skip_of x) xs later) (check_from ks (i + 1) xs later) (fails i)) ≡ ends t
           → Passes x xs i held t
       go none e p = absurd (never_ends p)
-      go (some later) e p = landed later e (landsWell ks (skipOf x) xs later) refl p
+      go (some later) e p = landed later e (lands_well ks (skip_of x) xs later) refl p
 
   -- code that passes does so without its landings
-  pub check-walks : (xs : List (Option Instruction)) (i j : ℕ) (held t : List Ty) → checkFrom ks i xs held ≡ ends t
-      → walk j (map onTypes xs) held ≡ ends t
-  unfolding checkFrom walk
-  check-walks [] i j held t h = h
-  check-walks (x ∷ xs) i j held t h =
+  pub check_walks : (xs : List (Option Instruction)) (i j : ℕ) (held t : List Ty) → check_from ks i xs held ≡ ends t
+      → walk j (map on_types xs) held ≡ ends t
+  unfolding check_from walk
+  check_walks [] i j held t h = h
+  check_walks (x ∷ xs) i j held t h =
       let p = first_passes x xs i held t h in
-      rw p.acts (check-walks xs (i + 1) (j + 1) p.later t p.goes_on)
+      rw p.acts (check_walks xs (i + 1) (j + 1) p.later t p.goes_on)
 
   -- at its landing a skip finds the types that it left
-  pub landing : (s : Skip) (xs : List (Option Instruction)) (i : ℕ) (held t : List Ty) → landsWell ks (some s) xs held ≡ true
-      → checkFrom ks i xs held ≡ ends t → walk 0 (map onTypes (take s.over xs)) held ≡ ends held
+  pub landing : (s : Skip) (xs : List (Option Instruction)) (i : ℕ) (held t : List Ty) → lands_well ks (some s) xs held ≡ true
+      → check_from ks i xs held ≡ ends t → walk 0 (map on_types (take s.over xs)) held ≡ ends held
   landing s xs i held t l h =
       let front = take s.over xs in
       let rest = drop s.over xs in
-      let through : walk 0 (map onTypes (front ++ rest)) held ≡ ends t = rw (take-append-drop s.over xs) (check-walks xs i 0 held t h) in
-      let there = walk-front (map onTypes front) (map onTypes rest) 0 held t (rw (← map-append onTypes front rest) through) in
-      let same : sameTypes held there.0 ≡ true = sym (ap (sameAt held) there.1) ∙ l in
-      there.1 ∙ ap (λ v. ends v) (sym (same-held held there.0 same))
+      let through : walk 0 (map on_types (front ++ rest)) held ≡ ends t = rw (take-append-drop s.over xs) (check_walks xs i 0 held t h) in
+      let there = walk_front (map on_types front) (map on_types rest) 0 held t (rw (← map-append on_types front rest) through) in
+      let same : same_types held there.0 ≡ true = sym (ap (same_at held) there.1) ∙ l in
+      there.1 ∙ ap (λ v. ends v) (sym (same_held held there.0 same))

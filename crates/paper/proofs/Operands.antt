@@ -5,92 +5,92 @@ use mathlib.Core.Path.{refl}
 use mathlib.Core.List.{List, [], ◌∷◌, ◌++◌, append-nil}
 use Rattle.paper.specs.Tokens.{plain, Prefix, join, comparison, prefix, opening, closing, colons, Tok, word, numeral, string, sign, Token}
 use Rattle.paper.specs.Grammar.{Tree, number, attribute, prefixed, got, ends, deep, ◌>>>◌, Parser, Reader, closed, named, worded, operand}
-use Rattle.paper.specs.Sentences.{tokenAt, signAt, Operand, a-numeral, an-attribute, a-prefixed, a-parenthesis, by-prefix, by-parenthesis}
-use Rattle.paper.proofs.ParserTakes.{of_end, of-next, Kind, exact, deeper, Family, Begun, Says, Tells, stays, extend, bind}
-use Rattle.paper.proofs.Atoms.{Readers, closes-says, named-says, word-says}
+use Rattle.paper.specs.Sentences.{token_at, sign_at, Operand, a_numeral, an_attribute, a_prefixed, a_parenthesis, by_prefix, by_parenthesis}
+use Rattle.paper.proofs.ParserTakes.{of_end, of_next, Kind, exact, deeper, Family, Begun, Says, Tells, stays, extend, bind}
+use Rattle.paper.proofs.Atoms.{Readers, closes_says, named_says, word_says}
 
-abbrev zeroAt : Token
-zeroAt = tokenAt 0 (numeral (plain 0))
+abbrev zero_at : Token
+zero_at = token_at 0 (numeral (plain 0))
 
 module _ (reads : Kind → Reader) (readers : Readers reads) (inner outer : ℕ → Parser) (Inner Outer S : Family)
     (into : (k : Kind) (t : Tree) (ts : List Token) → Operand (reads k) (Inner k) (Outer k) t ts → S k t ts) where
   abbrev P : Parser
   P = operand (reads exact) inner outer
 
-  operand-begun : Begun S []
-  operand-begun k = (number 0 (plain 0), zeroAt ∷ [], into k _ _ (a-numeral 0 (plain 0)))
+  operand_begun : Begun S []
+  operand_begun k = (number 0 (plain 0), zero_at ∷ [], into k _ _ (a_numeral 0 (plain 0)))
 
   -- where a level opens
   module _
       (prefix-says : (at : ℕ) (o : Prefix) (us : List Token)
-      → Says P S (signAt at (prefix o) ∷ us) (inner at us >>> λ t vs. ends (got (prefixed at o t)) vs))
-      (opening-says : (at : ℕ) (us : List Token) → Says P S (signAt at opening ∷ us) (outer at us >>> closed)) where
-    operand-at : (at : ℕ) (x : Tok) (us : List Token) → Says P S (tokenAt at x ∷ us) (P (tokenAt at x ∷ us))
+      → Says P S (sign_at at (prefix o) ∷ us) (inner at us >>> λ t vs. ends (got (prefixed at o t)) vs))
+      (opening-says : (at : ℕ) (us : List Token) → Says P S (sign_at at opening ∷ us) (outer at us >>> closed)) where
+    operand_at_lem : (at : ℕ) (x : Tok) (us : List Token) → Says P S (token_at at x ∷ us) (P (token_at at x ∷ us))
     unfolding operand
-    operand-at at (word w) us =
-        extend P (worded (reads exact) at w) S (tokenAt at (word w) ∷ us) (tokenAt at (word w) ∷ []) us refl (λ vs _. refl)
-        (word-says reads readers Inner Outer S into at w us)
-    operand-at at (numeral n) us =
+    operand_at_lem at (word w) us =
+        extend P (worded (reads exact) at w) S (token_at at (word w) ∷ us) (token_at at (word w) ∷ []) us refl (λ vs _. refl)
+        (word_says reads readers Inner Outer S into at w us)
+    operand_at_lem at (numeral n) us =
         record {
-          taken = tokenAt at (numeral n) ∷ [];
+          taken = token_at at (numeral n) ∷ [];
           split = refl;
-          front = λ k. into k _ _ (a-numeral at n);
+          front = λ k. into k _ _ (a_numeral at n);
           local = λ vs _. refl;
         }
-    operand-at at (string q) us = stays (of-next _ λ ws. refl) operand-begun
-    operand-at at (sign (join j)) us = stays (of-next _ λ ws. refl) operand-begun
-    operand-at at (sign (comparison c)) us = stays (of-next _ λ ws. refl) operand-begun
-    operand-at at (sign (prefix o)) us = prefix-says at o us
-    operand-at at (sign opening) us = opening-says at us
-    operand-at at (sign closing) us = stays (of-next _ λ ws. refl) operand-begun
-    operand-at at (sign colons) us =
-        extend P (named (attribute at)) S (signAt at colons ∷ us) (signAt at colons ∷ []) us refl (λ vs _. refl)
-        (named-says (λ k t ws. S k t (signAt at colons ∷ ws)) (attribute at)
-        (λ k to f plain. into k _ _ (an-attribute at to f plain)) us)
+    operand_at_lem at (string q) us = stays (of_next _ λ ws. refl) operand_begun
+    operand_at_lem at (sign (join j)) us = stays (of_next _ λ ws. refl) operand_begun
+    operand_at_lem at (sign (comparison c)) us = stays (of_next _ λ ws. refl) operand_begun
+    operand_at_lem at (sign (prefix o)) us = prefix-says at o us
+    operand_at_lem at (sign opening) us = opening-says at us
+    operand_at_lem at (sign closing) us = stays (of_next _ λ ws. refl) operand_begun
+    operand_at_lem at (sign colons) us =
+        extend P (named (attribute at)) S (sign_at at colons ∷ us) (sign_at at colons ∷ []) us refl (λ vs _. refl)
+        (named_says (λ k t ws. S k t (sign_at at colons ∷ ws)) (attribute at)
+        (λ k to f plain. into k _ _ (an_attribute at to f plain)) us)
 
-    operand-says : (ts : List Token) → Says P S ts (P ts)
+    operand_says : (ts : List Token) → Says P S ts (P ts)
     unfolding operand
-    operand-says [] = stays (of_end _ refl) operand-begun
-    operand-says (u ∷ us) = operand-at u.at u.tok us
+    operand_says [] = stays (of_end _ refl) operand_begun
+    operand_says (u ∷ us) = operand_at_lem u.at u.tok us
 
-    operand-tells : Tells P S
-    operand-tells = record { says = operand-says }
+    operand_tells : Tells P S
+    operand_tells = record { says = operand_says }
 
 -- no level is left
 module _ (reads : Kind → Reader) (readers : Readers reads) (Inner Outer S : Family)
     (into : (k : Kind) (t : Tree) (ts : List Token) → Operand (reads k) (Inner k) (Outer k) t ts → S k t ts)
-    (one-inner : Inner deeper (number 0 (plain 0)) (zeroAt ∷ [])) (one-outer : Outer deeper (number 0 (plain 0)) (zeroAt ∷ [])) where
+    (one-inner : Inner deeper (number 0 (plain 0)) (zero_at ∷ [])) (one-outer : Outer deeper (number 0 (plain 0)) (zero_at ∷ [])) where
   abbrev lowest : Parser
   lowest = operand (reads exact) (λ at us. deep at) (λ at us. deep at)
 
   begun : Begun S []
-  begun = operand-begun reads readers (λ at us. deep at) (λ at us. deep at) Inner Outer S into
+  begun = operand_begun reads readers (λ at us. deep at) (λ at us. deep at) Inner Outer S into
 
-  lowest-prefix : (at : ℕ) (o : Prefix) (us : List Token) → Says lowest S (signAt at (prefix o) ∷ us) (deep at)
+  lowest_prefix : (at : ℕ) (o : Prefix) (us : List Token) → Says lowest S (sign_at at (prefix o) ∷ us) (deep at)
   unfolding operand
-  lowest-prefix at o us = (
-    signAt at (prefix o),
+  lowest_prefix at o us = (
+    sign_at at (prefix o),
     us,
     refl,
-    by-prefix at o,
-    stays (of-next _ λ ws. refl)
-        (begun, (prefixed at o (number 0 (plain 0)), zeroAt ∷ [], into deeper _ _ (a-prefixed at o one-inner))),
+    by_prefix at o,
+    stays (of_next _ λ ws. refl)
+        (begun, (prefixed at o (number 0 (plain 0)), zero_at ∷ [], into deeper _ _ (a_prefixed at o one-inner))),
   )
 
-  lowest-opening : (at : ℕ) (us : List Token) → Says lowest S (signAt at opening ∷ us) (deep at)
+  lowest_opening : (at : ℕ) (us : List Token) → Says lowest S (sign_at at opening ∷ us) (deep at)
   unfolding operand
-  lowest-opening at us = (
-    signAt at opening,
+  lowest_opening at us = (
+    sign_at at opening,
     us,
     refl,
-    by-parenthesis at,
-    stays (of-next _ λ ws. refl)
-        (begun, (number 0 (plain 0), zeroAt ∷ signAt 0 closing ∷ [], into deeper _ _ (a-parenthesis at 0 one-outer))),
+    by_parenthesis at,
+    stays (of_next _ λ ws. refl)
+        (begun, (number 0 (plain 0), zero_at ∷ sign_at 0 closing ∷ [], into deeper _ _ (a_parenthesis at 0 one-outer))),
   )
 
-  pub lowest-tells : Tells lowest S
-  lowest-tells =
-      operand-tells reads readers (λ at us. deep at) (λ at us. deep at) Inner Outer S into lowest-prefix lowest-opening
+  pub lowest_tells : Tells lowest S
+  lowest_tells =
+      operand_tells reads readers (λ at us. deep at) (λ at us. deep at) Inner Outer S into lowest_prefix lowest_opening
 
 -- a level more than p and q have
 module _ (reads : Kind → Reader) (readers : Readers reads) (p q : Parser) (Inner Outer S : Family)
@@ -99,24 +99,24 @@ module _ (reads : Kind → Reader) (readers : Readers reads) (p q : Parser) (Inn
   abbrev higher : Parser
   higher = operand (reads exact) (λ at. p) (λ at. q)
 
-  higher-prefix : (at : ℕ) (o : Prefix) (us : List Token)
-      → Says higher S (signAt at (prefix o) ∷ us) (p us >>> λ t vs. ends (got (prefixed at o t)) vs)
+  higher_prefix : (at : ℕ) (o : Prefix) (us : List Token)
+      → Says higher S (sign_at at (prefix o) ∷ us) (p us >>> λ t vs. ends (got (prefixed at o t)) vs)
   unfolding operand
-  higher-prefix at o us =
-      extend higher (λ vs. p vs >>> λ t vs. ends (got (prefixed at o t)) vs) S (signAt at (prefix o) ∷ us)
-      (signAt at (prefix o) ∷ []) us refl (λ vs _. refl)
-      (bind p (λ t vs. ends (got (prefixed at o t)) vs) Inner (λ k t ws. S k t (signAt at (prefix o) ∷ ws))
-      (λ k t vs h. (prefixed at o t, [], rw append-nil (into k _ _ (a-prefixed at o h)))) us
-      (λ t vs us _ h. stays (λ ws _. refl) (λ k. rw append-nil (into k _ _ (a-prefixed at o (h k))))) (inner-tells.says us))
+  higher_prefix at o us =
+      extend higher (λ vs. p vs >>> λ t vs. ends (got (prefixed at o t)) vs) S (sign_at at (prefix o) ∷ us)
+      (sign_at at (prefix o) ∷ []) us refl (λ vs _. refl)
+      (bind p (λ t vs. ends (got (prefixed at o t)) vs) Inner (λ k t ws. S k t (sign_at at (prefix o) ∷ ws))
+      (λ k t vs h. (prefixed at o t, [], rw append-nil (into k _ _ (a_prefixed at o h)))) us
+      (λ t vs us _ h. stays (λ ws _. refl) (λ k. rw append-nil (into k _ _ (a_prefixed at o (h k))))) (inner-tells.says us))
 
-  higher-opening : (at : ℕ) (us : List Token) → Says higher S (signAt at opening ∷ us) (q us >>> closed)
+  higher_opening : (at : ℕ) (us : List Token) → Says higher S (sign_at at opening ∷ us) (q us >>> closed)
   unfolding operand
-  higher-opening at us =
-      extend higher (λ vs. q vs >>> closed) S (signAt at opening ∷ us) (signAt at opening ∷ []) us refl (λ vs _. refl)
-      (bind q closed Outer (λ k t ws. S k t (signAt at opening ∷ ws))
-      (λ k t vs h. (t, signAt 0 closing ∷ [], into k _ _ (a-parenthesis at 0 h))) us
-      (λ t vs us _ h. closes-says (λ k r ws. S k r (signAt at opening ∷ vs ++ ws)) t
-      (λ k to. into k _ _ (a-parenthesis at to (h k))) us) (outer_tells.says us))
+  higher_opening at us =
+      extend higher (λ vs. q vs >>> closed) S (sign_at at opening ∷ us) (sign_at at opening ∷ []) us refl (λ vs _. refl)
+      (bind q closed Outer (λ k t ws. S k t (sign_at at opening ∷ ws))
+      (λ k t vs h. (t, sign_at 0 closing ∷ [], into k _ _ (a_parenthesis at 0 h))) us
+      (λ t vs us _ h. closes_says (λ k r ws. S k r (sign_at at opening ∷ vs ++ ws)) t
+      (λ k to. into k _ _ (a_parenthesis at to (h k))) us) (outer_tells.says us))
 
-  pub higher-tells : Tells higher S
-  higher-tells = operand-tells reads readers (λ at. p) (λ at. q) Inner Outer S into higher-prefix higher-opening
+  pub higher_tells : Tells higher S
+  higher_tells = operand_tells reads readers (λ at. p) (λ at. q) Inner Outer S into higher_prefix higher_opening

@@ -6,8 +6,8 @@ use mathlib.Core.Option.{Option, none, some, some-injective, none-ne-some}
 use lib.Dec.{eqb}
 use borrow.Author.Tests.{eqb-true, eq-eqb}
 use Rattle.paper.specs.Tokens.{Join, sequel, implies, or_else, andAlso, join, comparison, prefix, opening, closing, colons, Tok, word, numeral, string, sign, Token}
-use Rattle.paper.specs.Grammar.{Make, joined, joinNo, joins, compares}
-use Rattle.paper.specs.Sentences.{tokenAt, signAt, Operator, Joining, joining, Comparing, comparing}
+use Rattle.paper.specs.Grammar.{Make, joined, join_no, joins, compares}
+use Rattle.paper.specs.Sentences.{token_at, sign_at, Operator, Joining, joining, Comparing, comparing}
 
 -- a test of tokens finds exactly the tokens of an operator
 pub record Finds (fn : Token → Option Make) (op : Operator) : Type 0 where
@@ -20,56 +20,56 @@ join_of (suc zero) = implies
 join_of (suc (suc zero)) = or_else
 join_of (suc (suc (suc n))) = andAlso
 
-join-of-no : (o : Join) → join_of (joinNo o) ≡ o
+join_of_no : (o : Join) → join_of (join_no o) ≡ o
 unfolding join_of
-join-of-no sequel = refl
-join-of-no implies = refl
-join-of-no or_else = refl
-join-of-no andAlso = refl
+join_of_no sequel = refl
+join_of_no implies = refl
+join_of_no or_else = refl
+join_of_no andAlso = refl
 
-same-join : (i j : Join) → eqb (joinNo i) (joinNo j) ≡ true → i ≡ j
-same-join i j h = sym (join-of-no i) ∙ ap join_of (eqb-true _ _ h) ∙ join-of-no j
+same_join : (i j : Join) → eqb (join_no i) (join_no j) ≡ true → i ≡ j
+same_join i j h = sym (join_of_no i) ∙ ap join_of (eqb-true _ _ h) ∙ join_of_no j
 
-no-make : {A : Type 0} (make : Make) → none ≡ some make → A
-no-make make h = absurd (none-ne-some make h)
+no_make : {A : Type 0} (make : Make) → none ≡ some make → A
+no_make make h = absurd (none-ne-some make h)
 
-joining-here : (i j : Join) (at : ℕ) (make : Make) (b : Bool) → eqb (joinNo i) (joinNo j) ≡ b
-    → cond b (some (joined at i)) none ≡ some make → Joining j (signAt at (join i)) make
-joining-here i j at make true e h =
-    subst (λ (m : Make). Joining j (signAt at (join i)) m) (some-injective _ _ h) (rw (same-join i j e) (joining at))
-joining-here i j at make false e h = no-make make h
+joining_here : (i j : Join) (at : ℕ) (make : Make) (b : Bool) → eqb (join_no i) (join_no j) ≡ b
+    → cond b (some (joined at i)) none ≡ some make → Joining j (sign_at at (join i)) make
+joining_here i j at make true e h =
+    subst (λ (m : Make). Joining j (sign_at at (join i)) m) (some-injective _ _ h) (rw (same_join i j e) (joining at))
+joining_here i j at make false e h = no_make make h
 
-joins-said : (j : Join) (at : ℕ) (x : Tok) (make : Make) → joins j (tokenAt at x) ≡ some make → Joining j (tokenAt at x) make
-joins-said j at (word w) make h = no-make make h
-joins-said j at (numeral n) make h = no-make make h
-joins-said j at (string q) make h = no-make make h
-joins-said j at (sign (join i)) make h = joining-here i j at make (eqb (joinNo i) (joinNo j)) refl h
-joins-said j at (sign (comparison c)) make h = no-make make h
-joins-said j at (sign (prefix o)) make h = no-make make h
-joins-said j at (sign opening) make h = no-make make h
-joins-said j at (sign closing) make h = no-make make h
-joins-said j at (sign colons) make h = no-make make h
+joins_said : (j : Join) (at : ℕ) (x : Tok) (make : Make) → joins j (token_at at x) ≡ some make → Joining j (token_at at x) make
+joins_said j at (word w) make h = no_make make h
+joins_said j at (numeral n) make h = no_make make h
+joins_said j at (string q) make h = no_make make h
+joins_said j at (sign (join i)) make h = joining_here i j at make (eqb (join_no i) (join_no j)) refl h
+joins_said j at (sign (comparison c)) make h = no_make make h
+joins_said j at (sign (prefix o)) make h = no_make make h
+joins_said j at (sign opening) make h = no_make make h
+joins_said j at (sign closing) make h = no_make make h
+joins_said j at (sign colons) make h = no_make make h
 
-joins-heard : (j : Join) (u : Token) (make : Make) → Joining j u make → joins j u ≡ some make
-joins-heard j u make (joining at) = rw (eq-eqb (joinNo j) (joinNo j) refl)
+joins_heard : (j : Join) (u : Token) (make : Make) → Joining j u make → joins j u ≡ some make
+joins_heard j u make (joining at) = rw (eq-eqb (join_no j) (join_no j) refl)
 
-pub joins-finds : (j : Join) → Finds (joins j) (Joining j)
-joins-finds j = record { said = λ u make h. joins-said j u.at u.tok make h; heard = joins-heard j }
+pub joins_finds : (j : Join) → Finds (joins j) (Joining j)
+joins_finds j = record { said = λ u make h. joins_said j u.at u.tok make h; heard = joins_heard j }
 
-compares-said : (at : ℕ) (x : Tok) (make : Make) → compares (tokenAt at x) ≡ some make → Comparing (tokenAt at x) make
-compares-said at (word w) make h = no-make make h
-compares-said at (numeral n) make h = no-make make h
-compares-said at (string q) make h = no-make make h
-compares-said at (sign (join i)) make h = no-make make h
-compares-said at (sign (comparison c)) make h =
-    subst (λ (m : Make). Comparing (signAt at (comparison c)) m) (some-injective _ _ h) (comparing at c)
-compares-said at (sign (prefix o)) make h = no-make make h
-compares-said at (sign opening) make h = no-make make h
-compares-said at (sign closing) make h = no-make make h
-compares-said at (sign colons) make h = no-make make h
+compares_said : (at : ℕ) (x : Tok) (make : Make) → compares (token_at at x) ≡ some make → Comparing (token_at at x) make
+compares_said at (word w) make h = no_make make h
+compares_said at (numeral n) make h = no_make make h
+compares_said at (string q) make h = no_make make h
+compares_said at (sign (join i)) make h = no_make make h
+compares_said at (sign (comparison c)) make h =
+    subst (λ (m : Make). Comparing (sign_at at (comparison c)) m) (some-injective _ _ h) (comparing at c)
+compares_said at (sign (prefix o)) make h = no_make make h
+compares_said at (sign opening) make h = no_make make h
+compares_said at (sign closing) make h = no_make make h
+compares_said at (sign colons) make h = no_make make h
 
-compares-heard : (u : Token) (make : Make) → Comparing u make → compares u ≡ some make
-compares-heard u make (comparing at c) = refl
+compares_heard : (u : Token) (make : Make) → Comparing u make → compares u ≡ some make
+compares_heard u make (comparing at c) = refl
 
-pub compares-finds : Finds compares Comparing
-compares-finds = record { said = λ u make h. compares-said u.at u.tok make h; heard = compares-heard }
+pub compares_finds : Finds compares Comparing
+compares_finds = record { said = λ u make h. compares_said u.at u.tok make h; heard = compares_heard }

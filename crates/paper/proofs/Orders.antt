@@ -7,7 +7,7 @@ use mathlib.Core.Logic.{◌⊎◌, inl, inr, ◌↔◌}
 use mathlib.Core.List.{List, [], ◌∷◌, ◌++◌, map, head-eq_of_cons-eq, tail-eq_of_cons-eq}
 use lib.ListN.{length}
 use Rattle.paper.specs.BlocksRoundTrip.{All}
-use Rattle.paper.specs.Comparing.{TakenOut, at_head, past, InSomeOrder, all-used, then-use}
+use Rattle.paper.specs.Comparing.{TakenOut, at_head, past, InSomeOrder, all_used, then_use}
 
 module _ {A : Type 0} where
   -- one element
@@ -24,9 +24,9 @@ module _ {A : Type 0} where
   all_but P (at_head xs) all = all
   all_but P (past y p) all = let (here, others) = all_but P p all.1 in (here, (all.0, others))
 
-  pub all-with : {x : A} {ys rest : List A} (P : A → Type 0) → TakenOut x ys rest → P x → All P rest → All P ys
-  all-with P (at_head xs) here others = (here, others)
-  all-with P (past y p) here others = (others.0, all-with P p here others.1)
+  pub all_with : {x : A} {ys rest : List A} (P : A → Type 0) → TakenOut x ys rest → P x → All P rest → All P ys
+  all_with P (at_head xs) here others = (here, others)
+  all_with P (past y p) here others = (others.0, all_with P p here others.1)
 
   -- two, one after the other
   swapped : {x y : A} {xs ys zs : List A} → TakenOut x xs ys → TakenOut y ys zs → (ws : List A) × TakenOut y xs ws × TakenOut x ws zs
@@ -51,57 +51,57 @@ module _ {A : Type 0} where
 
   -- all of them
 
-  pub as-it-stands : (xs : List A) → InSomeOrder xs xs
-  as-it-stands [] = all-used
-  as-it-stands (x ∷ xs) = then-use x (at_head xs) (as-it-stands xs)
+  pub as_it_stands : (xs : List A) → InSomeOrder xs xs
+  as_it_stands [] = all_used
+  as_it_stands (x ∷ xs) = then_use x (at_head xs) (as_it_stands xs)
 
   pub as_many : {xs ys : List A} → InSomeOrder xs ys → length xs ≡ length ys
-  as_many all-used = refl
-  as_many (then-use x p o) = omega (arith, as_many o, one_fewer p)
+  as_many all_used = refl
+  as_many (then_use x p o) = omega (arith, as_many o, one_fewer p)
 
-  pub all-kept : {xs ys : List A} (P : A → Type 0) → InSomeOrder xs ys → All P xs ↔ All P ys
-  all-kept P all-used = (λ all. all, λ all. all)
-  all-kept P (then-use x p o) =
-      let (there, back) = all-kept P o in
-      (λ all. all-with P p all.0 (there all.1), λ all. let (here, others) = all_but P p all in (here, back others))
+  pub all_kept : {xs ys : List A} (P : A → Type 0) → InSomeOrder xs ys → All P xs ↔ All P ys
+  all_kept P all_used = (λ all. all, λ all. all)
+  all_kept P (then_use x p o) =
+      let (there, back) = all_kept P o in
+      (λ all. all_with P p all.0 (there all.1), λ all. let (here, others) = all_but P p all in (here, back others))
 
   -- one put back into both
   pub put_back : {x : A} {xs ys xs' ys' : List A} → TakenOut x xs xs' → TakenOut x ys ys' → InSomeOrder xs' ys' → InSomeOrder xs ys
-  put_back {x} (at_head xs) q o = then-use x q o
-  put_back (past y p) q (then-use z r o) = let (ws, first, second) = swapped q r in then-use y first (put_back p second o)
+  put_back {x} (at_head xs) q o = then_use x q o
+  put_back (past y p) q (then_use z r o) = let (ws, first, second) = swapped q r in then_use y first (put_back p second o)
 
   -- what is taken out of the one can be taken out of the other
 
-  pub taken-right : {x : A} {xs ys xs' : List A} → TakenOut x xs xs' → InSomeOrder xs ys → (ys' : List A) × TakenOut x ys ys' × InSomeOrder xs' ys'
-  taken-right (at_head xs) (then-use {rest = rest} x p o) = (rest, p, o)
-  taken-right (past y q) (then-use z p o) =
-      let (rest, taken, others) = taken-right q o in
+  pub taken_right : {x : A} {xs ys xs' : List A} → TakenOut x xs xs' → InSomeOrder xs ys → (ys' : List A) × TakenOut x ys ys' × InSomeOrder xs' ys'
+  taken_right (at_head xs) (then_use {rest = rest} x p o) = (rest, p, o)
+  taken_right (past y q) (then_use z p o) =
+      let (rest, taken, others) = taken_right q o in
       let (ws, first, second) = swapped p taken in
-      (ws, first, then-use y second others)
+      (ws, first, then_use y second others)
 
-  taken-left : {x : A} {xs ys ys' : List A} → InSomeOrder xs ys → TakenOut x ys ys' → (xs' : List A) × TakenOut x xs xs' × InSomeOrder xs' ys'
-  taken-left {x} {ys' = ys'} (then-use {xs = xs} {rest = rest} y p o) q = go (apart p q) (λ ws r. taken-left o r)
+  taken_left : {x : A} {xs ys ys' : List A} → InSomeOrder xs ys → TakenOut x ys ys' → (xs' : List A) × TakenOut x xs xs' × InSomeOrder xs' ys'
+  taken_left {x} {ys' = ys'} (then_use {xs = xs} {rest = rest} y p o) q = go (apart p q) (λ ws r. taken_left o r)
     where
       go : Apart y x rest ys' → ((ws : List A) → TakenOut x rest ws → (xs' : List A) × TakenOut x xs xs' × InSomeOrder xs' ws)
           → (xs' : List A) × TakenOut x (y ∷ xs) xs' × InSomeOrder xs' ys'
       go (inl (e, f)) later = (xs, subst (λ (z : A). TakenOut z (y ∷ xs) xs) e (at_head xs), subst (InSomeOrder xs) f o)
       go (inr (ws, first, second)) later =
           let (others, taken, left) = later ws first in
-          (y ∷ others, past y taken, then-use y second left)
+          (y ∷ others, past y taken, then_use y second left)
 
   -- and it does not matter which of its like
-  pub taken-both : {x : A} {xs ys xs' ys' : List A} → TakenOut x xs xs' → TakenOut x ys ys' → InSomeOrder xs ys → InSomeOrder xs' ys'
-  taken-both {x} {xs' = xs'} {ys' = ys'} p q o =
-      let (rest, taken, left) = taken-right p o in
+  pub taken_both : {x : A} {xs ys xs' ys' : List A} → TakenOut x xs xs' → TakenOut x ys ys' → InSomeOrder xs ys → InSomeOrder xs' ys'
+  taken_both {x} {xs' = xs'} {ys' = ys'} p q o =
+      let (rest, taken, left) = taken_right p o in
       go rest left (apart taken q)
     where
       go : (rest : List A) → InSomeOrder xs' rest → Apart x x rest ys' → InSomeOrder xs' ys'
       go rest left (inl (e, f)) = subst (InSomeOrder xs') f left
-      go rest left (inr (ws, first, second)) = let (others, there, less) = taken-left left first in put_back there second less
+      go rest left (inr (ws, first, second)) = let (others, there, less) = taken_left left first in put_back there second less
 
   -- a list of one
-  pub one-used : {x : A} {ys : List A} → InSomeOrder (x ∷ []) ys → ys ≡ x ∷ []
-  one-used (then-use x p all-used) = alone p refl
+  pub one_used : {x : A} {ys : List A} → InSomeOrder (x ∷ []) ys → ys ≡ x ∷ []
+  one_used (then_use x p all_used) = alone p refl
     where
       alone : {ys rest : List A} → TakenOut x ys rest → rest ≡ [] → ys ≡ x ∷ []
       alone (at_head xs) e = ap (λ (l : List A). x ∷ l) e
@@ -110,13 +110,13 @@ module _ {A : Type 0} where
 -- of images
 
 module _ {A B : Type 0} (f : A → B) where
-  taken-image : {x : A} {ys rest : List A} → TakenOut x ys rest → TakenOut (f x) (map f ys) (map f rest)
-  taken-image (at_head xs) = at_head (map f xs)
-  taken-image (past y p) = past (f y) (taken-image p)
+  taken_image : {x : A} {ys rest : List A} → TakenOut x ys rest → TakenOut (f x) (map f ys) (map f rest)
+  taken_image (at_head xs) = at_head (map f xs)
+  taken_image (past y p) = past (f y) (taken_image p)
 
-  pub order-image : {xs ys : List A} → InSomeOrder xs ys → InSomeOrder (map f xs) (map f ys)
-  order-image all-used = all-used
-  order-image (then-use x p o) = then-use (f x) (taken-image p) (order-image o)
+  pub order_image : {xs ys : List A} → InSomeOrder xs ys → InSomeOrder (map f xs) (map f ys)
+  order_image all_used = all_used
+  order_image (then_use x p o) = then_use (f x) (taken_image p) (order_image o)
 
   -- an image that is taken out is that of an element
   pub record Taken (ys : List A) (b : B) (rest : List B) : Type 0 where
@@ -135,5 +135,5 @@ module _ {A B : Type 0} (f : A → B) where
       let t = taken_of p ys (tail-eq_of_cons-eq e) in
       record { one = t.one; others = y ∷ t.others; out = past y t.out; is = t.is; are = ap₂ ◌∷◌ (head-eq_of_cons-eq e) t.are }
 
-  pub image-taken : {b : B} {rest : List B} (ys : List A) → TakenOut b (map f ys) rest → Taken ys b rest
-  image-taken ys p = taken_of p ys refl
+  pub image_taken : {b : B} {rest : List B} (ys : List A) → TakenOut b (map f ys) rest → Taken ys b rest
+  image_taken ys p = taken_of p ys refl

@@ -4,37 +4,37 @@ use mathlib.Core.Path.{◌≡◌, refl, ap, subst, ◌∙◌}
 use mathlib.Core.List.{List, [], ◌∷◌, ◌++◌}
 use lib.ListN.{take, drop, take-append-drop}
 use Rattle.paper.specs.Answers.{Answer}
-use Rattle.paper.specs.Tokens.{Token, Scan, blank, token, octalNumeral, noToken, tooLarge, taken, scan, onward, tokensBy, tokensFrom, tokens, mostTokens}
-use Rattle.paper.specs.Fixing.{piece_for, fixedFrom, fixed}
+use Rattle.paper.specs.Tokens.{Token, Scan, blank, token, octal_numeral, no_token, tooLarge, taken, scan, onward, tokens_by, tokens_from, tokens, most_tokens}
+use Rattle.paper.specs.Fixing.{piece_for, fixed_from, fixed}
 use Rattle.paper.specs.FixedRight.{OthersStay}
-use Rattle.paper.proofs.Stages.{Of, of-so, of-bind}
+use Rattle.paper.proofs.Stages.{Of, of_so, of_bind}
 
 -- the text from a byte on, of which n bytes are taken, stays as it is, where an answer says that the rest is cut
 abbrev Stays : ℕ → List ℕ → Answer (List Token) → Type 0
-Stays n s a = Of (λ ts. fixedFrom n s ≡ drop n s) a
+Stays n s a = Of (λ ts. fixed_from n s ≡ drop n s) a
 
 module _ (b : ℕ) (s : List ℕ) where
-  copied : (n : ℕ) → fixedFrom n s ≡ drop n s → (b ∷ take n s) ++ fixedFrom n s ≡ b ∷ s
+  copied : (n : ℕ) → fixed_from n s ≡ drop n s → (b ∷ take n s) ++ fixed_from n s ≡ b ∷ s
   copied n h = ap (λ r. b ∷ (take n s ++ r)) h ∙ ap (λ r. b ∷ r) (take-append-drop n s)
 
-  piece-stays : (c : Scan) (at room : ℕ) (go : ℕ → ℕ → Answer (List Token)) → ((n left : ℕ) → Stays n s (go n left))
-      → Of (λ ts. piece_for c b s ++ fixedFrom (taken c) s ≡ b ∷ s) (onward c at room go)
-  piece-stays (blank n) at room go h = of-so _ _ (go n room) (h n room) (λ ts k. copied n k)
-  piece-stays (token t n) at zero go h = tt
-  piece-stays (token t n) at (suc room) go h = of-bind _ _ (go n room) _ (h n room) (λ ts k. copied n k)
-  piece-stays (octalNumeral v n) at zero go h = tt
-  piece-stays (octalNumeral v n) at (suc room) go h = tt
-  piece-stays noToken at room go h = tt
-  piece-stays tooLarge at room go h = tt
+  piece_stays : (c : Scan) (at room : ℕ) (go : ℕ → ℕ → Answer (List Token)) → ((n left : ℕ) → Stays n s (go n left))
+      → Of (λ ts. piece_for c b s ++ fixed_from (taken c) s ≡ b ∷ s) (onward c at room go)
+  piece_stays (blank n) at room go h = of_so _ _ (go n room) (h n room) (λ ts k. copied n k)
+  piece_stays (token t n) at zero go h = tt
+  piece_stays (token t n) at (suc room) go h = of_bind _ _ (go n room) _ (h n room) (λ ts k. copied n k)
+  piece_stays (octal_numeral v n) at zero go h = tt
+  piece_stays (octal_numeral v n) at (suc room) go h = tt
+  piece_stays no_token at room go h = tt
+  piece_stays tooLarge at room go h = tt
 
-from-stays : (s : List ℕ) (n at room : ℕ) → Stays n s (tokensFrom n at room s)
-unfolding fixedFrom tokensBy
-from-stays [] zero at room = refl
-from-stays [] (suc n) at room = refl
-from-stays (b ∷ s) (suc n) at room = from-stays s n (suc at) room
-from-stays (b ∷ s) zero at room =
-    piece-stays b s (scan b s) at room (λ n left. tokensFrom n (suc at) left s) (λ n left. from-stays s n (suc at) left)
+from_stays : (s : List ℕ) (n at room : ℕ) → Stays n s (tokens_from n at room s)
+unfolding fixed_from tokens_by
+from_stays [] zero at room = refl
+from_stays [] (suc n) at room = refl
+from_stays (b ∷ s) (suc n) at room = from_stays s n (suc at) room
+from_stays (b ∷ s) zero at room =
+    piece_stays b s (scan b s) at room (λ n left. tokens_from n (suc at) left s) (λ n left. from_stays s n (suc at) left)
 
-pub others-stay : OthersStay
+pub others_stay : OthersStay
 unfolding fixed tokens
-others-stay text ts e = subst (Stays 0 text) e (from-stays text 0 0 mostTokens)
+others_stay text ts e = subst (Stays 0 text) e (from_stays text 0 0 most_tokens)

@@ -20,9 +20,9 @@ same_after (t ∷ ts) h = same_next
 pub of_end : (P : List Token → Type 0) → P [] → (vs : List Token) → Same [] vs → P vs
 of_end P h [] same_end = h
 
-pub of-next : (P : List Token → Type 0) {u : Token} {us : List Token}
+pub of_next : (P : List Token → Type 0) {u : Token} {us : List Token}
     → ((ws : List Token) → P (u ∷ ws)) → (vs : List Token) → Same (u ∷ us) vs → P vs
-of-next P h (u ∷ vs) same_next = h vs
+of_next P h (u ∷ vs) same_next = h vs
 
 -- the phrases that a parser reads, and those with one level more, or with any address strings
 pub data Kind : Type 0 where
@@ -71,15 +71,15 @@ stays same front = record { taken = []; split = refl; front = front; local = sam
 
 -- a parser that goes on as another one does, after some first tokens
 
-continues-after : (S : Phrases) (head taken : List Token)
+continues_after : (S : Phrases) (head taken : List Token)
     → Continues (λ t ws. S t (head ++ ws)) taken → Continues S (head ++ taken)
-continues-after S head taken (t, rest, h) = (t, rest, rw append_assoc h)
+continues_after S head taken (t, rest, h) = (t, rest, rw append_assoc h)
 
 module _ (q f : Parser) (R : Family) (ts head us : List Token) (split : ts ≡ head ++ us)
     (same : (vs : List Token) → Same us vs → q (head ++ vs) ≡ f vs) where
-  takes-after : {ws : List Token} {answer : List Token → Out} {F G : List Token → Type 0}
+  takes_after : {ws : List Token} {answer : List Token → Out} {F G : List Token → Type 0}
       → ((taken : List Token) → F taken → G (head ++ taken)) → Takes f us ws answer F → Takes q ts ws answer G
-  takes-after {ws} {answer} front h =
+  takes_after {ws} {answer} front h =
       record {
         taken = head ++ h.taken;
         split = split ∙ ap (head ++◌) h.split ∙ sym (append_assoc head h.taken ws);
@@ -88,7 +88,7 @@ module _ (q f : Parser) (R : Family) (ts head us : List Token) (split : ts ≡ h
       }
 
   begun : (taken : List Token) → Begun (λ k t ws. R k t (head ++ ws)) taken → Begun R (head ++ taken)
-  begun taken h k = continues-after (R k) head taken (h k)
+  begun taken h k = continues_after (R k) head taken (h k)
 
   breaks : (k : Kind) (answer : ℕ → Out) (at : ℕ)
       → Breaks f (λ k t ws. R k t (head ++ ws)) us k answer at → Breaks q R ts k answer at
@@ -97,13 +97,13 @@ module _ (q f : Parser) (R : Family) (ts head us : List Token) (split : ts ≡ h
     h.1,
     h.2,
     h.3,
-    takes-after
-        (λ taken g. (begun taken g.0, rw append_assoc (continues-after (R k) head (taken ++ (h.0 ∷ [])) g.1))) h.4,
+    takes_after
+        (λ taken g. (begun taken g.0, rw append_assoc (continues_after (R k) head (taken ++ (h.0 ∷ [])) g.1))) h.4,
   )
 
   extended : (o : Out) → Says f (λ k t ws. R k t (head ++ ws)) us o → Says q R ts o
-  extended (ends (got t) ws) h = takes-after (λ taken g. g) h
-  extended (ends stuck ws) h = takes-after begun h
+  extended (ends (got t) ws) h = takes_after (λ taken g. g) h
+  extended (ends stuck ws) h = takes_after begun h
   extended (deep at) h = breaks deeper deep at h
   extended (bad at) h = breaks laxer bad at h
 
@@ -119,9 +119,9 @@ module _ (p : Parser) (f : Tree → List Token → Out) (S R : Family)
       let (r, more, g) = wide k t (taken ++ rest) h in
       (r, rest ++ more, rw append_assoc at g)
 
-  breaks-first : (k : Kind) (answer : ℕ → Out) (at : ℕ) (ts : List Token) → (answer at >>> f) ≡ answer at
+  breaks_first : (k : Kind) (answer : ℕ → Out) (at : ℕ) (ts : List Token) → (answer at >>> f) ≡ answer at
       → Breaks p S ts k answer at → Breaks (λ vs. p vs >>> f) R ts k answer at
-  breaks-first k answer at ts e (u, us, place, cause, h) = (
+  breaks_first k answer at ts e (u, us, place, cause, h) = (
     u,
     us,
     place,
@@ -148,8 +148,8 @@ module _ (p : Parser) (f : Tree → List Token → Out) (S R : Family)
           front = λ k. begins k h.taken (h.front k);
           local = λ vs s. ap (◌>>> f) (h.local vs s);
         }
-    bound (deep at) h = breaks-first deeper deep at ts refl h
-    bound (bad at) h = breaks-first laxer bad at ts refl h
+    bound (deep at) h = breaks_first deeper deep at ts refl h
+    bound (bad at) h = breaks_first laxer bad at ts refl h
 
     pub bind : Says p S ts (p ts) → Says (λ vs. p vs >>> f) R ts (p ts >>> f)
     bind h = bound (p ts) h

@@ -13,76 +13,76 @@ use Rattle.paper.specs.Tokens.{Tok, Token, token, tokens}
 use Rattle.paper.specs.Grammar.{Tree, truth, number, key, field, attribute, prefixed, joined, compared, place_of, parsed}
 use Rattle.paper.specs.Places.{Everywhere, Rising}
 use Rattle.paper.specs.BlocksRoundTrip.{All}
-use Rattle.paper.specs.Faults.{scanAt, Cut, at-start, a-blank, a-token}
-use Rattle.paper.specs.Parts.{openAfter, inFront, divides, between, nonEmpty, topLevel, tokenEnd, last_of, stretchOf, Part}
+use Rattle.paper.specs.Faults.{scan_at, Cut, at_start, a_blank, a_token}
+use Rattle.paper.specs.Parts.{open_after, in_front, divides, between, non_empty, top_level, token_end, last_of, stretch_of, Part}
 use Rattle.paper.specs.PartsDecide.{PartIn, PartsInText, FewParts, AtMostParts}
 use Rattle.paper.proofs.Basics.{all_append}
-use Rattle.paper.proofs.Stages.{never-ok}
-use Rattle.paper.proofs.Nodes.{places-as-offsets}
-use Rattle.paper.proofs.ScansFit.{Fits, scan-fits}
-use Rattle.paper.proofs.Offsets.{sooner, offsets-rise}
-use Rattle.paper.proofs.TokenFaults.{tokens-are-cut}
-use Rattle.paper.proofs.TokenNumbers.{tokens-within}
-use Rattle.paper.proofs.PartsCut.{part_of, Made, no_part, a-part, parts-made}
+use Rattle.paper.proofs.Stages.{never_ok}
+use Rattle.paper.proofs.Nodes.{places_as_offsets}
+use Rattle.paper.proofs.ScansFit.{Fits, scan_fits}
+use Rattle.paper.proofs.Offsets.{sooner, offsets_rise}
+use Rattle.paper.proofs.TokenFaults.{tokens_are_cut}
+use Rattle.paper.proofs.TokenNumbers.{tokens_within}
+use Rattle.paper.proofs.PartsCut.{part_of, Made, no_part, a_part, parts_made}
 
 -- each token of a text ends in it
 
 module _ (text : List ℕ) where
   abbrev EndsIn : Token → Type 0
-  EndsIn u = tokenEnd text u.at ≤ length text
+  EndsIn u = token_end text u.at ≤ length text
 
-  token-ends : (at n : ℕ) (k : Tok) → at < length text → scanAt text at ≡ token k n → EndsIn (record { at = at; tok = k })
-  unfolding tokenEnd
-  token-ends at n k inside e =
+  token_ends : (at n : ℕ) (k : Tok) → at < length text → scan_at text at ≡ token k n → EndsIn (record { at = at; tok = k })
+  unfolding token_end
+  token_ends at n k inside e =
       let rest = drop (suc at) text in
-      let fits : n ≤ length rest = subst (Fits rest) e (scan-fits (byte_at text at) rest) in
+      let fits : n ≤ length rest = subst (Fits rest) e (scan_fits (byte_at text at) rest) in
       rw e (omega (arith, fits, length-drop (suc at) text))
 
-  tokens-end : (at : ℕ) (ts : List Token) → Cut text at ts → All EndsIn ts
-  tokens-end at ts at-start = tt
-  tokens-end at ts (a-blank {at = from} n cut inside e) = tokens-end from ts cut
-  tokens-end at ts (a-token {at = from} {ts = vs} k n cut inside e) =
-      all_append EndsIn vs (record { at = from; tok = k } ∷ []) (tokens-end from vs cut) (token-ends from n k inside e, tt)
+  tokens_end : (at : ℕ) (ts : List Token) → Cut text at ts → All EndsIn ts
+  tokens_end at ts at_start = tt
+  tokens_end at ts (a_blank {at = from} n cut inside e) = tokens_end from ts cut
+  tokens_end at ts (a_token {at = from} {ts = vs} k n cut inside e) =
+      all_append EndsIn vs (record { at = from; tok = k } ∷ []) (tokens_end from vs cut) (token_ends from n k inside e, tt)
 
 -- what all tokens have, those of each part have; and where their offsets rise, they rise in each part
 
 module _ (P : Token → Type 0) where
-  all-front : (u : Token) (ps : List (List Token)) → P u → All (All P) ps → All (All P) (inFront u ps)
-  all-front u [] h g = ((h, tt), tt)
-  all-front u (p ∷ ps) h g = ((h, g.0), g.1)
+  all_front : (u : Token) (ps : List (List Token)) → P u → All (All P) ps → All (All P) (in_front u ps)
+  all_front u [] h g = ((h, tt), tt)
+  all_front u (p ∷ ps) h g = ((h, g.0), g.1)
 
-  all-between : (depth : ℕ) (ts : List Token) → All P ts → All (All P) (between depth ts)
+  all_between : (depth : ℕ) (ts : List Token) → All P ts → All (All P) (between depth ts)
   unfolding between
-  all-between depth [] h = (tt, tt)
-  all-between depth (u ∷ us) h =
-      let later = openAfter depth u.tok in
-      go (divides depth u) (between later us) (all-between later us h.1)
+  all_between depth [] h = (tt, tt)
+  all_between depth (u ∷ us) h =
+      let later = open_after depth u.tok in
+      go (divides depth u) (between later us) (all_between later us h.1)
     where
-      go : (b : Bool) (rest : List (List Token)) → All (All P) rest → All (All P) (cond b ([] ∷ rest) (inFront u rest))
+      go : (b : Bool) (rest : List (List Token)) → All (All P) rest → All (All P) (cond b ([] ∷ rest) (in_front u rest))
       go true rest g = (tt, g)
-      go false rest g = all-front u rest h.0 g
+      go false rest g = all_front u rest h.0 g
 
 module _ (below : ℕ) where
-  all-sooner : (from later : ℕ) (ps : List (List Token)) → from ≤ later → All (Rising later below) ps → All (Rising from below) ps
-  all-sooner from later [] l h = tt
-  all-sooner from later (p ∷ ps) l h = (sooner from later below p l h.0, all-sooner from later ps l h.1)
+  all_sooner : (from later : ℕ) (ps : List (List Token)) → from ≤ later → All (Rising later below) ps → All (Rising from below) ps
+  all_sooner from later [] l h = tt
+  all_sooner from later (p ∷ ps) l h = (sooner from later below p l h.0, all_sooner from later ps l h.1)
 
-  rising-front : (from : ℕ) (u : Token) (ps : List (List Token)) → from ≤ u.at → u.at < below
-      → All (Rising (suc u.at) below) ps → All (Rising from below) (inFront u ps)
-  rising-front from u [] l h g = ((l, h, tt), tt)
-  rising-front from u (p ∷ ps) l h g = ((l, h, g.0), all-sooner from (suc u.at) ps (omega arith) g.1)
+  rising_front : (from : ℕ) (u : Token) (ps : List (List Token)) → from ≤ u.at → u.at < below
+      → All (Rising (suc u.at) below) ps → All (Rising from below) (in_front u ps)
+  rising_front from u [] l h g = ((l, h, tt), tt)
+  rising_front from u (p ∷ ps) l h g = ((l, h, g.0), all_sooner from (suc u.at) ps (omega arith) g.1)
 
-  rising-between : (depth from : ℕ) (ts : List Token) → Rising from below ts → All (Rising from below) (between depth ts)
+  rising_between : (depth from : ℕ) (ts : List Token) → Rising from below ts → All (Rising from below) (between depth ts)
   unfolding between
-  rising-between depth from [] h = (tt, tt)
-  rising-between depth from (u ∷ us) (l, inside, rises) =
-      let later = openAfter depth u.tok in
-      go (divides depth u) (between later us) (rising-between later (suc u.at) us rises)
+  rising_between depth from [] h = (tt, tt)
+  rising_between depth from (u ∷ us) (l, inside, rises) =
+      let later = open_after depth u.tok in
+      go (divides depth u) (between later us) (rising_between later (suc u.at) us rises)
     where
       go : (b : Bool) (rest : List (List Token)) → All (Rising (suc u.at) below) rest
-          → All (Rising from below) (cond b ([] ∷ rest) (inFront u rest))
-      go true rest g = (tt, all-sooner from (suc u.at) rest (omega arith) g)
-      go false rest g = rising-front from u rest l inside g
+          → All (Rising from below) (cond b ([] ∷ rest) (in_front u rest))
+      go true rest g = (tt, all_sooner from (suc u.at) rest (omega arith) g)
+      go false rest g = rising_front from u rest l inside g
 
 -- a part from its first token to its last
 
@@ -92,10 +92,10 @@ last_has P u (v ∷ us) h = last_has P v us h.1
 
 -- no token of it begins before the first, or after the last
 
-not-before : (from below : ℕ) (ts : List Token) → Rising from below ts → (v : Token) → Memᴰ v ts → from ≤ v.at
-not-before from below (u ∷ us) (l, inside, later) v (Memᴰ.head e) = rw e l
-not-before from below (u ∷ us) (l, inside, later) v (Memᴰ.tail m) =
-    omega (arith, l, not-before (suc u.at) below us later v m)
+not_before : (from below : ℕ) (ts : List Token) → Rising from below ts → (v : Token) → Memᴰ v ts → from ≤ v.at
+not_before from below (u ∷ us) (l, inside, later) v (Memᴰ.head e) = rw e l
+not_before from below (u ∷ us) (l, inside, later) v (Memᴰ.tail m) =
+    omega (arith, l, not_before (suc u.at) below us later v m)
 
 not_after : (from below : ℕ) (u : Token) (us : List Token) → Rising from below (u ∷ us) → (v : Token) → Memᴰ v (u ∷ us)
     → v.at ≤ (last_of u us).at
@@ -105,15 +105,15 @@ not_after from below u (w ∷ us) (l, inside, later) v (Memᴰ.head e) =
     let next = not_after (suc u.at) below w us later w (Memᴰ.head refl) in
     rw e (omega (arith, next, later.0))
 
-place-has : (P : ℕ → Type 0) (t : Tree) → Everywhere P t → P (place_of t)
-place-has P (truth at b) h = h
-place-has P (number at n) h = h
-place-has P (key at w) h = h
-place-has P (field at w to f) h = h.0
-place-has P (attribute at to f) h = h.0
-place-has P (prefixed at o t) h = h.0
-place-has P (joined at o l r) h = h.0
-place-has P (compared at c l r) h = h.0
+place_has : (P : ℕ → Type 0) (t : Tree) → Everywhere P t → P (place_of t)
+place_has P (truth at b) h = h
+place_has P (number at n) h = h
+place_has P (key at w) h = h
+place_has P (field at w to f) h = h.0
+place_has P (attribute at to f) h = h.0
+place_has P (prefixed at o t) h = h.0
+place_has P (joined at o l r) h = h.0
+place_has P (compared at c l r) h = h.0
 
 module _ (text : List ℕ) where
   -- tokens of the text, in their order
@@ -121,21 +121,21 @@ module _ (text : List ℕ) where
     rises : Rising 0 (length text) p
     ends : All (EndsIn text) p
 
-  end_after : (at : ℕ) → at < tokenEnd text at
-  unfolding tokenEnd
+  end_after : (at : ℕ) → at < token_end text at
+  unfolding token_end
   end_after at = omega arith
 
   part_in : (n : ℕ) (u : Token) (us : List Token) (t : Tree) → Sound (u ∷ us) → parsed (length text) (u ∷ us) ≡ ok t
       → PartIn text (part_of text n (u ∷ us) t)
-  unfolding stretchOf
+  unfolding stretch_of
   part_in n u us t s read =
       let last = last_of u us in
       let rises = s.rises in
       let Between : ℕ → Type 0 = λ at. (u.at ≤ at) × (at ≤ last.at) in
-      let (low, high) = place-has Between t
-      (places-as-offsets Between (length text) (u ∷ us) t read
+      let (low, high) = place_has Between t
+      (places_as_offsets Between (length text) (u ∷ us) t read
       (λ v m. (
-        not-before u.at (length text) (u ∷ us) (omega arith, rises.1, rises.2) v m,
+        not_before u.at (length text) (u ∷ us) (omega arith, rises.1, rises.2) v m,
         not_after 0 (length text) u us rises v m,
       )))
       in
@@ -149,34 +149,34 @@ module _ (text : List ℕ) where
         to = omega (arith, high, end_after last.at);
       }
 
-  parsed-none : (t : Tree) → ¬ (parsed (length text) [] ≡ ok t)
+  parsed_none : (t : Tree) → ¬ (parsed (length text) [] ≡ ok t)
   unfolding parsed
-  parsed-none t e = never-ok e
+  parsed_none t e = never_ok e
 
   one_in : (n : ℕ) (p : List Token) (t : Tree) → Sound p → parsed (length text) p ≡ ok t → PartIn text (part_of text n p t)
-  one_in n [] t s read = absurd (parsed-none t read)
+  one_in n [] t s read = absurd (parsed_none t read)
   one_in n (u ∷ us) t s read = part_in n u us t s read
 
   all_in : {n : ℕ} {ps : List (List Token)} {made : List Part} → Made text n ps made → All Sound ps → All (PartIn text) made
   all_in no_part h = tt
-  all_in (a-part {n = n} p t read more) h = (one_in n p t h.0 read, all_in more h.1)
+  all_in (a_part {n = n} p t read more) h = (one_in n p t h.0 read, all_in more h.1)
 
-  all_sound : (ps : List (List Token)) → All (Rising 0 (length text)) ps → All (All (EndsIn text)) ps → All Sound (nonEmpty ps)
+  all_sound : (ps : List (List Token)) → All (Rising 0 (length text)) ps → All (All (EndsIn text)) ps → All Sound (non_empty ps)
   all_sound [] h g = tt
   all_sound ([] ∷ ps) h g = all_sound ps h.1 g.1
   all_sound ((u ∷ us) ∷ ps) h g = (record { rises = h.0; ends = g.0 }, all_sound ps h.1 g.1)
 
-  sound-parts : (ts : List Token) → tokens text ≡ ok ts → All Sound (topLevel ts)
-  unfolding topLevel
-  sound-parts ts cut =
-      let (end, cuts, out, few) = (tokens-are-cut text ts).0 cut in
-      all_sound (between 0 ts) (rising-between (length text) 0 0 ts (offsets-rise text ts cut))
-      (all-between (EndsIn text) 0 ts (tokens-end text end ts cuts))
+  sound_parts : (ts : List Token) → tokens text ≡ ok ts → All Sound (top_level ts)
+  unfolding top_level
+  sound_parts ts cut =
+      let (end, cuts, out, few) = (tokens_are_cut text ts).0 cut in
+      all_sound (between 0 ts) (rising_between (length text) 0 0 ts (offsets_rise text ts cut))
+      (all_between (EndsIn text) 0 ts (tokens_end text end ts cuts))
 
-pub parts-in-text : PartsInText
-parts-in-text text ps h =
-    let (ts, cut, made) = parts-made text ps h in
-    all_in text made (sound-parts text ts cut)
+pub parts_in_text : PartsInText
+parts_in_text text ps h =
+    let (ts, cut, made) = parts_made text ps h in
+    all_in text made (sound_parts text ts cut)
 
 -- how many tokens they have, with one more for each part
 
@@ -184,33 +184,33 @@ abbrev weight : List (List Token) → ℕ
 weight [] = 0
 weight (p ∷ ps) = suc (length p) + weight ps
 
-between-weight : (depth : ℕ) (ts : List Token) → weight (between depth ts) ≡ suc (length ts)
+between_weight : (depth : ℕ) (ts : List Token) → weight (between depth ts) ≡ suc (length ts)
 unfolding between
-between-weight depth [] = refl
-between-weight depth (u ∷ us) =
-    let later = openAfter depth u.tok in
-    go (divides depth u) (between later us) (between-weight later us)
+between_weight depth [] = refl
+between_weight depth (u ∷ us) =
+    let later = open_after depth u.tok in
+    go (divides depth u) (between later us) (between_weight later us)
   where
     go : (b : Bool) (rest : List (List Token)) → weight rest ≡ suc (length us)
-        → weight (cond b ([] ∷ rest) (inFront u rest)) ≡ suc (suc (length us))
+        → weight (cond b ([] ∷ rest) (in_front u rest)) ≡ suc (suc (length us))
     go true rest h = omega (arith, h)
     go false [] h = absurd (omega (arith, h))
     go false (p ∷ ps) h = omega (arith, h)
 
-kept-weight : (ps : List (List Token)) → 2 * length (nonEmpty ps) ≤ weight ps
-kept-weight [] = zero-le
-kept-weight ([] ∷ ps) = omega (arith, kept-weight ps)
-kept-weight ((u ∷ us) ∷ ps) = omega (arith, kept-weight ps)
+kept_weight : (ps : List (List Token)) → 2 * length (non_empty ps) ≤ weight ps
+kept_weight [] = zero-le
+kept_weight ([] ∷ ps) = omega (arith, kept_weight ps)
+kept_weight ((u ∷ us) ∷ ps) = omega (arith, kept_weight ps)
 
-pub few-parts : FewParts
-unfolding topLevel
-few-parts ts = omega (arith, kept-weight (between 0 ts), between-weight 0 ts)
+pub few_parts : FewParts
+unfolding top_level
+few_parts ts = omega (arith, kept_weight (between 0 ts), between_weight 0 ts)
 
 pub as_many : {text : List ℕ} {n : ℕ} {ps : List (List Token)} {made : List Part} → Made text n ps made → length made ≡ length ps
 as_many no_part = refl
-as_many (a-part p t read more) = ap suc (as_many more)
+as_many (a_part p t read more) = ap suc (as_many more)
 
-pub at-most-parts : AtMostParts
-at-most-parts text ps h =
-    let (ts, cut, made) = parts-made text ps h in
-    omega (arith, few-parts ts, (tokens-within text ts cut).few, as_many made)
+pub at_most_parts : AtMostParts
+at_most_parts text ps h =
+    let (ts, cut, made) = parts_made text ps h in
+    omega (arith, few_parts ts, (tokens_within text ts cut).few, as_many made)

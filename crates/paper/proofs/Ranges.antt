@@ -60,15 +60,15 @@ only_wider =
     newly true low high = (wider low high).1
     newly false low high = refl
 
-within-ones : (w n : ℕ) → n < 2 ^ w → eqb (bit_and n (2 ^ w - 1)) n ≡ true
-within-ones w n h = eq-eqb (bit_and n (2 ^ w - 1)) n (and_mask n w ∙ mod-eq_of_lt h)
+within_ones : (w n : ℕ) → n < 2 ^ w → eqb (bit_and n (2 ^ w - 1)) n ≡ true
+within_ones w n h = eq-eqb (bit_and n (2 ^ w - 1)) n (and_mask n w ∙ mod-eq_of_lt h)
 
-pub one-value-conforms : OneValueConforms
-one-value-conforms exact w n h = refl
-one-value-conforms ternary w n h = within-ones w n h
-one-value-conforms lpm w n h = rw (le-leb w w (omega arith), sub_self w, mod-one n)
-one-value-conforms range w n h = le-leb n n (omega arith)
-one-value-conforms optional w n h = rw (within-ones w n h, eq-eqb (2 ^ w - 1) (2 ^ w - 1) refl) (go (eqb (2 ^ w - 1) 0))
+pub one_value_conforms : OneValueConforms
+one_value_conforms exact w n h = refl
+one_value_conforms ternary w n h = within_ones w n h
+one_value_conforms lpm w n h = rw (le-leb w w (omega arith), sub_self w, mod-one n)
+one_value_conforms range w n h = le-leb n n (omega arith)
+one_value_conforms optional w n h = rw (within_ones w n h, eq-eqb (2 ^ w - 1) (2 ^ w - 1) refl) (go (eqb (2 ^ w - 1) 0))
   where
     go : (z : Bool) → (z || true) ≡ true
     go true = refl

@@ -6,8 +6,8 @@ use mathlib.Core.List.{List, [], ◌∷◌, ◌++◌}
 use Rattle.paper.specs.Tokens.{Join, sequel, implies, or_else, andAlso, Comparison, join, comparison, opening, closing, Token}
 use Rattle.paper.specs.Addresses.{address}
 use Rattle.paper.specs.Grammar.{Tree, joined, compared}
-use Rattle.paper.specs.Sentences.{Phrases, signAt, Joining, joining, Comparing, comparing, Once, none_of, one_of, Chain, first, further, a-parenthesis, Implication, Sequence, Prefixed}
-use Rattle.paper.specs.Print.{rungOf, left_of, rightOf}
+use Rattle.paper.specs.Sentences.{Phrases, sign_at, Joining, joining, Comparing, comparing, Once, none_of, one_of, Chain, first, further, a_parenthesis, Implication, Sequence, Prefixed}
+use Rattle.paper.specs.Print.{rung_of, left_of, right_of}
 
 -- the phrases of each rung, with at most so many levels
 abbrev pub Rung : ℕ → ℕ → Phrases
@@ -27,26 +27,26 @@ step l (suc (suc (suc zero))) t ts h = first h
 step l (suc (suc (suc (suc zero)))) t ts h = none_of h
 step l (suc (suc (suc (suc (suc k))))) t ts h = h
 
-pub looser-rung : (d j l k : ℕ) (t : Tree) (ts : List Token) → k + d ≡ j → Rung l j t ts → Rung l k t ts
-looser-rung zero j l k t ts e h = subst (λ n. Rung l n t ts) (let f : j ≡ k = omega arith in f) h
-looser-rung (suc d) j l k t ts e h =
+pub looser_rung : (d j l k : ℕ) (t : Tree) (ts : List Token) → k + d ≡ j → Rung l j t ts → Rung l k t ts
+looser_rung zero j l k t ts e h = subst (λ n. Rung l n t ts) (let f : j ≡ k = omega arith in f) h
+looser_rung (suc d) j l k t ts e h =
     let f : j ≡ suc (k + d) = omega arith in
-    looser-rung d (k + d) l k t ts refl (step l (k + d) t ts (subst (λ n. Rung l n t ts) f h))
+    looser_rung d (k + d) l k t ts refl (step l (k + d) t ts (subst (λ n. Rung l n t ts) f h))
 
 -- what an operator makes stands on its rung
 
-pub join-rung : (l : ℕ) (o : Join) (at : ℕ) (t r : Tree) (ts rs : List Token) → Rung l (left_of o) t ts → Rung l (rightOf o) r rs
-    → Rung l (rungOf o) (joined at o t r) (ts ++ (signAt at (join o) ∷ rs))
-join-rung l sequel at t r ts rs h g = further h (joining at) g
-join-rung l implies at t r ts rs h g = one_of h (joining at) g
-join-rung l or_else at t r ts rs h g = further h (joining at) g
-join-rung l andAlso at t r ts rs h g = further h (joining at) g
+pub join_rung : (l : ℕ) (o : Join) (at : ℕ) (t r : Tree) (ts rs : List Token) → Rung l (left_of o) t ts → Rung l (right_of o) r rs
+    → Rung l (rung_of o) (joined at o t r) (ts ++ (sign_at at (join o) ∷ rs))
+join_rung l sequel at t r ts rs h g = further h (joining at) g
+join_rung l implies at t r ts rs h g = one_of h (joining at) g
+join_rung l or_else at t r ts rs h g = further h (joining at) g
+join_rung l andAlso at t r ts rs h g = further h (joining at) g
 
-pub comparison-rung : (l : ℕ) (c : Comparison) (at : ℕ) (t r : Tree) (ts rs : List Token) → Rung l 5 t ts → Rung l 5 r rs
-    → Rung l 4 (compared at c t r) (ts ++ (signAt at (comparison c) ∷ rs))
-comparison-rung l c at t r ts rs h g = one_of h (comparing at c) g
+pub comparison_rung : (l : ℕ) (c : Comparison) (at : ℕ) (t r : Tree) (ts rs : List Token) → Rung l 5 t ts → Rung l 5 r rs
+    → Rung l 4 (compared at c t r) (ts ++ (sign_at at (comparison c) ∷ rs))
+comparison_rung l c at t r ts rs h g = one_of h (comparing at c) g
 
-pub enclosed-rung : (l at to : ℕ) (t : Tree) (ts : List Token) → Rung l 0 t ts
-    → Rung (suc l) 5 t (signAt at opening ∷ (ts ++ (signAt to closing ∷ [])))
+pub enclosed_rung : (l at to : ℕ) (t : Tree) (ts : List Token) → Rung l 0 t ts
+    → Rung (suc l) 5 t (sign_at at opening ∷ (ts ++ (sign_at to closing ∷ [])))
 unfolding Prefixed
-enclosed-rung l at to t ts h = a-parenthesis at to h
+enclosed_rung l at to t ts h = a_parenthesis at to h

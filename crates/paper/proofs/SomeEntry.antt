@@ -12,53 +12,53 @@ use lib.Dec.{lit<}
 use Rattle.paper.specs.Answers.{ok}
 use Rattle.paper.specs.Numbers.{bytes_at}
 use Rattle.paper.specs.Keys.{Key}
-use Rattle.paper.specs.Entry.{headSize, matchSize, matchAt, matchOk, entry_of}
+use Rattle.paper.specs.Entry.{head_size, match_size, match_at, match_ok, entry_of}
 use Rattle.paper.specs.BlocksRoundTrip.{All, Width}
 use Rattle.paper.specs.Promised.{Bytes}
-use Rattle.paper.specs.Dependence.{spellOut}
-use Rattle.paper.proofs.Basics.{all-some}
-use Rattle.paper.proofs.ByteLists.{append-bytes}
-use Rattle.paper.proofs.AnotherRecord.{read_of, conforms-so, written-kept, written-bytes}
-use Rattle.paper.proofs.SpelledOut.{reading, spelled-fits}
+use Rattle.paper.specs.Dependence.{spell_out}
+use Rattle.paper.proofs.Basics.{all_some}
+use Rattle.paper.proofs.ByteLists.{append_bytes}
+use Rattle.paper.proofs.AnotherRecord.{read_of, conforms_so, written_kept, written_bytes}
+use Rattle.paper.proofs.SpelledOut.{reading, spelled_fits}
 
-abbrev spelledRecords : List Key → List ℕ
-spelledRecords [] = []
-spelledRecords (x ∷ ks) = spellOut x ++ spelledRecords ks
+abbrev spelled_records : List Key → List ℕ
+spelled_records [] = []
+spelled_records (x ∷ ks) = spell_out x ++ spelled_records ks
 
-abbrev pub someEntry : List Key → List ℕ
-someEntry ks = 0 ∷ 0 ∷ 0 ∷ 0 ∷ spelledRecords ks
+abbrev pub some_entry : List Key → List ℕ
+some_entry ks = 0 ∷ 0 ∷ 0 ∷ 0 ∷ spelled_records ks
 
-records-size : (ks : List Key) → length (spelledRecords ks) ≡ matchSize * length ks
-records-size [] = refl
-records-size (x ∷ ks) = rw (length-append, records-size ks) (omega arith)
+records_size : (ks : List Key) → length (spelled_records ks) ≡ match_size * length ks
+records_size [] = refl
+records_size (x ∷ ks) = rw (length-append, records_size ks) (omega arith)
 
-record-at : (ks : List Key) (j : ℕ) (x : Key) → get_elem? ks j ≡ some x → bytes_at (spelledRecords ks) (j * matchSize) matchSize ≡ spellOut x
-record-at [] j x h = absurd (none-ne-some x h)
-record-at (y ∷ ks) zero x h =
+record_at : (ks : List Key) (j : ℕ) (x : Key) → get_elem? ks j ≡ some x → bytes_at (spelled_records ks) (j * match_size) match_size ≡ spell_out x
+record_at [] j x h = absurd (none-ne-some x h)
+record_at (y ∷ ks) zero x h =
     let same : y ≡ x = cc h in
-    take_at (spellOut y) (spelledRecords ks) matchSize refl ∙ ap spellOut same
-record-at (y ∷ ks) (suc j) x h =
-    let on : matchSize + j * matchSize ≡ suc j * matchSize = omega arith in
-    ap (λ n. take matchSize (drop n (spelledRecords (y ∷ ks)))) (sym on)
-    ∙ ap (take matchSize) (sym (drop-drop (j * matchSize) matchSize (spelledRecords (y ∷ ks))))
-    ∙ ap (λ s. take matchSize (drop (j * matchSize) s)) (drop_at (spellOut y) (spelledRecords ks) matchSize refl)
-    ∙ record-at ks j x h
+    take_at (spell_out y) (spelled_records ks) match_size refl ∙ ap spell_out same
+record_at (y ∷ ks) (suc j) x h =
+    let on : match_size + j * match_size ≡ suc j * match_size = omega arith in
+    ap (λ n. take match_size (drop n (spelled_records (y ∷ ks)))) (sym on)
+    ∙ ap (take match_size) (sym (drop-drop (j * match_size) match_size (spelled_records (y ∷ ks))))
+    ∙ ap (λ s. take match_size (drop (j * match_size) s)) (drop_at (spell_out y) (spelled_records ks) match_size refl)
+    ∙ record_at ks j x h
 
-match-at : (ks : List Key) (j : ℕ) (x : Key) → get_elem? ks j ≡ some x → matchAt (someEntry ks) j ≡ spellOut x
-match-at ks j x h = ap (take matchSize) (sym (drop-drop (j * matchSize) headSize (someEntry ks))) ∙ record-at ks j x h
+match_at_lem : (ks : List Key) (j : ℕ) (x : Key) → get_elem? ks j ≡ some x → match_at (some_entry ks) j ≡ spell_out x
+match_at_lem ks j x h = ap (take match_size) (sym (drop-drop (j * match_size) head_size (some_entry ks))) ∙ record_at ks j x h
 
-pub some-conforms : (ks : List Key) → All (λ x. Width x.width) ks → entry_of ks (someEntry ks) ≡ ok (read_of ks (someEntry ks))
-some-conforms ks widths = conforms-so ks (someEntry ks) (omega (arith, records-size ks)) refl kept
+pub some_conforms : (ks : List Key) → All (λ x. Width x.width) ks → entry_of ks (some_entry ks) ≡ ok (read_of ks (some_entry ks))
+some_conforms ks widths = conforms_so ks (some_entry ks) (omega (arith, records_size ks)) refl kept
   where
-    kept : (j : ℕ) (x : Key) → get_elem? ks j ≡ some x → matchOk x (matchAt (someEntry ks) j) ≡ true
+    kept : (j : ℕ) (x : Key) → get_elem? ks j ≡ some x → match_ok x (match_at (some_entry ks) j) ≡ true
     kept j x h =
-        let (_, wide) = all-some (λ y. Width y.width) ks j x widths h in
-        rw (match-at ks j x h) (written-kept x wide (reading x) (spelled-fits x))
+        let (_, wide) = all_some (λ y. Width y.width) ks j x widths h in
+        rw (match_at_lem ks j x h) (written_kept x wide (reading x) (spelled_fits x))
 
-records-bytes : (ks : List Key) → All (λ x. Width x.width) ks → Bytes (spelledRecords ks)
-records-bytes [] h = tt
-records-bytes (x ∷ ks) h =
-    append-bytes (spellOut x) (spelledRecords ks) (written-bytes x h.0.1 (reading x) (spelled-fits x)) (records-bytes ks h.1)
+records_bytes : (ks : List Key) → All (λ x. Width x.width) ks → Bytes (spelled_records ks)
+records_bytes [] h = tt
+records_bytes (x ∷ ks) h =
+    append_bytes (spell_out x) (spelled_records ks) (written_bytes x h.0.1 (reading x) (spelled_fits x)) (records_bytes ks h.1)
 
-pub some_bytes : (ks : List Key) → All (λ x. Width x.width) ks → Bytes (someEntry ks)
-some_bytes ks h = (lit< tt, (lit< tt, (lit< tt, (lit< tt, records-bytes ks h))))
+pub some_bytes : (ks : List Key) → All (λ x. Width x.width) ks → Bytes (some_entry ks)
+some_bytes ks h = (lit< tt, (lit< tt, (lit< tt, (lit< tt, records_bytes ks h))))

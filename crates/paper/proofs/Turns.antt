@@ -9,7 +9,7 @@ use lib.ListN.{length}
 use native.Mathlib.Nat.{le_refl}
 use native.Mathlib.Omega.{arith}
 use Rattle.paper.specs.Tokens.{Token}
-use Rattle.paper.specs.Grammar.{Tree, got, stuck, Out, ends, deep, bad, ◌>>>◌, Parser, Make, afterOperator, moreWith, more, chain}
+use Rattle.paper.specs.Grammar.{Tree, got, stuck, Out, ends, deep, bad, ◌>>>◌, Parser, Make, after_operator, more_with, more, chain}
 
 -- a tree comes with at most so many tokens left
 abbrev pub Leaves : ℕ → Out → Type 0
@@ -34,13 +34,13 @@ module _ (last : Bool) (op : Token → Option Make) (p : Parser) where
   unfolding more
   turns t us = more last op p (length us) t us
 
-  pub chain-turns : (ts : List Token) → chain last op p ts ≡ (p ts >>> turns)
+  pub chain_turns : (ts : List Token) → chain last op p ts ≡ (p ts >>> turns)
   unfolding chain more turns
-  chain-turns ts = refl
+  chain_turns ts = refl
 
-  pub turns-end : (t : Tree) → turns t [] ≡ ends (got t) []
+  pub turns_end : (t : Tree) → turns t [] ≡ ends (got t) []
   unfolding turns more
-  turns-end t = refl
+  turns_end t = refl
 
   module _ (shrinks : Shrinks p) where
     enough : (n m : ℕ) (t : Tree) (us : List Token) → length us ≤ n → length us ≤ m
@@ -53,16 +53,16 @@ module _ (last : Bool) (op : Token → Option Make) (p : Parser) where
     enough zero m t (u ∷ us) h k = absurd (omega arith)
     enough (suc n) zero t (u ∷ us) h k = absurd (omega arith)
     enough (suc n) (suc m) t (u ∷ us) h k =
-        ap (moreWith t u us (op u))
-        (fun_ext λ make. ap (afterOperator last t us)
+        ap (more_with t u us (op u))
+        (fun_ext λ make. ap (after_operator last t us)
         (then_same (length us) (λ r vs. more last op p n (make t r) vs) (λ r vs. more last op p m (make t r) vs) (p us) (shrinks us)
         (λ r vs l. enough n m (make t r) vs (omega arith) (omega arith))))
 
     pub turns_next : (t : Tree) (u : Token) (us : List Token)
-        → turns t (u ∷ us) ≡ moreWith t u us (op u) (λ make. afterOperator last t us (p us >>> λ r. turns (make t r)))
+        → turns t (u ∷ us) ≡ more_with t u us (op u) (λ make. after_operator last t us (p us >>> λ r. turns (make t r)))
     unfolding turns more
     turns_next t u us =
-        ap (moreWith t u us (op u))
-        (fun_ext λ make. ap (afterOperator last t us)
+        ap (more_with t u us (op u))
+        (fun_ext λ make. ap (after_operator last t us)
         (then_same (length us) (λ r vs. more last op p (length us) (make t r) vs) (λ r. turns (make t r)) (p us) (shrinks us)
         (λ r vs l. enough (length us) (length vs) (make t r) vs l (le_refl _))))

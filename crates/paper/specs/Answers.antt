@@ -21,7 +21,7 @@ use Rattle.paper.specs.declared.Counted.{Counted}
 use Rattle.paper.specs.declared.Counted.TheVariants as S
 
 pub data Input : Type 0 where
-  inText inList inEntry inBlocks inBuffer inContract in_table : Input
+  InText InList inEntry inBlocks inBuffer inContract in_table : Input
 
 -- what is asked for, or a refusal: its number, the input that it lies in, and the byte offset there
 pub data Answer (A : Type 0) : Type 0 where
@@ -45,8 +45,8 @@ in_turn test k zero = ok tt
 in_turn test k (suc n) = test k >>= λ _. in_turn test (suc k) n
 
 abbrev pub input_of : Place → Input
-input_of (P.Text at) = inText
-input_of (P.List at) = inList
+input_of (P.Text at) = InText
+input_of (P.List at) = InList
 input_of (P.Entry at) = inEntry
 input_of (P.Blocks at) = inBlocks
 input_of (P.Buffer at) = inBuffer
@@ -62,43 +62,43 @@ offset_of (P.Buffer at) = at
 offset_of (P.Contract at) = at
 offset_of (P.Table at) = at
 
-abbrev pub readingSays : Reading → Answer ℕ
-readingSays (R.Read n) = ok n
-readingSays (R.Refused n p) = refused n (input_of p) (offset_of p)
+abbrev pub reading_says : Reading → Answer ℕ
+reading_says (R.Read n) = ok n
+reading_says (R.Refused n p) = refused n (input_of p) (offset_of p)
 
-abbrev pub checkingSays : Checking → Answer (Unit {0})
-checkingSays C.Passed = ok tt
-checkingSays (C.Refused n p) = refused n (input_of p) (offset_of p)
+abbrev pub checking_says : Checking → Answer (Unit {0})
+checking_says C.Passed = ok tt
+checking_says (C.Refused n p) = refused n (input_of p) (offset_of p)
 
 -- accepted: true; violated: false
-abbrev pub judgementSays : Judgement → Answer Bool
-judgementSays J.Accepted = ok true
-judgementSays J.Violated = ok false
-judgementSays (J.Refused n p) = refused n (input_of p) (offset_of p)
+abbrev pub judgement_says : Judgement → Answer Bool
+judgement_says J.Accepted = ok true
+judgement_says J.Violated = ok false
+judgement_says (J.Refused n p) = refused n (input_of p) (offset_of p)
 
-abbrev pub translationSays : Translation → Answer ℕ
-translationSays (T.Written n) = ok n
-translationSays (T.Refused n p) = refused n (input_of p) (offset_of p)
+abbrev pub translation_says : Translation → Answer ℕ
+translation_says (T.Written n) = ok n
+translation_says (T.Refused n p) = refused n (input_of p) (offset_of p)
 
-abbrev pub loadingSays : Loading → Answer ℕ
-loadingSays (L.Loaded n) = ok n
-loadingSays (L.Refused n p) = refused n (input_of p) (offset_of p)
+abbrev pub loading_says : Loading → Answer ℕ
+loading_says (L.Loaded n) = ok n
+loading_says (L.Refused n p) = refused n (input_of p) (offset_of p)
 
 -- 02 g: whether the entry is accepted, and "the steps taken"
 pub record Ran : Type 0 where
   pub accepted : Bool
   pub steps : ℕ
 
-abbrev pub runningSays : Running → Answer Ran
-runningSays (N.Accepted steps) = ok (record { accepted = true; steps = steps })
-runningSays (N.Violated steps) = ok (record { accepted = false; steps = steps })
-runningSays (N.Refused n p) = refused n (input_of p) (offset_of p)
+abbrev pub running_says : Running → Answer Ran
+running_says (N.Accepted steps) = ok (record { accepted = true; steps = steps })
+running_says (N.Violated steps) = ok (record { accepted = false; steps = steps })
+running_says (N.Refused n p) = refused n (input_of p) (offset_of p)
 
-abbrev pub printingSays : Printing → Answer ℕ
-printingSays (W.Printed n) = ok n
-printingSays (W.Refused n p) = refused n (input_of p) (offset_of p)
+abbrev pub printing_says : Printing → Answer ℕ
+printing_says (W.Printed n) = ok n
+printing_says (W.Refused n p) = refused n (input_of p) (offset_of p)
 
 -- a stage of a call
-abbrev pub countedSays : Counted → Answer ℕ
-countedSays (S.Count n) = ok n
-countedSays (S.Refused n p) = refused n (input_of p) (offset_of p)
+abbrev pub counted_says : Counted → Answer ℕ
+counted_says (S.Count n) = ok n
+counted_says (S.Refused n p) = refused n (input_of p) (offset_of p)

@@ -4,20 +4,20 @@
 -- of keys, as in the list given; 508 to 511 the check."
 use Rattle.std.specs.Prelude.{ℕ, zero, suc, ◌+◌, ◌*◌, ◌-◌, ◌/◌, ◌%◌, Bool, ◌&&◌, List, [], ◌∷◌, ◌++◌, length, take, drop, replicate, eqb, ltb, leb}
 use Rattle.paper.specs.Answers.{Answer, ◌>>=◌, require, in_turn, inBlocks}
-use Rattle.paper.specs.Numbers.{bytes_at, number_at, bigEndian}
-use Rattle.paper.specs.Tokens.{sameBytes}
-use Rattle.paper.specs.Keys.{allZero}
-use Rattle.paper.specs.Code.{Instruction, instructionSize, encode}
+use Rattle.paper.specs.Numbers.{bytes_at, number_at, big_endian}
+use Rattle.paper.specs.Tokens.{same_bytes}
+use Rattle.paper.specs.Keys.{all_zero}
+use Rattle.paper.specs.Code.{Instruction, instruction_size, encode}
 
-abbrev pub blockSize : ℕ
-blockSize = 512
+abbrev pub block_size : ℕ
+block_size = 512
 
 abbrev pub in_block : ℕ
 in_block = 25
 
 -- 02 g: "the limit becomes 123 blocks in number 16"
-abbrev pub mostBlocks : ℕ
-mostBlocks = 123
+abbrev pub most_blocks : ℕ
+most_blocks = 123
 
 -- "The check runs over the 254 big-endian 16-bit words before it: two sums from 0, the first adds each word, the second adds the
 -- first sum, both modulo 65,535."
@@ -26,40 +26,40 @@ pub record Sums : Type 0 where
   pub second : ℕ
 
 -- of two sums so far; a single byte is no word, and there is none at the end of an even number of bytes
-abbrev pub sumsFrom : ℕ → ℕ → List ℕ → Sums
-sumsFrom a b [] = record { first = a; second = b }
-sumsFrom a b (x ∷ []) = record { first = a; second = b }
-sumsFrom a b (x ∷ y ∷ s) =
+abbrev pub sums_from : ℕ → ℕ → List ℕ → Sums
+sums_from a b [] = record { first = a; second = b }
+sums_from a b (x ∷ []) = record { first = a; second = b }
+sums_from a b (x ∷ y ∷ s) =
     let c = (a + (x * 256 + y)) % 65535 in
-    sumsFrom c ((b + c) % 65535) s
+    sums_from c ((b + c) % 65535) s
 
-unfoldable pub sumsOf : List ℕ → Sums
-sumsOf s = sumsFrom 0 0 s
+unfoldable pub sums_of : List ℕ → Sums
+sums_of s = sums_from 0 0 s
 
 -- "Second sum, then first."
-abbrev pub checkOf : List ℕ → List ℕ
-checkOf s =
-    let c = sumsOf s in
-    bigEndian 2 c.second ++ bigEndian 2 c.first
+abbrev pub check_of : List ℕ → List ℕ
+check_of s =
+    let c = sums_of s in
+    big_endian 2 c.second ++ big_endian 2 c.first
 
 -- writing
 
-abbrev pub encodeAll : List Instruction → List ℕ
-encodeAll [] = []
-encodeAll (i ∷ is) = encode i ++ encodeAll is
+abbrev pub encode_all : List Instruction → List ℕ
+encode_all [] = []
+encode_all (i ∷ is) = encode i ++ encode_all is
 
 abbrev pub sealed : List ℕ → List ℕ
-sealed s = s ++ checkOf s
+sealed s = s ++ check_of s
 
 -- the block of a number, with its instructions
 abbrev pub block_of : ℕ → ℕ → ℕ → List Instruction → List ℕ
 block_of total keys k code =
     sealed
-    (bigEndian 2 k ++ bigEndian 2 (length code) ++ encodeAll code ++ replicate (500 - instructionSize * length code) 0
-    ++ bigEndian 2 total ++ bigEndian 2 keys)
+    (big_endian 2 k ++ big_endian 2 (length code) ++ encode_all code ++ replicate (500 - instruction_size * length code) 0
+    ++ big_endian 2 total ++ big_endian 2 keys)
 
-abbrev pub blocksNeeded : ℕ → ℕ
-blocksNeeded n = (n + (in_block - 1)) / in_block
+abbrev pub blocks_needed : ℕ → ℕ
+blocks_needed n = (n + (in_block - 1)) / in_block
 
 -- n blocks, from number k on
 abbrev pub blocks_from : ℕ → ℕ → ℕ → ℕ → List Instruction → List ℕ
@@ -67,51 +67,51 @@ blocks_from total keys k zero code = []
 blocks_from total keys k (suc n) code =
     block_of total keys k (take in_block code) ++ blocks_from total keys (k + 1) n (drop in_block code)
 
-unfoldable pub blocksOf : ℕ → List Instruction → List ℕ
-unfolding sumsOf
-blocksOf keys code = blocks_from (length code) keys 0 (blocksNeeded (length code)) code
+unfoldable pub blocks_of : ℕ → List Instruction → List ℕ
+unfolding sums_of
+blocks_of keys code = blocks_from (length code) keys 0 (blocks_needed (length code)) code
 
 -- reading
 
-abbrev pub blocksIn : List ℕ → ℕ
-blocksIn blocks = length blocks / blockSize
+abbrev pub blocks_in : List ℕ → ℕ
+blocks_in blocks = length blocks / block_size
 
-abbrev pub countAt : List ℕ → ℕ → ℕ
-countAt blocks k = number_at blocks (k * blockSize + 2) 2
+abbrev pub count_at : List ℕ → ℕ → ℕ
+count_at blocks k = number_at blocks (k * block_size + 2) 2
 
 -- "the sum of the counts in all the blocks given", as they stand
-abbrev pub countsFrom : List ℕ → ℕ → ℕ → ℕ
-countsFrom blocks k zero = 0
-countsFrom blocks k (suc n) = countAt blocks k + countsFrom blocks (k + 1) n
+abbrev pub counts_from : List ℕ → ℕ → ℕ → ℕ
+counts_from blocks k zero = 0
+counts_from blocks k (suc n) = count_at blocks k + counts_from blocks (k + 1) n
 
-abbrev pub totalOf : List ℕ → ℕ
-totalOf blocks = countsFrom blocks 0 (blocksIn blocks)
+abbrev pub total_of : List ℕ → ℕ
+total_of blocks = counts_from blocks 0 (blocks_in blocks)
 
 -- "25 except in the last block (1 to 25)": of a block that so many later ones follow
-abbrev pub countOk : ℕ → ℕ → Bool
-countOk zero c = leb 1 c && leb c in_block
-countOk (suc later) c = eqb c in_block
+abbrev pub count_ok : ℕ → ℕ → Bool
+count_ok zero c = leb 1 c && leb c in_block
+count_ok (suc later) c = eqb c in_block
 
-abbrev pub blockOk : ℕ → List ℕ → ℕ → Bool
-blockOk keys blocks k =
-    let b = bytes_at blocks (k * blockSize) blockSize in
+abbrev pub block_ok : ℕ → List ℕ → ℕ → Bool
+block_ok keys blocks k =
+    let b = bytes_at blocks (k * block_size) block_size in
     let count = number_at b 2 2 in
-    let later = blocksIn blocks - (k + 1) in
+    let later = blocks_in blocks - (k + 1) in
     eqb (number_at b 0 2) k
-    && countOk later count
-    && allZero (bytes_at b (4 + instructionSize * count) (500 - instructionSize * count))
-    && eqb (number_at b 504 2) (totalOf blocks)
+    && count_ok later count
+    && all_zero (bytes_at b (4 + instruction_size * count) (500 - instruction_size * count))
+    && eqb (number_at b 504 2) (total_of blocks)
     && eqb (number_at b 506 2) keys
-    && sameBytes (bytes_at b 508 4) (checkOf (take 508 b))
+    && same_bytes (bytes_at b 508 4) (check_of (take 508 b))
 
 -- 17: "a block breaks its layout". Of block k
-abbrev pub blockTest : ℕ → List ℕ → ℕ → Answer (Unit {0})
-blockTest keys blocks k = require (blockOk keys blocks k) 17 inBlocks (k * blockSize)
+abbrev pub block_test : ℕ → List ℕ → ℕ → Answer (Unit {0})
+block_test keys blocks k = require (block_ok keys blocks k) 17 inBlocks (k * block_size)
 
 -- 16: "blocks: length 0, no multiple of 512, or over 82 blocks", 123 since 02 g; then 17
 unfoldable pub layout : ℕ → List ℕ → Answer (Unit {0})
-unfolding sumsOf
+unfolding sums_of
 layout keys blocks =
-    require (ltb 0 (length blocks) && eqb (length blocks % blockSize) 0 && leb (length blocks) (mostBlocks * blockSize)) 16 inBlocks
+    require (ltb 0 (length blocks) && eqb (length blocks % block_size) 0 && leb (length blocks) (most_blocks * block_size)) 16 inBlocks
     (length blocks)
-    >>= λ _. in_turn (blockTest keys blocks) 0 (blocksIn blocks)
+    >>= λ _. in_turn (block_test keys blocks) 0 (blocks_in blocks)

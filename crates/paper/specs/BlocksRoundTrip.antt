@@ -3,10 +3,10 @@ use Rattle.std.specs.Prelude.{ℕ, ◌+◌, ◌*◌, ◌^◌, ◌≤◌, ◌<◌
 use Rattle.std.proofs.Math.Option.{some}
 use Rattle.paper.specs.Answers.{ok}
 use Rattle.paper.specs.Numbers.{bytes_at}
-use Rattle.paper.specs.Keys.{Key, mostKeys, keys}
+use Rattle.paper.specs.Keys.{Key, most_keys, keys}
 use Rattle.paper.specs.Grammar.{Tree, truth, number, key, field, attribute, prefixed, joined, compared}
-use Rattle.paper.specs.Code.{Instruction, pushBool, pushInt, pushKey, pushField, pushPriority, invert, negate, convert, compare, connects, skip, Parts, parts_of, instructionSize, encode, parts_at, decode}
-use Rattle.paper.specs.Blocks.{blockSize, in_block, mostBlocks, blocksNeeded, blocksOf, totalOf, layout}
+use Rattle.paper.specs.Code.{Instruction, push_bool, push_int, push_key, push_field, push_priority, invert, negate, convert, compare, connects, skip, Parts, parts_of, instruction_size, encode, parts_at, decode}
+use Rattle.paper.specs.Blocks.{block_size, in_block, most_blocks, blocks_needed, blocks_of, total_of, layout}
 use Rattle.paper.specs.Loading.{program}
 use Rattle.paper.specs.Translating.{code_of}
 use Rattle.paper.specs.Calls.{tree}
@@ -22,11 +22,11 @@ All P (a ∷ s) = P a × All P s
 
 -- "two-byte operand, 16-byte constant", "operand W, 1 to 128", and a skip's landing, where so many instructions are left after it
 abbrev pub InRange : ℕ → Instruction → Type 0
-InRange left (pushBool b) = Unit {0}
-InRange left (pushInt n) = n < 2 ^ 128
-InRange left (pushKey k) = k < 2 ^ 16
-InRange left (pushField f k) = k < 2 ^ 16
-InRange left pushPriority = Unit {0}
+InRange left (push_bool b) = Unit {0}
+InRange left (push_int n) = n < 2 ^ 128
+InRange left (push_key k) = k < 2 ^ 16
+InRange left (push_field f k) = k < 2 ^ 16
+InRange left push_priority = Unit {0}
 InRange left invert = Unit {0}
 InRange left negate = Unit {0}
 InRange left (convert k w) = Width w
@@ -62,24 +62,24 @@ pub record WrittenAgain (left : ℕ) (i : Instruction) (spelled : List ℕ) : Ty
 
 abbrev pub BytesAgain : Type 0
 BytesAgain =
-    (s : List ℕ) (at : ℕ) → at + instructionSize ≤ length s → All (λ b. b < 256) (bytes_at s at instructionSize)
-    → (left : ℕ) (i : Instruction) → decode left (parts_at s at) ≡ some i → WrittenAgain left i (bytes_at s at instructionSize)
+    (s : List ℕ) (at : ℕ) → at + instruction_size ≤ length s → All (λ b. b < 256) (bytes_at s at instruction_size)
+    → (left : ℕ) (i : Instruction) → decode left (parts_at s at) ≡ some i → WrittenAgain left i (bytes_at s at instruction_size)
 
 -- the blocks of a sequence
 pub record Written (keys : ℕ) (code : List Instruction) (blocks : List ℕ) : Type 0 where
-  pub size : length blocks ≡ blockSize * blocksNeeded (length code)
+  pub size : length blocks ≡ block_size * blocks_needed (length code)
   pub passes : layout keys blocks ≡ ok tt
-  pub total : totalOf blocks ≡ length code
+  pub total : total_of blocks ≡ length code
   pub back : program blocks ≡ map some code
 
 abbrev pub BlocksBack : Type 0
 BlocksBack =
-    (keys : ℕ) (code : List Instruction) → keys ≤ mostKeys → 1 ≤ length code → length code ≤ mostBlocks * in_block → Ranged code
-    → Written keys code (blocksOf keys code)
+    (keys : ℕ) (code : List Instruction) → keys ≤ most_keys → 1 ≤ length code → length code ≤ most_blocks * in_block → Ranged code
+    → Written keys code (blocks_of keys code)
 
 -- a key list that passes
 pub record Listed (ks : List Key) : Type 0 where
-  pub few : length ks ≤ mostKeys
+  pub few : length ks ≤ most_keys
   pub widths : All (λ k. Width k.width) ks
 
 abbrev pub KeysListed : Type 0

@@ -10,15 +10,15 @@ use Rattle.paper.specs.declared.Agreement.{Agreement}
 use Rattle.paper.specs.declared.Agreement.TheVariants as A
 use Rattle.paper.specs.Answers.{Answer, ok, refused, ◌>>=◌, input_of, offset_of}
 use Rattle.paper.specs.Numbers.{bytes_at}
-use Rattle.paper.specs.Tokens.{sameBytes}
+use Rattle.paper.specs.Tokens.{same_bytes}
 use Rattle.paper.specs.Keys.{Key}
 use Rattle.paper.specs.Grammar.{Tree}
 use Rattle.paper.specs.Types.{when}
 use Rattle.paper.specs.Meaning.{both}
-use Rattle.paper.specs.Code.{Instruction, connects, skip, instructionSize, encode}
-use Rattle.paper.specs.Blocks.{totalOf}
-use Rattle.paper.specs.Loading.{instructionAt, program, loaded}
-use Rattle.paper.specs.Translating.{skipFor, code_of}
+use Rattle.paper.specs.Code.{Instruction, connects, skip, instruction_size, encode}
+use Rattle.paper.specs.Blocks.{total_of}
+use Rattle.paper.specs.Loading.{instruction_at, program, loaded}
+use Rattle.paper.specs.Translating.{skip_for, code_of}
 use Rattle.paper.specs.Calls.{restriction}
 use Rattle.paper.specs.Parts.{Part, parts}
 use Rattle.paper.specs.PartsDecide.{JoinedLeft}
@@ -32,8 +32,8 @@ pub data TakenOut {A : Type 0} (x : A) : List A → List A → Type 0 where
 
 -- all of the second list, each taken out once
 pub data InSomeOrder {A : Type 0} : List A → List A → Type 0 where
-  all-used : InSomeOrder [] []
-  then-use : {xs ys rest : List A} (x : A) → TakenOut x ys rest → InSomeOrder xs rest → InSomeOrder (x ∷ xs) ys
+  all_used : InSomeOrder [] []
+  then_use : {xs ys rest : List A} (x : A) → TakenOut x ys rest → InSomeOrder xs rest → InSomeOrder (x ∷ xs) ys
 
 -- "our translation of the same top-level parts, .. joined from the left"
 pub record Ours (ks : List Key) (parts : List Tree) (blocks : List ℕ) : Type 0 where
@@ -45,31 +45,31 @@ pub record Ours (ks : List Key) (parts : List Tree) (blocks : List ℕ) : Type 0
 
 -- the instructions of code, each as its 20 bytes: of blocks as they stand, and of ours as they are written
 
-abbrev pub recordsFrom : List ℕ → ℕ → ℕ → List (List ℕ)
-recordsFrom blocks i zero = []
-recordsFrom blocks i (suc n) = bytes_at blocks (instructionAt i) instructionSize ∷ recordsFrom blocks (i + 1) n
+abbrev pub records_from : List ℕ → ℕ → ℕ → List (List ℕ)
+records_from blocks i zero = []
+records_from blocks i (suc n) = bytes_at blocks (instruction_at i) instruction_size ∷ records_from blocks (i + 1) n
 
-abbrev pub recordsIn : List ℕ → List (List ℕ)
-recordsIn blocks = recordsFrom blocks 0 (totalOf blocks)
+abbrev pub records_in : List ℕ → List (List ℕ)
+records_in blocks = records_from blocks 0 (total_of blocks)
 
 abbrev pub written : List Instruction → List (List ℕ)
 written code = map encode code
 
-abbrev pub sameRecords : List (List ℕ) → List (List ℕ) → Bool
-sameRecords [] [] = true
-sameRecords [] (b ∷ s) = false
-sameRecords (a ∷ r) [] = false
-sameRecords (a ∷ r) (b ∷ s) = sameBytes a b && sameRecords r s
+abbrev pub same_records : List (List ℕ) → List (List ℕ) → Bool
+same_records [] [] = true
+same_records [] (b ∷ s) = false
+same_records (a ∷ r) [] = false
+same_records (a ∷ r) (b ∷ s) = same_bytes a b && same_records r s
 
 -- a part as it is joined to those before it: 02 g's skip over it and the join, the part, and the join
-abbrev pub asJoined : List Instruction → List Instruction
-asJoined code = skip (skipFor both (length code)) ∷ (code ++ (connects both ∷ []))
+abbrev pub as_joined : List Instruction → List Instruction
+as_joined code = skip (skip_for both (length code)) ∷ (code ++ (connects both ∷ []))
 
 -- what stands before an ending, where code ends so
-abbrev pub beforeEnding : List (List ℕ) → List (List ℕ) → Option (List (List ℕ))
-beforeEnding ending s =
+abbrev pub before_ending : List (List ℕ) → List (List ℕ) → Option (List (List ℕ))
+before_ending ending s =
     let n = length s - length ending in
-    when (leb (length ending) (length s) && sameRecords (drop n s) ending) (take n s)
+    when (leb (length ending) (length s) && same_records (drop n s) ending) (take n s)
 
 -- a part found at the end: the parts that are left, and the code before it
 pub data Picked : Type 0 where
@@ -80,48 +80,48 @@ abbrev pub behind : List Instruction → Picked → Picked
 behind d nothing = nothing
 behind d (picked rest s) = picked (d ∷ rest) s
 
-abbrev pub pickedOr : Option (List (List ℕ)) → List (List Instruction) → Picked → Picked
-pickedOr none ds later = later
-pickedOr (some s) ds later = picked ds s
+abbrev pub picked_or : Option (List (List ℕ)) → List (List Instruction) → Picked → Picked
+picked_or none ds later = later
+picked_or (some s) ds later = picked ds s
 
 -- the first of the parts' codes with which code ends, as it is joined
 abbrev pub pick : List (List Instruction) → List (List ℕ) → Picked
 pick [] s = nothing
 pick (d ∷ ds) s =
     let later = behind d (pick ds s) in
-    pickedOr (beforeEnding (written (asJoined d)) s) ds later
+    picked_or (before_ending (written (as_joined d)) s) ds later
 
-abbrev pub onPicked : Picked → (List (List Instruction) → List (List ℕ) → Bool) → Bool
-onPicked nothing f = false
-onPicked (picked rest s) f = f rest s
+abbrev pub on_picked : Picked → (List (List Instruction) → List (List ℕ) → Bool) → Bool
+on_picked nothing f = false
+on_picked (picked rest s) f = f rest s
 
 abbrev pub is_whole : List (List Instruction) → List (List ℕ) → Bool
 is_whole [] s = false
-is_whole (c ∷ []) s = sameRecords (written c) s
+is_whole (c ∷ []) s = same_records (written c) s
 is_whole (c ∷ d ∷ ds) s = false
 
 -- of one more than so many parts: all but one are taken off the end, and the last is all that is left
 unfoldable pub fits : ℕ → List (List Instruction) → List (List ℕ) → Bool
 fits zero cs s = is_whole cs s
-fits (suc n) cs s = onPicked (pick cs s) (fits n)
+fits (suc n) cs s = on_picked (pick cs s) (fits n)
 
 -- the codes of a text's parts
-abbrev pub partCodes : List Key → List Part → List (List Instruction)
-partCodes ks ps = map (λ (p : Part). code_of ks p.root) ps
+abbrev pub part_codes : List Key → List Part → List (List Instruction)
+part_codes ks ps = map (λ (p : Part). code_of ks p.root) ps
 
 -- text and list first, then the blocks (16; 17; 18): whether they agree
-unfoldable pub compareAnswer : List ℕ → List ℕ → List ℕ → Answer Bool
+unfoldable pub compare_answer : List ℕ → List ℕ → List ℕ → Answer Bool
 unfolding restriction parts loaded code_of fits
-compareAnswer text list blocks =
+compare_answer text list blocks =
     restriction text list
     >>= λ r. parts text
     >>= λ ps. loaded r.keys blocks
-    >>= λ _. ok (fits (length ps - 1) (partCodes r.keys ps) (recordsIn blocks))
+    >>= λ _. ok (fits (length ps - 1) (part_codes r.keys ps) (records_in blocks))
 
-abbrev pub agreementSays : Agreement → Answer Bool
-agreementSays A.Agrees = ok true
-agreementSays A.Differs = ok false
-agreementSays (A.Refused n p) = refused n (input_of p) (offset_of p)
+abbrev pub agreement_says : Agreement → Answer Bool
+agreement_says A.Agrees = ok true
+agreement_says A.Differs = ok false
+agreement_says (A.Refused n p) = refused n (input_of p) (offset_of p)
 
 abbrev pub agreement : Bool → Agreement
 agreement true = A.Agrees

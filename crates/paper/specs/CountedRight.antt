@@ -3,24 +3,24 @@ use Rattle.std.specs.Prelude.{ℕ, ◌+◌, ◌≤◌, ◌<◌, ◌≡◌, ◌�
 use Rattle.paper.specs.Answers.{ok}
 use Rattle.paper.specs.Keys.{Key}
 use Rattle.paper.specs.Grammar.{Tree}
-use Rattle.paper.specs.Calls.{Restriction, restriction, judgeAnswer}
+use Rattle.paper.specs.Calls.{Restriction, restriction, judge_answer}
 use Rattle.paper.specs.BlocksRoundTrip.{All}
 use Rattle.paper.specs.Parts.{Part}
-use Rattle.paper.specs.Counting.{entrySize, wholeIn, cut_in, entriesIn, isAccepted, isViolated, is_refused, Counts, countsOf, counted}
+use Rattle.paper.specs.Counting.{entry_size, whole_in, cut_in, entries_in, is_accepted, is_violated, is_refused, Counts, counts_of, counted}
 
 -- "a file of entries laid end to end": the whole ones, one after the other, and then what is cut, which is no whole one
 
-abbrev pub endToEnd : List (List ℕ) → List ℕ
-endToEnd [] = []
-endToEnd (e ∷ es) = e ++ endToEnd es
+abbrev pub end_to_end : List (List ℕ) → List ℕ
+end_to_end [] = []
+end_to_end (e ∷ es) = e ++ end_to_end es
 
 pub record LiesEndToEnd (ks : List Key) (s : List ℕ) : Type 0 where
-  pub whole : length (entriesIn ks s) ≡ wholeIn ks s
-  pub each : All (λ e. length e ≡ entrySize ks) (entriesIn ks s)
+  pub whole : length (entries_in ks s) ≡ whole_in ks s
+  pub each : All (λ e. length e ≡ entry_size ks) (entries_in ks s)
   pub rest : List ℕ
-  pub all : s ≡ endToEnd (entriesIn ks s) ++ rest
+  pub all : s ≡ end_to_end (entries_in ks s) ++ rest
   pub cut : length rest ≡ cut_in ks s
-  pub short : cut_in ks s < entrySize ks
+  pub short : cut_in ks s < entry_size ks
 
 abbrev pub FileIsItsEntries : Type 0
 FileIsItsEntries = (ks : List Key) (s : List ℕ) → LiesEndToEnd ks s
@@ -29,7 +29,7 @@ FileIsItsEntries = (ks : List Key) (s : List ℕ) → LiesEndToEnd ks s
 abbrev pub TotalsAddUp : Type 0
 TotalsAddUp =
     (ks : List Key) (t : Tree) (ps : List Part) (s : List ℕ)
-    → (countsOf ks t ps s).accepted + (countsOf ks t ps s).violated + (countsOf ks t ps s).refused ≡ wholeIn ks s
+    → (counts_of ks t ps s).accepted + (counts_of ks t ps s).violated + (counts_of ks t ps s).refused ≡ whole_in ks s
 
 -- counts of two stretches of a file together
 
@@ -52,7 +52,7 @@ together c d =
 abbrev pub ChunksAddUp : Type 0
 ChunksAddUp =
     (ks : List Key) (t : Tree) (ps : List Part) (first rest : List ℕ) → cut_in ks first ≡ 0
-    → countsOf ks t ps (first ++ rest) ≡ together (countsOf ks t ps first) (countsOf ks t ps rest)
+    → counts_of ks t ps (first ++ rest) ≡ together (counts_of ks t ps first) (counts_of ks t ps rest)
 
 -- a part that is false makes the entry violated, and a violated entry has one
 
@@ -70,11 +70,11 @@ one true = 1
 one false = 0
 
 pub record AreJudged (text list entry : List ℕ) (c : Counts) : Type 0 where
-  pub accepted : c.accepted ≡ one (isAccepted (judgeAnswer text list entry))
-  pub violated : c.violated ≡ one (isViolated (judgeAnswer text list entry))
-  pub refused : c.refused ≡ one (is_refused (judgeAnswer text list entry))
+  pub accepted : c.accepted ≡ one (is_accepted (judge_answer text list entry))
+  pub violated : c.violated ≡ one (is_violated (judge_answer text list entry))
+  pub refused : c.refused ≡ one (is_refused (judge_answer text list entry))
 
 abbrev pub OneIsJudged : Type 0
 OneIsJudged =
-    (text list entry : List ℕ) (r : Restriction) (c : Counts) → restriction text list ≡ ok r → length entry ≡ entrySize r.keys
+    (text list entry : List ℕ) (r : Restriction) (c : Counts) → restriction text list ≡ ok r → length entry ≡ entry_size r.keys
     → counted text list entry ≡ ok c → AreJudged text list entry c

@@ -35,39 +35,39 @@ use Rattle.paper.specs.declared.Summarizing.{Summarizing}
 use Rattle.paper.specs.declared.Summarizing.TheVariants as S
 use Rattle.paper.specs.declared.Rechecking.{Rechecking}
 use Rattle.paper.specs.declared.Rechecking.TheVariants as K
-use Rattle.paper.specs.Answers.{Input, inText, inList, inEntry, inBlocks, inBuffer, inContract, in_table, Answer, ok, refused, readingSays, checkingSays, judgementSays, translationSays, loadingSays, runningSays, printingSays}
-use Rattle.paper.specs.Tokens.{Token, mostText, mostTokens}
+use Rattle.paper.specs.Answers.{Input, InText, InList, inEntry, inBlocks, inBuffer, inContract, in_table, Answer, ok, refused, reading_says, checking_says, judgement_says, translation_says, loading_says, running_says, printing_says}
+use Rattle.paper.specs.Tokens.{Token, most_text, most_tokens}
 use Rattle.paper.specs.Keys.{Key, keys}
 use Rattle.paper.specs.Entry.{Match, Entry, entry_of}
-use Rattle.paper.specs.Grammar.{Tree, nodes, mostLevels}
+use Rattle.paper.specs.Grammar.{Tree, nodes, most_levels}
 use Rattle.paper.specs.Sentences.{Valid}
 use Rattle.paper.specs.Types.{bool, type_of}
 use Rattle.paper.specs.Meaning.{truth, value_of}
-use Rattle.paper.specs.Blocks.{blockSize, blocksNeeded}
-use Rattle.paper.specs.Loading.{program, loaded, done, runAlong, Step}
-use Rattle.paper.specs.Translating.{conversions, joins, stepsOf}
+use Rattle.paper.specs.Blocks.{block_size, blocks_needed}
+use Rattle.paper.specs.Loading.{program, loaded, done, run_along, Step}
+use Rattle.paper.specs.Translating.{conversions, joins, steps_of}
 use Rattle.paper.specs.Print.{print}
 use Rattle.paper.specs.Sized.{levels, count}
 use Rattle.paper.specs.Calls.{over}
-use Rattle.paper.specs.Explained.{explanationSays}
-use Rattle.paper.specs.ExplainedRight.{Explains, judgementOf}
-use Rattle.paper.specs.Named.{summarizingSays}
-use Rattle.paper.specs.Rechecking.{recheckingSays}
-use Rattle.paper.specs.Fixing.{oldScan, fixed, fixingSays}
-use Rattle.paper.specs.Pact.{mostIndices, Clause, contractHolds, contractBytes, AllIndexed}
-use Rattle.paper.specs.Drafting.{contractTree, names_of, draftingSays}
+use Rattle.paper.specs.Explained.{explanation_says}
+use Rattle.paper.specs.ExplainedRight.{Explains, judgement_of}
+use Rattle.paper.specs.Named.{summarizing_says}
+use Rattle.paper.specs.Rechecking.{rechecking_says}
+use Rattle.paper.specs.Fixing.{old_scan, fixed, fixing_says}
+use Rattle.paper.specs.Pact.{most_indices, Clause, contract_holds, contract_bytes, AllIndexed}
+use Rattle.paper.specs.Drafting.{contract_tree, names_of, drafting_says}
 use Rattle.paper.specs.Parts.{Part, parts}
 use Rattle.paper.specs.PartsDecide.{roots}
-use Rattle.paper.specs.Comparing.{Ours, agreementSays}
-use Rattle.paper.specs.Counting.{wholeIn, cut_in, Counts, countsOf, mostEntries, totalsOf, countingSays}
-use Rattle.paper.specs.RunAll.{Verdicts, verdictsOn, allRan, runningAllSays}
+use Rattle.paper.specs.Comparing.{Ours, agreement_says}
+use Rattle.paper.specs.Counting.{whole_in, cut_in, Counts, counts_of, most_entries, totals_of, counting_says}
+use Rattle.paper.specs.RunAll.{Verdicts, verdicts_on, all_ran, running_all_says}
 use Rattle.paper.specs.BlocksRoundTrip.{All}
 use Rattle.paper.specs.RecheckedRight.{Summarizes, Rechecks}
 use Rattle.paper.specs.LoadedBlocksRun.{Runs}
-use Rattle.paper.specs.CodeCorrect.{mostTranslated}
+use Rattle.paper.specs.CodeCorrect.{most_translated}
 use Rattle.paper.specs.Faults.{CutsBy, Cuts}
-use Rattle.paper.specs.Table.{lastNumber, Stage, Clear, ByTable, readStages, checkStages, judgeStages, translateStages, loadStages, runStages, printStages, fixStages, draftStages, compareStages, countStages, runAllStages}
-use Rattle.paper.specs.Promised.{JudgePromised, verdict, verdictIn, judgementOfRun, TranslateResult, PrintResult, FixResult, DraftResult, CountResult, RunAllResult, Bytes, UserNumbers, PartNumbers, Programs, Kept}
+use Rattle.paper.specs.Table.{last_number, Stage, Clear, ByTable, read_stages, check_stages, judge_stages, translate_stages, load_stages, run_stages, print_stages, fix_stages, draft_stages, compare_stages, count_stages, run_all_stages}
+use Rattle.paper.specs.Promised.{JudgePromised, verdict, verdict_in, judgement_of_run, TranslateResult, PrintResult, FixResult, DraftResult, CountResult, RunAllResult, Bytes, UserNumbers, PartNumbers, Programs, Kept}
 
 -- Demand 1. An answer is one of the enum's cases. It is a refusal exactly as the table of 01 says, with that number at that place, and
 -- passes exactly when no stage of the call has a fault. The number is one of the table's, and the place lies in an input that was lent, or
@@ -83,7 +83,7 @@ lent i s = record { input = i; bytes = s }
 
 pub record Refusal (inputs : List Lent) (n : ℕ) (i : Input) (at : ℕ) : Type 0 where
   pub low : 1 ≤ n
-  pub high : n ≤ lastNumber
+  pub high : n ≤ last_number
   pub lies : Lent
   pub among : Memᴰ lies inputs
   pub named : i ≡ lies.input
@@ -97,67 +97,67 @@ pub record Answered {A : Type 0} (inputs : List Lent) (stages : List Stage) (a :
 -- for the inputs of each call, and what it answers for them
 
 abbrev pub ReadAnswered : List ℕ → Reading → Type 0
-ReadAnswered text r = Answered (lent inText text ∷ []) (readStages text) (readingSays r)
+ReadAnswered text r = Answered (lent InText text ∷ []) (read_stages text) (reading_says r)
 
 abbrev pub CheckAnswered : List ℕ → List ℕ → Checking → Type 0
-CheckAnswered text list r = Answered (lent inText text ∷ lent inList list ∷ []) (checkStages text list) (checkingSays r)
+CheckAnswered text list r = Answered (lent InText text ∷ lent InList list ∷ []) (check_stages text list) (checking_says r)
 
 -- by judging, or by explaining
 abbrev pub EntryAnswered : List ℕ → List ℕ → List ℕ → Answer Bool → Type 0
-EntryAnswered text list entry a = Answered (lent inText text ∷ lent inList list ∷ lent inEntry entry ∷ []) (judgeStages text list entry) a
+EntryAnswered text list entry a = Answered (lent InText text ∷ lent InList list ∷ lent inEntry entry ∷ []) (judge_stages text list entry) a
 
 abbrev pub JudgeAnswered : List ℕ → List ℕ → List ℕ → Judgement → Type 0
-JudgeAnswered text list entry r = EntryAnswered text list entry (judgementSays r)
+JudgeAnswered text list entry r = EntryAnswered text list entry (judgement_says r)
 
 abbrev pub ExplainAnswered : List ℕ → List ℕ → List ℕ → Explanation → Type 0
-ExplainAnswered text list entry r = EntryAnswered text list entry (judgementOf (explanationSays r))
+ExplainAnswered text list entry r = EntryAnswered text list entry (judgement_of (explanation_says r))
 
 -- and the buffer, which a refusal leaves as it is
 pub record TranslateAnswered (text list buffer : List ℕ) (r : TranslateResult) : Type 0 where
-  pub says : Answered (lent inText text ∷ lent inList list ∷ lent inBuffer buffer ∷ []) (translateStages text list buffer)
-      (translationSays r.answer)
+  pub says : Answered (lent InText text ∷ lent InList list ∷ lent inBuffer buffer ∷ []) (translate_stages text list buffer)
+      (translation_says r.answer)
   pub unchanged : (n : ℕ) (at : Place) → r.answer ≡ T.Refused n at → r.buffer ≡ buffer
 
 abbrev pub LoadAnswered : List ℕ → List ℕ → Loading → Type 0
-LoadAnswered list blocks r = Answered (lent inList list ∷ lent inBlocks blocks ∷ []) (loadStages list blocks) (loadingSays r)
+LoadAnswered list blocks r = Answered (lent InList list ∷ lent inBlocks blocks ∷ []) (load_stages list blocks) (loading_says r)
 
 abbrev pub RunAnswered : List ℕ → List ℕ → List ℕ → Running → Type 0
 RunAnswered list blocks entry r =
-    Answered (lent inList list ∷ lent inBlocks blocks ∷ lent inEntry entry ∷ []) (runStages list blocks entry) (runningSays r)
+    Answered (lent InList list ∷ lent inBlocks blocks ∷ lent inEntry entry ∷ []) (run_stages list blocks entry) (running_says r)
 
 pub record PrintAnswered (text buffer : List ℕ) (r : PrintResult) : Type 0 where
-  pub says : Answered (lent inText text ∷ lent inBuffer buffer ∷ []) (printStages text buffer) (printingSays r.answer)
+  pub says : Answered (lent InText text ∷ lent inBuffer buffer ∷ []) (print_stages text buffer) (printing_says r.answer)
   pub unchanged : (n : ℕ) (at : Place) → r.answer ≡ W.Refused n at → r.buffer ≡ buffer
 
 pub record FixAnswered (text buffer : List ℕ) (r : FixResult) : Type 0 where
-  pub says : Answered (lent inText text ∷ lent inBuffer buffer ∷ []) (fixStages text buffer) (fixingSays r.answer)
+  pub says : Answered (lent InText text ∷ lent inBuffer buffer ∷ []) (fix_stages text buffer) (fixing_says r.answer)
   pub unchanged : (n : ℕ) (at : Place) → r.answer ≡ F.Refused n at → r.buffer ≡ buffer
 
 -- the offset in a table counts its numbers
 pub record DraftAnswered (contract table list buffer : List ℕ) (r : DraftResult) : Type 0 where
-  pub says : Answered (lent inContract contract ∷ lent in_table table ∷ lent inList list ∷ lent inBuffer buffer ∷ [])
-      (draftStages contract table list buffer) (draftingSays r.answer)
+  pub says : Answered (lent inContract contract ∷ lent in_table table ∷ lent InList list ∷ lent inBuffer buffer ∷ [])
+      (draft_stages contract table list buffer) (drafting_says r.answer)
   pub unchanged : (n : ℕ) (at : Place) → r.answer ≡ D.Refused n at → r.buffer ≡ buffer
 
 abbrev pub CompareAnswered : List ℕ → List ℕ → List ℕ → Agreement → Type 0
 CompareAnswered text list blocks r =
-    Answered (lent inText text ∷ lent inList list ∷ lent inBlocks blocks ∷ []) (compareStages text list blocks) (agreementSays r)
+    Answered (lent InText text ∷ lent InList list ∷ lent inBlocks blocks ∷ []) (compare_stages text list blocks) (agreement_says r)
 
 pub record CountAnswered (text list entries numbers : List ℕ) (r : CountResult) : Type 0 where
-  pub says : Answered (lent inText text ∷ lent inList list ∷ lent inEntry entries ∷ []) (countStages text list entries)
-      (countingSays r.answer)
+  pub says : Answered (lent InText text ∷ lent InList list ∷ lent inEntry entries ∷ []) (count_stages text list entries)
+      (counting_says r.answer)
   pub unchanged : (n : ℕ) (at : Place) → r.answer ≡ E.Refused n at → r.numbers ≡ numbers
 
 pub record RunAllAnswered (list blocks entries answers : List ℕ) (r : RunAllResult) : Type 0 where
-  pub says : Answered (lent inList list ∷ lent inBlocks blocks ∷ lent inEntry entries ∷ lent inBuffer answers ∷ [])
-      (runAllStages list blocks entries answers) (runningAllSays r.answer)
+  pub says : Answered (lent InList list ∷ lent inBlocks blocks ∷ lent inEntry entries ∷ lent inBuffer answers ∷ [])
+      (run_all_stages list blocks entries answers) (running_all_says r.answer)
   pub unchanged : (n : ℕ) (at : Place) → r.answer ≡ U.Refused n at → r.bytes ≡ answers
 
 abbrev pub SummarizeAnswered : List ℕ → List ℕ → Summarizing → Type 0
-SummarizeAnswered text list r = Answered (lent inText text ∷ lent inList list ∷ []) (checkStages text list) (summarizingSays r)
+SummarizeAnswered text list r = Answered (lent InText text ∷ lent InList list ∷ []) (check_stages text list) (summarizing_says r)
 
 abbrev pub RecheckAnswered : List ℕ → List ℕ → Judgement → List ℕ → Rechecking → Type 0
-RecheckAnswered text list earlier new (K.Reused j) = (j ≡ earlier) × Clear (judgeStages text list new)
+RecheckAnswered text list earlier new (K.Reused j) = (j ≡ earlier) × Clear (judge_stages text list new)
 RecheckAnswered text list earlier new (K.Judged j) = JudgeAnswered text list new j
 
 pub record DemandOne (p : Programs) : Type 0 where
@@ -180,8 +180,8 @@ pub record DemandOne (p : Programs) : Type 0 where
   pub compare : (text list blocks : List ℕ) → Bytes text → Bytes list → Bytes blocks → CompareAnswered text list blocks (p.compare text list blocks)
   pub count : (text list entries numbers : List ℕ) → Bytes text → Bytes list → Bytes entries → PartNumbers numbers
       → CountAnswered text list entries numbers (p.count text list entries numbers)
-  pub runAll : (list blocks entries answers : List ℕ) → Bytes list → Bytes blocks → Bytes entries → Bytes answers
-      → RunAllAnswered list blocks entries answers (p.runAll list blocks entries answers)
+  pub run_all : (list blocks entries answers : List ℕ) → Bytes list → Bytes blocks → Bytes entries → Bytes answers
+      → RunAllAnswered list blocks entries answers (p.run_all list blocks entries answers)
 
 -- Demand 2, for every call that takes a text or an entry. A text is refused exactly when it is over a limit or ill-formed, the list does
 -- not pass, or the text is ill-typed against it; an entry exactly when it does not conform to the list. Else it is accepted exactly when
@@ -190,7 +190,7 @@ pub record DemandOne (p : Programs) : Type 0 where
 
 -- within the limits, and a sentence
 pub record WellFormed (text : List ℕ) (root : Tree) : Type 0 where
-  pub short : length text ≤ mostText
+  pub short : length text ≤ most_text
   pub words : List Token
   pub cut : Cuts text words
   pub sentence : Valid root words
@@ -240,7 +240,7 @@ pub record JudgedRight (text list entry : List ℕ) (r : Judgement) : Type 0 whe
 pub record Translatable (text list buffer : List ℕ) (n : ℕ) : Type 0 where
   pub passes : Checkable text list
   pub count : n ≡ nodes passes.root + conversions passes.ks passes.root + joins passes.root
-  pub room : blockSize * blocksNeeded n ≤ length buffer
+  pub room : block_size * blocks_needed n ≤ length buffer
 
 abbrev pub TranslatedRight : List ℕ → List ℕ → List ℕ → TranslateResult → Type 0
 TranslatedRight text list buffer r = (n : ℕ) → (r.answer ≡ T.Written n) ↔ Translatable text list buffer n
@@ -250,7 +250,7 @@ pub record Printable (text buffer : List ℕ) (n : ℕ) : Type 0 where
   pub root : Tree
   pub formed : WellFormed text root
   pub count : n ≡ length (print root)
-  pub short : n ≤ mostText
+  pub short : n ≤ most_text
   pub room : n ≤ length buffer
 
 -- they are written, and "Bytes after a print .. stay"
@@ -260,9 +260,9 @@ pub record PrintedRight (text buffer : List ℕ) (r : PrintResult) : Type 0 wher
 
 -- n bytes, what 02 h's pass makes of a text that is cut into tokens by the old rules, for a buffer that they fit in
 pub record Fixable (text buffer : List ℕ) (n : ℕ) : Type 0 where
-  pub short : length text ≤ mostText
+  pub short : length text ≤ most_text
   pub words : List Token
-  pub cut : CutsBy oldScan text words
+  pub cut : CutsBy old_scan text words
   pub count : n ≡ length (fixed text)
   pub room : n ≤ length buffer
 
@@ -275,16 +275,16 @@ pub record FixesRight (text buffer : List ℕ) (r : FixResult) : Type 0 where
 pub record Draftable (contract table list buffer : List ℕ) (n : ℕ) : Type 0 where
   pub ks : List Key
   pub named : names_of list ≡ ok ks
-  pub few : length table ≤ mostIndices
+  pub few : length table ≤ most_indices
   pub clauses : List Clause
-  pub meant : contract ≡ contractBytes clauses
+  pub meant : contract ≡ contract_bytes clauses
   pub indexed : All (AllIndexed (length ks) (length table)) clauses
   pub root : Tree
-  pub made : root ≡ contractTree (map (λ (k : Key). k.name) ks) table clauses
-  pub tokens : count root ≤ mostTokens
-  pub deep : levels root ≤ mostLevels
+  pub made : root ≡ contract_tree (map (λ (k : Key). k.name) ks) table clauses
+  pub tokens : count root ≤ most_tokens
+  pub deep : levels root ≤ most_levels
   pub size : n ≡ length (print root)
-  pub short : n ≤ mostText
+  pub short : n ≤ most_text
   pub room : n ≤ length buffer
 
 -- they are written, and the bytes after them stay
@@ -293,15 +293,15 @@ pub record DraftsRight (contract table list buffer : List ℕ) (r : DraftResult)
   pub written : (n : ℕ) (d : Draftable contract table list buffer n) → r.buffer ≡ over (print d.root) buffer
 
 -- the numbers of the inputs in an entry
-abbrev pub inputsOf : Entry → List ℕ
-inputsOf e = map (λ (m : Match). m.first) e.matches
+abbrev pub inputs_of : Entry → List ℕ
+inputs_of e = map (λ (m : Match). m.first) e.matches
 
 -- "The text judged on an entry with those inputs equals the contract's own meaning, written from 000."; it passes with those names
 pub record DraftMeans (p : Programs) (contract table list buffer : List ℕ) : Type 0 where
   pub passes : (n : ℕ) → Draftable contract table list buffer n
       → p.check (take n (p.draft contract table list buffer).buffer) list ≡ C.Passed
   pub judged : (n : ℕ) (d : Draftable contract table list buffer n) (entry : List ℕ) (e : Entry) → Bytes entry → entry_of d.ks entry ≡ ok e
-      → p.judge (take n (p.draft contract table list buffer).buffer) list entry ≡ verdict (contractHolds (inputsOf e) table d.clauses)
+      → p.judge (take n (p.draft contract table list buffer).buffer) list entry ≡ verdict (contract_holds (inputs_of e) table d.clauses)
 
 -- a text that passes with a list, its parts, and blocks that load with the list
 pub record Comparable (text list blocks : List ℕ) : Type 0 where
@@ -321,29 +321,29 @@ pub record CompareRight (text list blocks : List ℕ) (r : Agreement) : Type 0 w
 abbrev pub AgreementMeans : Programs → List ℕ → List ℕ → List ℕ → Type 0
 AgreementMeans p text list blocks =
     p.compare text list blocks ≡ A.Agrees
-    → (entry : List ℕ) → Bytes entry → judgementOfRun (p.run list blocks entry) ≡ p.judge text list entry
+    → (entry : List ℕ) → Bytes entry → judgement_of_run (p.run list blocks entry) ≡ p.judge text list entry
 
 -- a text that passes with a list, its parts, and no more entries than are counted
 pub record Countable (text list entries : List ℕ) : Type 0 where
   pub passes : Checkable text list
   pub ps : List Part
   pub divided : parts text ≡ ok ps
-  pub few : wholeIn passes.ks entries ≤ mostEntries
+  pub few : whole_in passes.ks entries ≤ most_entries
 
-abbrev pub countsIn : (text list entries : List ℕ) → Countable text list entries → Counts
-countsIn text list entries c = countsOf c.passes.ks c.passes.root c.ps entries
+abbrev pub counts_in : (text list entries : List ℕ) → Countable text list entries → Counts
+counts_in text list entries c = counts_of c.passes.ks c.passes.root c.ps entries
 
 -- "Each number equals a definition over the list of entries.": every other text, list or file is refused
 pub record CountRight (text list entries numbers : List ℕ) (r : CountResult) : Type 0 where
   pub refuses : ((n : ℕ) × (at : Place) × (r.answer ≡ E.Refused n at)) ↔ ¬ Countable text list entries
   pub totals : (c : Countable text list entries)
-      → countingSays r.answer ≡ ok (totalsOf (countsIn text list entries c))
-  pub written : (c : Countable text list entries) → r.numbers ≡ over (countsIn text list entries c).parts numbers
+      → counting_says r.answer ≡ ok (totals_of (counts_in text list entries c))
+  pub written : (c : Countable text list entries) → r.numbers ≡ over (counts_in text list entries c).parts numbers
 
 -- a run of blocks leaves one bool, in so many steps
 abbrev pub LeavesIn : (list blocks entry : List ℕ) → Runnable list blocks entry → Bool → ℕ → Type 0
 LeavesIn list blocks entry j b n =
-    (path : List Step) × (runAlong j.ks j.on (program blocks) ≡ done path (truth b ∷ [])) × (length path ≡ n)
+    (path : List Step) × (run_along j.ks j.on (program blocks) ≡ done path (truth b ∷ [])) × (length path ≡ n)
 
 -- "The entry is accepted exactly when the bool left at the end is true, else violated; this holds for all blocks that load"; "Running
 -- reports the steps taken"
@@ -359,23 +359,23 @@ pub record AllRunnable (list blocks entries answers : List ℕ) : Type 0 where
   pub count : ℕ
   pub loads : loaded ks blocks ≡ ok count
   pub whole : cut_in ks entries ≡ 0
-  pub room : wholeIn ks entries ≤ length answers
+  pub room : whole_in ks entries ≤ length answers
 
-abbrev pub verdictsIn : (list blocks entries answers : List ℕ) → AllRunnable list blocks entries answers → Verdicts
-verdictsIn list blocks entries answers j = verdictsOn j.ks blocks entries
+abbrev pub verdicts_in : (list blocks entries answers : List ℕ) → AllRunnable list blocks entries answers → Verdicts
+verdicts_in list blocks entries answers j = verdicts_on j.ks blocks entries
 
 -- "loads once, then a byte for each entry laid end to end (accepted, violated, refused 20); later bytes of the answers stay": every other list,
 -- blocks, entries or answers are refused
 pub record RunAllRight (list blocks entries answers : List ℕ) (r : RunAllResult) : Type 0 where
   pub refuses : ((n : ℕ) × (at : Place) × (r.answer ≡ U.Refused n at)) ↔ ¬ AllRunnable list blocks entries answers
   pub totals : (j : AllRunnable list blocks entries answers)
-      → runningAllSays r.answer ≡ ok (allRan (verdictsIn list blocks entries answers j))
+      → running_all_says r.answer ≡ ok (all_ran (verdicts_in list blocks entries answers j))
   pub written : (j : AllRunnable list blocks entries answers)
-      → r.bytes ≡ over (verdictsIn list blocks entries answers j).bytes answers
+      → r.bytes ≡ over (verdicts_in list blocks entries answers j).bytes answers
 
 -- "For a violated entry, name the first false part .."
 abbrev pub ExplainRight : List ℕ → List ℕ → List ℕ → Explanation → Type 0
-ExplainRight text list entry r = Explains text list entry (explanationSays r)
+ExplainRight text list entry r = Explains text list entry (explanation_says r)
 
 -- "one bit for each key the text names, and a mark for ::priority", of every text and list that pass
 pub record SummarizeRight (text list : List ℕ) (r : Summarizing) : Type 0 where
@@ -384,16 +384,16 @@ pub record SummarizeRight (text list : List ℕ) (r : Summarizing) : Type 0 wher
       → Summarizes c.ks c.root (record { keys = keys; priority = priority })
 
 -- the judgement that a recheck comes to
-abbrev pub judgementIn : Rechecking → Judgement
-judgementIn (K.Reused j) = j
-judgementIn (K.Judged j) = j
+abbrev pub judgement_in : Rechecking → Judgement
+judgement_in (K.Reused j) = j
+judgement_in (K.Judged j) = j
 
 -- "the recheck reuses that answer exactly when ..; otherwise it judges the new entry, refusals included .. If the earlier answer is the old
 -- entry's true judgement, the result is the judgement worked out afresh for the new one."
 pub record RecheckRight (text list old : List ℕ) (earlier : Judgement) (new : List ℕ) (r : Rechecking) : Type 0 where
-  pub rechecks : Rechecks text list old (judgementSays earlier) new (recheckingSays r)
+  pub rechecks : Rechecks text list old (judgement_says earlier) new (rechecking_says r)
   pub judges : (j : Judgement) → r ≡ K.Judged j → JudgedRight text list new j
-  pub fresh : JudgePromised text list old earlier → JudgePromised text list new (judgementIn r)
+  pub fresh : JudgePromised text list old earlier → JudgePromised text list new (judgement_in r)
 
 pub record DemandTwo (p : Programs) : Type 0 where
   pub reads : (text : List ℕ) → Bytes text → ReadRight text (p.read text)
@@ -410,14 +410,14 @@ pub record DemandTwo (p : Programs) : Type 0 where
   pub fixes : (text buffer : List ℕ) → Bytes text → Bytes buffer → FixesRight text buffer (p.fix text buffer)
   pub drafts : (contract table list buffer : List ℕ) → Bytes contract → UserNumbers table → Bytes list → Bytes buffer
       → DraftsRight contract table list buffer (p.draft contract table list buffer)
-  pub drafts-mean : (contract table list buffer : List ℕ) → Bytes contract → UserNumbers table → Bytes list → Bytes buffer
+  pub drafts_mean : (contract table list buffer : List ℕ) → Bytes contract → UserNumbers table → Bytes list → Bytes buffer
       → DraftMeans p contract table list buffer
   pub compares : (text list blocks : List ℕ) → Bytes text → Bytes list → Bytes blocks → CompareRight text list blocks (p.compare text list blocks)
-  pub agreement-means : (text list blocks : List ℕ) → Bytes text → Bytes list → Bytes blocks → AgreementMeans p text list blocks
+  pub agreement_means : (text list blocks : List ℕ) → Bytes text → Bytes list → Bytes blocks → AgreementMeans p text list blocks
   pub counts : (text list entries numbers : List ℕ) → Bytes text → Bytes list → Bytes entries → PartNumbers numbers
       → CountRight text list entries numbers (p.count text list entries numbers)
-  pub runs-all : (list blocks entries answers : List ℕ) → Bytes list → Bytes blocks → Bytes entries → Bytes answers
-      → RunAllRight list blocks entries answers (p.runAll list blocks entries answers)
+  pub runs_all : (list blocks entries answers : List ℕ) → Bytes list → Bytes blocks → Bytes entries → Bytes answers
+      → RunAllRight list blocks entries answers (p.run_all list blocks entries answers)
 
 -- Demand 3. A text and a list that pass have a number of instructions, and are translated with it into every buffer that has room for
 -- its blocks; every other buffer is refused, 15 at its length. The blocks written load with that list, with the number returned, and
@@ -426,38 +426,38 @@ pub record DemandTwo (p : Programs) : Type 0 where
 
 pub record Translates (p : Programs) (text list : List ℕ) : Type 0 where
   pub count : ℕ
-  pub few : count ≤ mostTranslated
-  pub enough : (buffer : List ℕ) → Bytes buffer → blockSize * blocksNeeded count ≤ length buffer
+  pub few : count ≤ most_translated
+  pub enough : (buffer : List ℕ) → Bytes buffer → block_size * blocks_needed count ≤ length buffer
       → (p.translate text list buffer).answer ≡ T.Written count
-  pub short : (buffer : List ℕ) → Bytes buffer → length buffer < blockSize * blocksNeeded count
+  pub short : (buffer : List ℕ) → Bytes buffer → length buffer < block_size * blocks_needed count
       → (p.translate text list buffer).answer ≡ T.Refused 15 (P.Buffer (length buffer))
 
-abbrev pub blocksWritten : ℕ → List ℕ → List ℕ
-blocksWritten n exit = take (blockSize * blocksNeeded n) exit
+abbrev pub blocks_written : ℕ → List ℕ → List ℕ
+blocks_written n exit = take (block_size * blocks_needed n) exit
 
 -- n instructions written to a buffer, which then holds `exit`, and what loading the blocks there answers
 pub record Carried (buffer exit : List ℕ) (n : ℕ) (loaded : Loading) : Type 0 where
-  pub room : blockSize * blocksNeeded n ≤ length buffer
+  pub room : block_size * blocks_needed n ≤ length buffer
   pub loads : loaded ≡ L.Loaded n
-  pub later : drop (blockSize * blocksNeeded n) exit ≡ drop (blockSize * blocksNeeded n) buffer
+  pub later : drop (block_size * blocks_needed n) exit ≡ drop (block_size * blocks_needed n) buffer
 
 pub record Judged (p : Programs) (list blocks entry : List ℕ) (ks : List Key) (e : Entry) (n : ℕ) : Type 0 where
   pub goes : Runs ks e blocks n
-  pub answer : p.run list blocks entry ≡ verdictIn goes.bit (length goes.path)
+  pub answer : p.run list blocks entry ≡ verdict_in goes.bit (length goes.path)
 
 pub record DemandThree (p : Programs) : Type 0 where
   pub translates : (text list : List ℕ) → Bytes text → Bytes list → p.check text list ≡ C.Passed → Translates p text list
   pub bytes : (text list buffer : List ℕ) → Bytes text → Bytes list → Bytes buffer → Bytes (p.translate text list buffer).buffer
   pub carries : (text list buffer : List ℕ) → Bytes text → Bytes list → Bytes buffer → (n : ℕ)
       → (p.translate text list buffer).answer ≡ T.Written n
-      → Carried buffer (p.translate text list buffer).buffer n (p.load list (blocksWritten n (p.translate text list buffer).buffer))
-  pub runs-alike : (text list buffer : List ℕ) → Bytes text → Bytes list → Bytes buffer → (n : ℕ)
+      → Carried buffer (p.translate text list buffer).buffer n (p.load list (blocks_written n (p.translate text list buffer).buffer))
+  pub runs_alike : (text list buffer : List ℕ) → Bytes text → Bytes list → Bytes buffer → (n : ℕ)
       → (p.translate text list buffer).answer ≡ T.Written n → (entry : List ℕ) → Bytes entry
-      → judgementOfRun (p.run list (blocksWritten n (p.translate text list buffer).buffer) entry) ≡ p.judge text list entry
-  pub steps-counted : (text list buffer : List ℕ) → Bytes text → Bytes list → Bytes buffer → (n : ℕ)
+      → judgement_of_run (p.run list (blocks_written n (p.translate text list buffer).buffer) entry) ≡ p.judge text list entry
+  pub steps_counted : (text list buffer : List ℕ) → Bytes text → Bytes list → Bytes buffer → (n : ℕ)
       → (p.translate text list buffer).answer ≡ T.Written n → (entry : List ℕ) → Bytes entry → (j : Judgeable text list entry) → (b : Bool) (m : ℕ)
-      → p.run list (blocksWritten n (p.translate text list buffer).buffer) entry ≡ verdictIn b m
-      → m ≡ stepsOf j.passes.ks j.on j.passes.root
+      → p.run list (blocks_written n (p.translate text list buffer).buffer) entry ≡ verdict_in b m
+      → m ≡ steps_of j.passes.ks j.on j.passes.root
   pub runs : (list blocks : List ℕ) → Bytes list → Bytes blocks → (n : ℕ) → p.load list blocks ≡ L.Loaded n
       → (ks : List Key) → keys list ≡ ok ks → (entry : List ℕ) → Bytes entry → (e : Entry) → entry_of ks entry ≡ ok e
       → Judged p list blocks entry ks e n

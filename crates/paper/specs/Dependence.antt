@@ -12,7 +12,7 @@ use Rattle.paper.specs.Answers.{ok}
 use Rattle.paper.specs.Numbers.{byte_at}
 use Rattle.paper.specs.Tokens.{bytes}
 use Rattle.paper.specs.Keys.{Kind, exact, ternary, lpm, range, optional, Key, keys}
-use Rattle.paper.specs.Entry.{Entry, headSize, matchSize, matchRecord, matchAt, priorityOf, entry_of}
+use Rattle.paper.specs.Entry.{Entry, head_size, match_size, match_record, match_at, priority_of, entry_of}
 use Rattle.paper.specs.Grammar.{Tree, truth, number, key, field, attribute, prefixed, joined, compared}
 use Rattle.paper.specs.Print.{print}
 use Rattle.paper.specs.BlocksRoundTrip.{All}
@@ -20,14 +20,14 @@ use Rattle.paper.specs.Calls.{Restriction, restriction}
 use Rattle.paper.specs.Named.{names, marked}
 use Rattle.paper.specs.RecheckedRight.{bit_at, SameNamed, BothConform}
 use Rattle.paper.specs.Promised.{Bytes, Programs, Kept}
-use Rattle.paper.specs.Demands.{blocksWritten}
+use Rattle.paper.specs.Demands.{blocks_written}
 
 -- "get the same answer and reason": the judge's answer, what is explained, and what a run of the text's blocks comes to, its steps included
 pub record Alike (p : Programs) (text list entry other : List ℕ) : Type 0 where
   pub judged : p.judge text list entry ≡ p.judge text list other
   pub explained : p.explain text list entry ≡ p.explain text list other
   pub ran : (buffer : List ℕ) (n : ℕ) → Bytes buffer → (p.translate text list buffer).answer ≡ T.Written n
-      → let blocks = blocksWritten n (p.translate text list buffer).buffer in
+      → let blocks = blocks_written n (p.translate text list buffer).buffer in
       p.run list blocks entry ≡ p.run list blocks other
 
 -- "hold equal records for every key the text names, and have equal priority where it names ::priority": SameNamed, as 02 f has it
@@ -42,7 +42,7 @@ abbrev pub SummaryTellsAll : Type 0
 SummaryTellsAll =
     (p : Programs) → Kept p → (text list entry other : List ℕ) → Bytes text → Bytes list → Bytes entry → Bytes other
     → BothConform text list entry other → (named : ℕ) (mark : Bool) → p.summarize text list ≡ S.Summary named mark
-    → ((k : ℕ) → bit_at named k ≡ true → matchAt entry k ≡ matchAt other k) → (mark ≡ true → priorityOf entry ≡ priorityOf other)
+    → ((k : ℕ) → bit_at named k ≡ true → match_at entry k ≡ match_at other k) → (mark ≡ true → priority_of entry ≡ priority_of other)
     → Alike p text list entry other
 
 -- "the present one that spells out its reading": what 01 reads an absent key as. A range is from 0 to 2^W − 1; all else is 0
@@ -53,12 +53,12 @@ second_of lpm w = 0
 second_of range w = 2 ^ w - 1
 second_of optional w = 0
 
-abbrev pub spellOut : Key → List ℕ
-spellOut k = matchRecord 1 0 0 (second_of k.kind k.width)
+abbrev pub spell_out : Key → List ℕ
+spell_out k = match_record 1 0 0 (second_of k.kind k.width)
 
 -- "replacing": another record for key k
-abbrev pub withRecord : List ℕ → ℕ → List ℕ → List ℕ
-withRecord entry k r = take (headSize + k * matchSize) entry ++ r ++ drop (headSize + suc k * matchSize) entry
+abbrev pub with_record : List ℕ → ℕ → List ℕ → List ℕ
+with_record entry k r = take (head_size + k * match_size) entry ++ r ++ drop (head_size + suc k * match_size) entry
 
 -- every call says the same; and a run does of any blocks that load, whoever made them
 pub record SpelledAlike (p : Programs) (text list entry other : List ℕ) : Type 0 where
@@ -69,8 +69,8 @@ pub record SpelledAlike (p : Programs) (text list entry other : List ℕ) : Type
 abbrev pub SpelledOutDoesNotMatter : Type 0
 SpelledOutDoesNotMatter =
     (p : Programs) → Kept p → (text list entry : List ℕ) (ks : List Key) (e : Entry) (k : ℕ) (x : Key) → Bytes text → Bytes list → Bytes entry
-    → keys list ≡ ok ks → entry_of ks entry ≡ ok e → get_elem? ks k ≡ some x → byte_at (matchAt entry k) 0 ≡ 0
-    → let other = withRecord entry k (spellOut x) in
+    → keys list ≡ ok ks → entry_of ks entry ≡ ok e → get_elem? ks k ≡ some x → byte_at (match_at entry k) 0 ≡ 0
+    → let other = with_record entry k (spell_out x) in
     (entry_of ks other ≡ ok e) × SpelledAlike p text list entry other
 
 -- The other way: what is named can matter. It need not do so in the text that names it, as `v == v` shows
@@ -87,22 +87,22 @@ naming (joined at o l r) = naming l ++ naming r
 naming (compared at c l r) = naming l ++ naming r
 
 -- the text that compares an operand with 0
-abbrev pub againstZero : Tree → List ℕ
-againstZero o = print o ++ bytes " == 0"
+abbrev pub against_zero : Tree → List ℕ
+against_zero o = print o ++ bytes " == 0"
 
 -- this text names key k, no other and not the priority; two entries that conform differ in the record of k alone; and one is accepted, the
 -- other violated
 pub record CanMatter (p : Programs) (list : List ℕ) (o : Tree) (k : ℕ) : Type 0 where
   pub entry : List ℕ
   pub other : List ℕ
-  pub lent : Bytes (againstZero o) × Bytes entry × Bytes other
-  pub both : BothConform (againstZero o) list entry other
+  pub lent : Bytes (against_zero o) × Bytes entry × Bytes other
+  pub both : BothConform (against_zero o) list entry other
   pub named : (j : ℕ) → names both.rule.keys both.rule.root j ≡ eqb k j
   pub unmarked : marked both.rule.root ≡ false
-  pub elsewhere : (j : ℕ) → j ≢ k → matchAt entry j ≡ matchAt other j
-  pub priority : priorityOf entry ≡ priorityOf other
-  pub accepted : p.judge (againstZero o) list entry ≡ J.Accepted
-  pub violated : p.judge (againstZero o) list other ≡ J.Violated
+  pub elsewhere : (j : ℕ) → j ≢ k → match_at entry j ≡ match_at other j
+  pub priority : priority_of entry ≡ priority_of other
+  pub accepted : p.judge (against_zero o) list entry ≡ J.Accepted
+  pub violated : p.judge (against_zero o) list other ≡ J.Violated
 
 -- of a text and a list that pass: each operand, and the key that it names
 abbrev pub EachNamedCanMatter : Type 0

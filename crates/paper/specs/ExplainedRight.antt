@@ -6,12 +6,12 @@ use Rattle.std.proofs.Math.ListN.{get_elem?}
 use Rattle.paper.specs.Answers.{Input, inEntry, Answer, ok, refused}
 use Rattle.paper.specs.Numbers.{bytes_at}
 use Rattle.paper.specs.Keys.{Key, keys}
-use Rattle.paper.specs.Entry.{Entry, headSize, matchSize, entry_of}
+use Rattle.paper.specs.Entry.{Entry, head_size, match_size, entry_of}
 use Rattle.paper.specs.Grammar.{place_of}
-use Rattle.paper.specs.Calls.{judgeAnswer}
+use Rattle.paper.specs.Calls.{judge_answer}
 use Rattle.paper.specs.BlocksRoundTrip.{All}
 use Rattle.paper.specs.Parts.{Stretch, Part, parts}
-use Rattle.paper.specs.Explained.{Reason, inPart, atKey, nothingToShow, holdsOn, nameStretch, explainAnswer}
+use Rattle.paper.specs.Explained.{Reason, in_part, at_key, nothing_to_show, holds_on, name_stretch, explain_answer}
 use Rattle.paper.specs.PartsDecide.{StretchIn}
 
 -- "the first false part": it is false, and those before it are true
@@ -24,42 +24,42 @@ pub record FirstFalse (text list entry : List ℕ) : Type 0 where
   pub part : Part
   pub after : List Part
   pub split : parts text ≡ ok (before ++ (part ∷ after))
-  pub held : All (λ p. holdsOn ks on p ≡ true) before
-  pub fails : holdsOn ks on part ≡ false
+  pub held : All (λ p. holds_on ks on p ≡ true) before
+  pub fails : holds_on ks on part ≡ false
 
 -- the place of a key's record in an entry
-abbrev pub recordPlace : ℕ → ℕ
-recordPlace k = headSize + k * matchSize
+abbrev pub record_place : ℕ → ℕ
+record_place k = head_size + k * match_size
 
 -- "Accepted entries and other refusals"
 pub data NothingToShow : Answer Bool → Type 0 where
   accepted : NothingToShow (ok true)
-  other-refusal : (n : ℕ) (i : Input) (at : ℕ) → ((k : ℕ) → n ≡ 20 → ¬ (at ≡ recordPlace k)) → NothingToShow (refused n i at)
+  other_refusal : (n : ℕ) (i : Input) (at : ℕ) → ((k : ℕ) → n ≡ 20 → ¬ (at ≡ record_place k)) → NothingToShow (refused n i at)
 
 -- "For a violated entry, name the first false part .., by its number from 1 and its root's place. For an entry refused with 20 at a key
 -- record, name the key instead. .. Accepted entries and other refusals get "nothing to show" and their own answer."
 pub data Explains (text list entry : List ℕ) : Reason → Type 0 where
-  names-part : judgeAnswer text list entry ≡ ok false → (f : FirstFalse text list entry)
-      → Explains text list entry (inPart (suc (length f.before)) (place_of f.part.root) f.part.stretch)
-  names_key : (k : ℕ) → judgeAnswer text list entry ≡ refused 20 inEntry (recordPlace k)
-      → Explains text list entry (atKey (recordPlace k) k (nameStretch list k))
-  shows_nothing : (a : Answer Bool) → judgeAnswer text list entry ≡ a → NothingToShow a → Explains text list entry (nothingToShow a)
+  names_part : judge_answer text list entry ≡ ok false → (f : FirstFalse text list entry)
+      → Explains text list entry (in_part (suc (length f.before)) (place_of f.part.root) f.part.stretch)
+  names_key : (k : ℕ) → judge_answer text list entry ≡ refused 20 inEntry (record_place k)
+      → Explains text list entry (at_key (record_place k) k (name_stretch list k))
+  shows_nothing : (a : Answer Bool) → judge_answer text list entry ≡ a → NothingToShow a → Explains text list entry (nothing_to_show a)
 
 -- the claims
 
 -- the explanation is that, and nothing else
 abbrev pub ExplainedIsRight : Type 0
-ExplainedIsRight = (text list entry : List ℕ) (r : Reason) → (explainAnswer text list entry ≡ r) ↔ Explains text list entry r
+ExplainedIsRight = (text list entry : List ℕ) (r : Reason) → (explain_answer text list entry ≡ r) ↔ Explains text list entry r
 
 -- it never contradicts the judgement, which can be read off it
 
-abbrev pub judgementOf : Reason → Answer Bool
-judgementOf (inPart number place s) = ok false
-judgementOf (atKey place k s) = refused 20 inEntry place
-judgementOf (nothingToShow a) = a
+abbrev pub judgement_of : Reason → Answer Bool
+judgement_of (in_part number place s) = ok false
+judgement_of (at_key place k s) = refused 20 inEntry place
+judgement_of (nothing_to_show a) = a
 
 abbrev pub ExplainedAsJudged : Type 0
-ExplainedAsJudged = (text list entry : List ℕ) → judgementOf (explainAnswer text list entry) ≡ judgeAnswer text list entry
+ExplainedAsJudged = (text list entry : List ℕ) → judgement_of (explain_answer text list entry) ≡ judge_answer text list entry
 
 -- the piece lies in its input: a part's, with its root's place in it, in the text; and a key's in the list, where it is the key's name
 
@@ -77,7 +77,7 @@ pub record PieceOfList (list : List ℕ) (k : ℕ) (s : Stretch) : Type 0 where
   pub name : bytes_at list s.from (s.to - s.from) ≡ key.name
 
 pub record PiecesInInputs : Type 0 where
-  pub of_part : (text list entry : List ℕ) (number place : ℕ) (s : Stretch) → explainAnswer text list entry ≡ inPart number place s
+  pub of_part : (text list entry : List ℕ) (number place : ℕ) (s : Stretch) → explain_answer text list entry ≡ in_part number place s
       → PieceOfText text place s
-  pub of-key : (text list entry : List ℕ) (place k : ℕ) (s : Stretch) → explainAnswer text list entry ≡ atKey place k s
+  pub of_key : (text list entry : List ℕ) (place k : ℕ) (s : Stretch) → explain_answer text list entry ≡ at_key place k s
       → PieceOfList list k s

@@ -9,9 +9,9 @@
 -- `ParsedIsRight` says that this stage answers what the grammar says and nothing else, refusals and their places included.
 use Rattle.std.specs.Prelude.{ℕ, zero, suc, ◌+◌, Bool, true, false, cond, List, [], ◌∷◌, length, eqb}
 use Rattle.std.proofs.Math.Option.{Option, none, some}
-use Rattle.paper.specs.Answers.{Answer, ok, refused, inText}
-use Rattle.paper.specs.Tokens.{bytes, sameBytes, undotted, Literal, plain, Prefix, Join, sequel, implies, or_else, andAlso, Comparison, Sign, join, comparison, prefix, opening, closing, colons, Tok, word, numeral, string, sign, Token}
-use Rattle.paper.specs.Addresses.{Scheme, schemeOf, address}
+use Rattle.paper.specs.Answers.{Answer, ok, refused, InText}
+use Rattle.paper.specs.Tokens.{bytes, same_bytes, undotted, Literal, plain, Prefix, Join, sequel, implies, or_else, andAlso, Comparison, Sign, join, comparison, prefix, opening, closing, colons, Tok, word, numeral, string, sign, Token}
+use Rattle.paper.specs.Addresses.{Scheme, scheme_of, address}
 
 -- "Parentheses make no node; a node's place is its operator ("::" counts as none here and in a print), else its first token":
 -- each node's first number is its place. A field and an attribute have a second, that of the name after "::".
@@ -71,27 +71,27 @@ Parser = List Token → Out
 abbrev pub Make : Type 0
 Make = Tree → Tree → Tree
 
-abbrev pub joinNo : Join → ℕ
-joinNo sequel = 0
-joinNo implies = 1
-joinNo or_else = 2
-joinNo andAlso = 3
+abbrev pub join_no : Join → ℕ
+join_no sequel = 0
+join_no implies = 1
+join_no or_else = 2
+join_no andAlso = 3
 
-abbrev pub signJoins : Join → ℕ → Sign → Option Make
-signJoins o at (join j) = cond (eqb (joinNo j) (joinNo o)) (some (joined at j)) none
-signJoins o at (comparison c) = none
-signJoins o at (prefix p) = none
-signJoins o at opening = none
-signJoins o at closing = none
-signJoins o at colons = none
+abbrev pub sign_joins : Join → ℕ → Sign → Option Make
+sign_joins o at (join j) = cond (eqb (join_no j) (join_no o)) (some (joined at j)) none
+sign_joins o at (comparison c) = none
+sign_joins o at (prefix p) = none
+sign_joins o at opening = none
+sign_joins o at closing = none
+sign_joins o at colons = none
 
-abbrev pub signCompares : ℕ → Sign → Option Make
-signCompares at (join j) = none
-signCompares at (comparison c) = some (compared at c)
-signCompares at (prefix p) = none
-signCompares at opening = none
-signCompares at closing = none
-signCompares at colons = none
+abbrev pub sign_compares : ℕ → Sign → Option Make
+sign_compares at (join j) = none
+sign_compares at (comparison c) = some (compared at c)
+sign_compares at (prefix p) = none
+sign_compares at opening = none
+sign_compares at closing = none
+sign_compares at colons = none
 
 abbrev pub by_sign : Tok → (Sign → Option Make) → Option Make
 by_sign (word w) f = none
@@ -100,41 +100,41 @@ by_sign (string q) f = none
 by_sign (sign g) f = f g
 
 abbrev pub joins : Join → Token → Option Make
-joins o u = by_sign u.tok (signJoins o u.at)
+joins o u = by_sign u.tok (sign_joins o u.at)
 
 abbrev pub compares : Token → Option Make
-compares u = by_sign u.tok (signCompares u.at)
+compares u = by_sign u.tok (sign_compares u.at)
 
 -- p, or p operator p
 
-abbrev pub onceWith : Parser → Tree → Token → List Token → Option Make → Out
-onceWith p t u us none = ends (got t) (u ∷ us)
-onceWith p t u us (some make) = p us >>> λ r vs. ends (got (make t r)) vs
+abbrev pub once_with : Parser → Tree → Token → List Token → Option Make → Out
+once_with p t u us none = ends (got t) (u ∷ us)
+once_with p t u us (some make) = p us >>> λ r vs. ends (got (make t r)) vs
 
-abbrev pub onceMore : (Token → Option Make) → Parser → Tree → List Token → Out
-onceMore op p t [] = ends (got t) []
-onceMore op p t (u ∷ us) = onceWith p t u us (op u)
+abbrev pub once_more : (Token → Option Make) → Parser → Tree → List Token → Out
+once_more op p t [] = ends (got t) []
+once_more op p t (u ∷ us) = once_with p t u us (op u)
 
 unfoldable pub once : (Token → Option Make) → Parser → Parser
-once op p ts = p ts >>> onceMore op p
+once op p ts = p ts >>> once_more op p
 
 -- p, p operator p, p operator p operator p, .., joined from the left; `last` where the text may also end after an operator.
 -- At each turn p takes a token, so the tokens that are left bound the turns.
 
-abbrev pub afterOperator : Bool → Tree → List Token → Out → Out
-afterOperator false t us o = o
-afterOperator true t [] o = ends (got t) []
-afterOperator true t (u ∷ us) o = o
+abbrev pub after_operator : Bool → Tree → List Token → Out → Out
+after_operator false t us o = o
+after_operator true t [] o = ends (got t) []
+after_operator true t (u ∷ us) o = o
 
-abbrev pub moreWith : Tree → Token → List Token → Option Make → (Make → Out) → Out
-moreWith t u us none go = ends (got t) (u ∷ us)
-moreWith t u us (some make) go = go make
+abbrev pub more_with : Tree → Token → List Token → Option Make → (Make → Out) → Out
+more_with t u us none go = ends (got t) (u ∷ us)
+more_with t u us (some make) go = go make
 
 unfoldable pub more : Bool → (Token → Option Make) → Parser → ℕ → Tree → List Token → Out
 more last op p zero t us = ends (got t) us
 more last op p (suc n) t [] = ends (got t) []
 more last op p (suc n) t (u ∷ us) =
-    moreWith t u us (op u) (λ make. afterOperator last t us (p us >>> λ r vs. more last op p n (make t r) vs))
+    more_with t u us (op u) (λ make. after_operator last t us (p us >>> λ r vs. more last op p n (make t r) vs))
 
 unfoldable pub chain : Bool → (Token → Option Make) → Parser → Parser
 unfolding more
@@ -153,25 +153,25 @@ sequence last p = chain last (joins sequel) (implication p)
 -- atoms
 
 -- the signs of which atoms are made, by number; the other signs are operators
-abbrev pub atomSign : Sign → ℕ
-atomSign (join j) = 0
-atomSign (comparison c) = 0
-atomSign (prefix p) = 0
-atomSign opening = 1
-atomSign closing = 2
-atomSign colons = 3
+abbrev pub atom_sign : Sign → ℕ
+atom_sign (join j) = 0
+atom_sign (comparison c) = 0
+atom_sign (prefix p) = 0
+atom_sign opening = 1
+atom_sign closing = 2
+atom_sign colons = 3
 
 -- whether a token is this one of them
-abbrev pub isSign : Sign → Tok → Bool
-isSign g (word w) = false
-isSign g (numeral n) = false
-isSign g (string q) = false
-isSign g (sign h) = eqb (atomSign h) (atomSign g)
+abbrev pub is_sign : Sign → Tok → Bool
+is_sign g (word w) = false
+is_sign g (numeral n) = false
+is_sign g (string q) = false
+is_sign g (sign h) = eqb (atom_sign h) (atom_sign g)
 
 -- a tree that ")" must follow
 abbrev pub closed : Tree → List Token → Out
 closed t [] = ends stuck []
-closed t (u ∷ us) = cond (isSign closing u.tok) (ends (got t) us) (ends stuck (u ∷ us))
+closed t (u ∷ us) = cond (is_sign closing u.tok) (ends (got t) us) (ends stuck (u ∷ us))
 
 abbrev pub name_at : Tok → (ℕ → List ℕ → Tree) → Token → List Token → Out
 name_at (word w) make u us = cond (undotted w) (ends (got (make u.at w)) us) (ends stuck (u ∷ us))
@@ -188,36 +188,36 @@ named make (u ∷ us) = name_at u.tok make u us
 abbrev pub Reader : Type 0
 Reader = Scheme → List ℕ → Option ℕ
 
-abbrev pub addressWith : Option ℕ → ℕ → Token → List Token → Out
-addressWith none at u us = bad u.at
-addressWith (some n) at u us = closed (number at (plain n)) us
+abbrev pub address_with : Option ℕ → ℕ → Token → List Token → Out
+address_with none at u us = bad u.at
+address_with (some n) at u us = closed (number at (plain n)) us
 
-abbrev pub addressAt : Reader → Scheme → ℕ → Tok → Token → List Token → Out
-addressAt read s at (word w) u us = ends stuck (u ∷ us)
-addressAt read s at (numeral n) u us = ends stuck (u ∷ us)
-addressAt read s at (string q) u us = addressWith (read s q) at u us
-addressAt read s at (sign g) u us = ends stuck (u ∷ us)
+abbrev pub address_at : Reader → Scheme → ℕ → Tok → Token → List Token → Out
+address_at read s at (word w) u us = ends stuck (u ∷ us)
+address_at read s at (numeral n) u us = ends stuck (u ∷ us)
+address_at read s at (string q) u us = address_with (read s q) at u us
+address_at read s at (sign g) u us = ends stuck (u ∷ us)
 
 -- after the word and "(" of an address: its string and ")"
 abbrev pub addressed : Reader → Scheme → ℕ → List Token → Out
 addressed read s at [] = ends stuck []
-addressed read s at (u ∷ us) = addressAt read s at u.tok u us
+addressed read s at (u ∷ us) = address_at read s at u.tok u us
 
 -- "begin an address only before "(", else they are keys"
-abbrev pub opensAddress : Reader → Option Scheme → ℕ → List ℕ → Token → List Token → Out
-opensAddress read none at w u us = ends (got (key at w)) (u ∷ us)
-opensAddress read (some s) at w u us = addressed read s at us
+abbrev pub opens_address : Reader → Option Scheme → ℕ → List ℕ → Token → List Token → Out
+opens_address read none at w u us = ends (got (key at w)) (u ∷ us)
+opens_address read (some s) at w u us = addressed read s at us
 
 abbrev pub keyed : Reader → ℕ → List ℕ → List Token → Out
 keyed read at w [] = ends (got (key at w)) []
 keyed read at w (u ∷ us) =
-    cond (isSign colons u.tok) (named (field at w) us)
-    (cond (isSign opening u.tok) (opensAddress read (schemeOf w) at w u us) (ends (got (key at w)) (u ∷ us)))
+    cond (is_sign colons u.tok) (named (field at w) us)
+    (cond (is_sign opening u.tok) (opens_address read (scheme_of w) at w u us) (ends (got (key at w)) (u ∷ us)))
 
 abbrev pub worded : Reader → ℕ → List ℕ → List Token → Out
 worded read at w us =
-    cond (sameBytes w (bytes "true")) (ends (got (truth at true)) us)
-    (cond (sameBytes w (bytes "false")) (ends (got (truth at false)) us) (keyed read at w us))
+    cond (same_bytes w (bytes "true")) (ends (got (truth at true)) us)
+    (cond (same_bytes w (bytes "false")) (ends (got (truth at false)) us) (keyed read at w us))
 
 -- a prefix operator or an atom, where `inner` reads what a prefix operator stands before, and `outer` what a parenthesis holds;
 -- both are told the offset of the token that opens their level
@@ -256,18 +256,18 @@ unfoldable pub whole : Reader → ℕ → Parser
 unfolding sequence prefixes
 whole read levels ts = sequence true (prefixes read levels) ts >>> finished
 
-abbrev pub mostLevels : ℕ
-mostLevels = 64
+abbrev pub most_levels : ℕ
+most_levels = 64
 
 -- 8: "first token that no sentence could continue with, or text ends too soon": the token, or the text's length
 abbrev pub outcome : ℕ → Out → Answer Tree
 outcome size (ends (got t) us) = ok t
-outcome size (ends stuck []) = refused 8 inText size
-outcome size (ends stuck (u ∷ us)) = refused 8 inText u.at
-outcome size (deep at) = refused 9 inText at
-outcome size (bad at) = refused 10 inText at
+outcome size (ends stuck []) = refused 8 InText size
+outcome size (ends stuck (u ∷ us)) = refused 8 InText u.at
+outcome size (deep at) = refused 9 InText at
+outcome size (bad at) = refused 10 InText at
 
 -- of a text of a given length
 unfoldable pub parsed : ℕ → List Token → Answer Tree
 unfolding whole address
-parsed size ts = outcome size (whole address mostLevels ts)
+parsed size ts = outcome size (whole address most_levels ts)

@@ -6,19 +6,19 @@
 -- number 3." Bytes 4 to 15 stay zero. What the flag changes stands in Required.
 use Rattle.std.specs.Prelude.{ℕ, zero, suc, ◌+◌, ◌*◌, ◌-◌, ◌/◌, ◌%◌, Bool, true, false, not, cond, ◌&&◌, List, [], ◌∷◌, ◌++◌, length, drop, replicate, eqb, leb}
 use Rattle.std.proofs.Math.Option.{Option, none, some}
-use Rattle.paper.specs.Answers.{Answer, ok, ◌>>=◌, require, in_turn, inList}
+use Rattle.paper.specs.Answers.{Answer, ok, ◌>>=◌, require, in_turn, InList}
 use Rattle.paper.specs.Numbers.{byte_at, bytes_at}
-use Rattle.paper.specs.Tokens.{bytes, sameBytes, is_key}
+use Rattle.paper.specs.Tokens.{bytes, same_bytes, is_key}
 
 pub data Kind : Type 0 where
   exact ternary lpm range optional : Kind
 
-abbrev pub kindNo : Kind → ℕ
-kindNo exact = 0
-kindNo ternary = 1
-kindNo lpm = 2
-kindNo range = 3
-kindNo optional = 4
+abbrev pub kind_no : Kind → ℕ
+kind_no exact = 0
+kind_no ternary = 1
+kind_no lpm = 2
+kind_no range = 3
+kind_no optional = 4
 
 -- of a number up to 4: a record with a greater one is refused, so that its kind is never asked
 abbrev pub kind_of : ℕ → Kind
@@ -35,33 +35,33 @@ pub record Key : Type 0 where
   -- "with 1 the key must be present"
   pub required : Bool
 
-abbrev pub allZero : List ℕ → Bool
-allZero [] = true
-allZero (b ∷ s) =
-    let rest = allZero s in
+abbrev pub all_zero : List ℕ → Bool
+all_zero [] = true
+all_zero (b ∷ s) =
+    let rest = all_zero s in
     cond (eqb b 0) rest false
 
-abbrev pub recordSize : ℕ
-recordSize = 80
+abbrev pub record_size : ℕ
+record_size = 80
 
-abbrev pub mostKeys : ℕ
-mostKeys = 32
+abbrev pub most_keys : ℕ
+most_keys = 32
 
 -- writing: "Byte 0: name length, 1 to 64. Byte 1: kind, ... Byte 2: width W, 1 to 128. .. Bytes 16 to 79: the name, ... then zeros."
 -- Of a name, a kind's number and a width: a key that may be absent, and one that must be present
-abbrev pub keyRecord : List ℕ → ℕ → ℕ → List ℕ
-keyRecord name kind width = length name ∷ kind ∷ width ∷ (replicate 13 0 ++ name ++ replicate (64 - length name) 0)
+abbrev pub key_record : List ℕ → ℕ → ℕ → List ℕ
+key_record name kind width = length name ∷ kind ∷ width ∷ (replicate 13 0 ++ name ++ replicate (64 - length name) 0)
 
-abbrev pub requiredKey : List ℕ → ℕ → ℕ → List ℕ
-requiredKey name kind width = length name ∷ kind ∷ width ∷ 1 ∷ (replicate 12 0 ++ name ++ replicate (64 - length name) 0)
+abbrev pub required_key : List ℕ → ℕ → ℕ → List ℕ
+required_key name kind width = length name ∷ kind ∷ width ∷ 1 ∷ (replicate 12 0 ++ name ++ replicate (64 - length name) 0)
 
 -- reading
 
-abbrev pub recordsIn : List ℕ → ℕ
-recordsIn list = length list / recordSize
+abbrev pub records_in : List ℕ → ℕ
+records_in list = length list / record_size
 
-abbrev pub recordAt : List ℕ → ℕ → List ℕ
-recordAt list k = bytes_at list (k * recordSize) recordSize
+abbrev pub record_at : List ℕ → ℕ → List ℕ
+record_at list k = bytes_at list (k * record_size) record_size
 
 abbrev pub name_of : List ℕ → List ℕ
 name_of r = bytes_at r 16 (byte_at r 0)
@@ -69,58 +69,58 @@ name_of r = bytes_at r 16 (byte_at r 0)
 abbrev pub key_of : List ℕ → Key
 key_of r = record { name = name_of r; kind = kind_of (byte_at r 1); width = byte_at r 2; required = eqb (byte_at r 3) 1 }
 
-abbrev pub recordOk : List ℕ → Bool
-recordOk r =
+abbrev pub record_ok : List ℕ → Bool
+record_ok r =
     leb 1 (byte_at r 0) && leb (byte_at r 0) 64
     && leb (byte_at r 1) 4
     && leb 1 (byte_at r 2) && leb (byte_at r 2) 128
-    && leb (byte_at r 3) 1 && allZero (bytes_at r 4 12)
-    && is_key (name_of r) && not (sameBytes (name_of r) (bytes "true")) && not (sameBytes (name_of r) (bytes "false"))
-    && allZero (drop (16 + byte_at r 0) r)
+    && leb (byte_at r 3) 1 && all_zero (bytes_at r 4 12)
+    && is_key (name_of r) && not (same_bytes (name_of r) (bytes "true")) && not (same_bytes (name_of r) (bytes "false"))
+    && all_zero (drop (16 + byte_at r 0) r)
 
 -- the index of the key of a name
-abbrev pub findFrom : ℕ → List Key → List ℕ → Option ℕ
-findFrom k [] name = none
-findFrom k (key ∷ keys) name =
-    let later = findFrom (suc k) keys name in
-    cond (sameBytes key.name name) (some k) later
+abbrev pub find_from : ℕ → List Key → List ℕ → Option ℕ
+find_from k [] name = none
+find_from k (key ∷ keys) name =
+    let later = find_from (suc k) keys name in
+    cond (same_bytes key.name name) (some k) later
 
 abbrev pub find : List Key → List ℕ → Option ℕ
-find keys name = findFrom 0 keys name
+find keys name = find_from 0 keys name
 
 -- the first n records as keys
-abbrev pub keysFrom : List ℕ → ℕ → ℕ → List Key
-keysFrom list k zero = []
-keysFrom list k (suc n) = key_of (recordAt list k) ∷ keysFrom list (suc k) n
+abbrev pub keys_from : List ℕ → ℕ → ℕ → List Key
+keys_from list k zero = []
+keys_from list k (suc n) = key_of (record_at list k) ∷ keys_from list (suc k) n
 
 abbrev pub is_none : {A : Type 0} → Option A → Bool
 is_none none = true
 is_none (some a) = false
 
 -- no earlier record has the name of record k
-abbrev pub isNew : List ℕ → ℕ → Bool
-isNew list k = is_none (find (keysFrom list 0 k) (name_of (recordAt list k)))
+abbrev pub is_new : List ℕ → ℕ → Bool
+is_new list k = is_none (find (keys_from list 0 k) (name_of (record_at list k)))
 
 -- what is asked of a record, by its index, before its name is compared
 abbrev pub RecordRule : Type 0
 RecordRule = ℕ → List ℕ → Bool
 
 -- 3: "a key record breaks its layout"; 4: "a name repeats an earlier one". Of record k
-abbrev pub recordTest : RecordRule → List ℕ → ℕ → Answer (Unit {0})
-recordTest rule list k =
-    require (rule k (recordAt list k)) 3 inList (k * recordSize)
-    >>= λ _. require (isNew list k) 4 inList (k * recordSize)
+abbrev pub record_test : RecordRule → List ℕ → ℕ → Answer (Unit {0})
+record_test rule list k =
+    require (rule k (record_at list k)) 3 InList (k * record_size)
+    >>= λ _. require (is_new list k) 4 InList (k * record_size)
 
 -- 2: "key list length not a multiple of 80, or over 2,560"; then 3 and 4
-abbrev pub keysBy : RecordRule → List ℕ → Answer (List Key)
-keysBy rule list =
-    require (eqb (length list % recordSize) 0 && leb (length list) (mostKeys * recordSize)) 2 inList (length list)
-    >>= λ _. in_turn (recordTest rule list) 0 (recordsIn list)
-    >>= λ _. ok (keysFrom list 0 (recordsIn list))
+abbrev pub keys_by : RecordRule → List ℕ → Answer (List Key)
+keys_by rule list =
+    require (eqb (length list % record_size) 0 && leb (length list) (most_keys * record_size)) 2 InList (length list)
+    >>= λ _. in_turn (record_test rule list) 0 (records_in list)
+    >>= λ _. ok (keys_from list 0 (records_in list))
 
 -- the layout, which is the same for every index
-abbrev pub layoutRule : RecordRule
-layoutRule k r = recordOk r
+abbrev pub layout_rule : RecordRule
+layout_rule k r = record_ok r
 
 unfoldable pub keys : List ℕ → Answer (List Key)
-keys list = keysBy layoutRule list
+keys list = keys_by layout_rule list

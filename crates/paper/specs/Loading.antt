@@ -8,75 +8,75 @@ use Rattle.paper.specs.Answers.{Answer, ok, refused, ◌>>=◌, inBlocks}
 use Rattle.paper.specs.Keys.{Key}
 use Rattle.paper.specs.Entry.{Entry}
 use Rattle.paper.specs.Types.{Ty, bool, int, of, same_ty}
-use Rattle.paper.specs.Meaning.{Value, isTrue}
-use Rattle.paper.specs.Code.{Skip, Instruction, instructionSize, parts_at, decode, act, Walk, fails, ends, goOn, walk, typeAction, valueAction, actionOf, skipOf}
-use Rattle.paper.specs.Blocks.{blockSize, in_block, totalOf, layout}
+use Rattle.paper.specs.Meaning.{Value, is_true}
+use Rattle.paper.specs.Code.{Skip, Instruction, instruction_size, parts_at, decode, act, Walk, fails, ends, go_on, walk, type_action, value_action, action_of, skip_of}
+use Rattle.paper.specs.Blocks.{block_size, in_block, total_of, layout}
 
 -- where instruction i begins
-abbrev pub instructionAt : ℕ → ℕ
-instructionAt i = blockSize * (i / in_block) + 4 + instructionSize * (i % in_block)
+abbrev pub instruction_at : ℕ → ℕ
+instruction_at i = block_size * (i / in_block) + 4 + instruction_size * (i % in_block)
 
 -- n instructions, from the one of index i on, where there are no more: so many are left after each
-abbrev pub instructionsFrom : List ℕ → ℕ → ℕ → List (Option Instruction)
-instructionsFrom blocks i zero = []
-instructionsFrom blocks i (suc n) = decode n (parts_at blocks (instructionAt i)) ∷ instructionsFrom blocks (i + 1) n
+abbrev pub instructions_from : List ℕ → ℕ → ℕ → List (Option Instruction)
+instructions_from blocks i zero = []
+instructions_from blocks i (suc n) = decode n (parts_at blocks (instruction_at i)) ∷ instructions_from blocks (i + 1) n
 
 abbrev pub program : List ℕ → List (Option Instruction)
-program blocks = instructionsFrom blocks 0 (totalOf blocks)
+program blocks = instructions_from blocks 0 (total_of blocks)
 
-abbrev pub sameTypes : List Ty → List Ty → Bool
-sameTypes [] [] = true
-sameTypes [] (b ∷ t) = false
-sameTypes (a ∷ s) [] = false
-sameTypes (a ∷ s) (b ∷ t) = same_ty a b && sameTypes s t
+abbrev pub same_types : List Ty → List Ty → Bool
+same_types [] [] = true
+same_types [] (b ∷ t) = false
+same_types (a ∷ s) [] = false
+same_types (a ∷ s) (b ∷ t) = same_ty a b && same_types s t
 
 -- "A landing past an instruction that fails by itself is not compared."
-abbrev pub sameAt : List Ty → Walk Ty → Bool
-sameAt held (fails i) = true
-sameAt held (ends there) = sameTypes held there
+abbrev pub same_at : List Ty → Walk Ty → Bool
+same_at held (fails i) = true
+same_at held (ends there) = same_types held there
 
 -- "the types held at the landing equal those at the skip": what is held there, by a walk over what the skip would pass over
-abbrev pub landsWell : List Key → Option Skip → List (Option Instruction) → List Ty → Bool
-landsWell ks none rest held = true
-landsWell ks (some s) rest held = sameAt held (walk 0 (map (actionOf (typeAction ks)) (take s.over rest)) held)
+abbrev pub lands_well : List Key → Option Skip → List (Option Instruction) → List Ty → Bool
+lands_well ks none rest held = true
+lands_well ks (some s) rest held = same_at held (walk 0 (map (action_of (type_action ks)) (take s.over rest)) held)
 
 -- the index of the first instruction that fails, by itself or by its landing, or the types held at the end; from that of index i on
-unfoldable pub checkFrom : List Key → ℕ → List (Option Instruction) → List Ty → Walk Ty
+unfoldable pub check_from : List Key → ℕ → List (Option Instruction) → List Ty → Walk Ty
 unfolding walk
-checkFrom ks i [] held = ends held
-checkFrom ks i (x ∷ xs) held =
-    goOn i (act (actionOf (typeAction ks) x) held)
-    (λ later. cond (landsWell ks (skipOf x) xs later) (checkFrom ks (i + 1) xs later) (fails i))
+check_from ks i [] held = ends held
+check_from ks i (x ∷ xs) held =
+    go_on i (act (action_of (type_action ks) x) held)
+    (λ later. cond (lands_well ks (skip_of x) xs later) (check_from ks (i + 1) xs later) (fails i))
 
-unfoldable pub typesAlong : List Key → List (Option Instruction) → Walk Ty
-unfolding checkFrom
-typesAlong ks code = checkFrom ks 0 code []
+unfoldable pub types_along : List Key → List (Option Instruction) → Walk Ty
+unfolding check_from
+types_along ks code = check_from ks 0 code []
 
 -- 18: "an instruction fails the load check", its first byte, or the blocks' length at the end
-abbrev pub endOk : ℕ → List Ty → Answer (Unit {0})
-endOk size [] = refused 18 inBlocks size
-endOk size (bool ∷ []) = ok tt
-endOk size (int ∷ []) = refused 18 inBlocks size
-endOk size (of k w ∷ []) = refused 18 inBlocks size
-endOk size (a ∷ b ∷ held) = refused 18 inBlocks size
+abbrev pub end_ok : ℕ → List Ty → Answer (Unit {0})
+end_ok size [] = refused 18 inBlocks size
+end_ok size (bool ∷ []) = ok tt
+end_ok size (int ∷ []) = refused 18 inBlocks size
+end_ok size (of k w ∷ []) = refused 18 inBlocks size
+end_ok size (a ∷ b ∷ held) = refused 18 inBlocks size
 
-abbrev pub loadCheck : ℕ → Walk Ty → Answer (Unit {0})
-loadCheck size (fails i) = refused 18 inBlocks (instructionAt i)
-loadCheck size (ends held) = endOk size held
+abbrev pub load_check : ℕ → Walk Ty → Answer (Unit {0})
+load_check size (fails i) = refused 18 inBlocks (instruction_at i)
+load_check size (ends held) = end_ok size held
 
 -- "A load that passes returns that number too", the number of instructions
 unfoldable pub loaded : List Key → List ℕ → Answer ℕ
-unfolding layout typesAlong
+unfolding layout types_along
 loaded ks blocks =
     layout (length ks) blocks
-    >>= λ _. loadCheck (length blocks) (typesAlong ks (program blocks))
-    >>= λ _. ok (totalOf blocks)
+    >>= λ _. load_check (length blocks) (types_along ks (program blocks))
+    >>= λ _. ok (total_of blocks)
 
 -- Running. How many instructions are passed over after one that is carried out, by what was held before it
 abbrev pub passed : Option Skip → List Value → ℕ
 passed none held = 0
 passed (some s) [] = 0
-passed (some s) (v ∷ held) = cond (beq (isTrue (some v)) s.on) s.over 0
+passed (some s) (v ∷ held) = cond (beq (is_true (some v)) s.on) s.over 0
 
 -- an instruction that is carried out: its index, and what is held before it
 pub record Step : Type 0 where
@@ -92,21 +92,21 @@ abbrev pub after : Step → Run → Run
 after p (stuck i) = stuck i
 after p (done path held) = done (p ∷ path) held
 
-abbrev pub carryOn : Step → Option (List Value) → (List Value → Run) → Run
-carryOn p none go = stuck p.at
-carryOn p (some later) go = after p (go later)
+abbrev pub carry_on : Step → Option (List Value) → (List Value → Run) → Run
+carry_on p none go = stuck p.at
+carry_on p (some later) go = after p (go later)
 
 -- the code from index i on, of which so many instructions are still to be passed over
 unfoldable pub run_from : List Key → Entry → List (Option Instruction) → ℕ → ℕ → List Value → Run
 run_from ks e [] n i held = done [] held
 run_from ks e (x ∷ xs) zero i held =
-    carryOn (record { at = i; held = held }) (act (actionOf (valueAction ks e) x) held) (run_from ks e xs (passed (skipOf x) held) (i + 1))
+    carry_on (record { at = i; held = held }) (act (action_of (value_action ks e) x) held) (run_from ks e xs (passed (skip_of x) held) (i + 1))
 run_from ks e (x ∷ xs) (suc n) i held = run_from ks e xs n (i + 1) held
 
 -- "Running starts with nothing held"
-unfoldable pub runAlong : List Key → Entry → List (Option Instruction) → Run
+unfoldable pub run_along : List Key → Entry → List (Option Instruction) → Run
 unfolding run_from
-runAlong ks e code = run_from ks e code 0 0 []
+run_along ks e code = run_from ks e code 0 0 []
 
 -- the one value that is left at the end; blocks that load always leave one
 abbrev pub left : Run → Option Value
@@ -116,10 +116,10 @@ left (done path (a ∷ [])) = some a
 left (done path (a ∷ b ∷ held)) = none
 
 -- "The entry is accepted exactly when the bool left at the end is true"
-abbrev pub leftTrue : Run → Bool
-leftTrue r = isTrue (left r)
+abbrev pub left_true : Run → Bool
+left_true r = is_true (left r)
 
 -- "Running reports the steps taken, which is the count that the definition of stepping gives"
-abbrev pub stepsTaken : Run → ℕ
-stepsTaken (stuck i) = 0
-stepsTaken (done path held) = length path
+abbrev pub steps_taken : Run → ℕ
+steps_taken (stuck i) = 0
+steps_taken (done path held) = length path

@@ -5,21 +5,21 @@ use Rattle.std.proofs.Math.Option.{Option, none, some}
 use Rattle.paper.specs.declared.Summarizing.{Summarizing}
 use Rattle.paper.specs.declared.Summarizing.TheVariants as S
 use Rattle.paper.specs.Answers.{Answer, ok, refused, ◌>>=◌, input_of, offset_of}
-use Rattle.paper.specs.Keys.{Key, find, mostKeys}
+use Rattle.paper.specs.Keys.{Key, find, most_keys}
 use Rattle.paper.specs.Grammar.{Tree, truth, number, key, field, attribute, prefixed, joined, compared}
 use Rattle.paper.specs.Calls.{restriction}
 
 -- what was found is key k
-abbrev pub isIt : ℕ → Option ℕ → Bool
-isIt k none = false
-isIt k (some j) = eqb j k
+abbrev pub is_it : ℕ → Option ℕ → Bool
+is_it k none = false
+is_it k (some j) = eqb j k
 
 -- "each key the text names": by a bare key or by a field of it
 unfoldable pub names : List Key → Tree → ℕ → Bool
 names ks (truth at b) k = false
 names ks (number at n) k = false
-names ks (key at w) k = isIt k (find ks w)
-names ks (field at w to f) k = isIt k (find ks w)
+names ks (key at w) k = is_it k (find ks w)
+names ks (field at w to f) k = is_it k (find ks w)
 names ks (attribute at to f) k = false
 names ks (prefixed at o t) k = names ks t k
 names ks (joined at o l r) k = names ks l k || names ks r k
@@ -43,33 +43,33 @@ bit_of false = 0
 bit_of true = 1
 
 -- of n keys from key k on, the lowest bit first
-abbrev pub setFrom : (ℕ → Bool) → ℕ → ℕ → ℕ
-setFrom p k zero = 0
-setFrom p k (suc n) = bit_of (p k) + 2 * setFrom p (suc k) n
+abbrev pub set_from : (ℕ → Bool) → ℕ → ℕ → ℕ
+set_from p k zero = 0
+set_from p k (suc n) = bit_of (p k) + 2 * set_from p (suc k) n
 
-unfoldable pub setOf : (ℕ → Bool) → ℕ
-setOf p = setFrom p 0 mostKeys
+unfoldable pub set_of : (ℕ → Bool) → ℕ
+set_of p = set_from p 0 most_keys
 
 -- "how many keys it names"
 
-abbrev pub countFrom : (ℕ → Bool) → ℕ → ℕ → ℕ
-countFrom p k zero = 0
-countFrom p k (suc n) = bit_of (p k) + countFrom p (suc k) n
+abbrev pub count_from : (ℕ → Bool) → ℕ → ℕ → ℕ
+count_from p k zero = 0
+count_from p k (suc n) = bit_of (p k) + count_from p (suc k) n
 
 unfoldable pub count_of : (ℕ → Bool) → ℕ
-count_of p = countFrom p 0 mostKeys
+count_of p = count_from p 0 most_keys
 
 -- of a text and a list that pass; else their refusal
 pub record Summary : Type 0 where
   pub keys : ℕ
   pub priority : Bool
 
-unfoldable pub summaryAnswer : List ℕ → List ℕ → Answer Summary
-unfolding restriction setOf names marked
-summaryAnswer text list =
+unfoldable pub summary_answer : List ℕ → List ℕ → Answer Summary
+unfolding restriction set_of names marked
+summary_answer text list =
     restriction text list
-    >>= λ r. ok (record { keys = setOf (names r.keys r.root); priority = marked r.root })
+    >>= λ r. ok (record { keys = set_of (names r.keys r.root); priority = marked r.root })
 
-abbrev pub summarizingSays : Summarizing → Answer Summary
-summarizingSays (S.Summary keys priority) = ok (record { keys = keys; priority = priority })
-summarizingSays (S.Refused n p) = refused n (input_of p) (offset_of p)
+abbrev pub summarizing_says : Summarizing → Answer Summary
+summarizing_says (S.Summary keys priority) = ok (record { keys = keys; priority = priority })
+summarizing_says (S.Refused n p) = refused n (input_of p) (offset_of p)

@@ -3,12 +3,12 @@
 use Rattle.std.specs.Prelude.{ℕ, zero, suc, ◌+◌, ◌*◌, ◌-◌, ◌/◌, ◌%◌, ◌^◌, Bool, true, false, List, [], ◌∷◌, get_or, take, drop, eqb, ltb, ℤ, pos, negsuc}
 
 -- digits, the first one highest, read in a base after the number so far
-abbrev pub digitsAfter : ℕ → ℕ → List ℕ → ℕ
-digitsAfter base n [] = n
-digitsAfter base n (d ∷ ds) = digitsAfter base (n * base + d) ds
+abbrev pub digits_after : ℕ → ℕ → List ℕ → ℕ
+digits_after base n [] = n
+digits_after base n (d ∷ ds) = digits_after base (n * base + d) ds
 
-abbrev pub inBase : ℕ → List ℕ → ℕ
-inBase base ds = digitsAfter base 0 ds
+abbrev pub in_base : ℕ → List ℕ → ℕ
+in_base base ds = digits_after base 0 ds
 
 abbrev pub byte_at : List ℕ → ℕ → ℕ
 byte_at s at = get_or s at 0
@@ -23,23 +23,23 @@ number_at s at zero = 0
 number_at s at (suc n) = number_at s at n * 256 + byte_at s (at + n)
 
 -- the n bytes of a number, big-endian
-abbrev pub bigEndian : ℕ → ℕ → List ℕ
-bigEndian zero x = []
-bigEndian (suc n) x = x / 256 ^ n % 256 ∷ bigEndian n x
+abbrev pub big_endian : ℕ → ℕ → List ℕ
+big_endian zero x = []
+big_endian (suc n) x = x / 256 ^ n % 256 ∷ big_endian n x
 
 -- the remainder that is not negative
 abbrev pub modulo : ℤ → ℕ → ℕ
 modulo (pos n) m = n % m
 modulo (negsuc n) m = (m - suc n % m) % m
 
-abbrev pub sameWhole : ℤ → ℤ → Bool
-sameWhole (pos m) (pos n) = eqb m n
-sameWhole (pos m) (negsuc n) = false
-sameWhole (negsuc m) (pos n) = false
-sameWhole (negsuc m) (negsuc n) = eqb m n
+abbrev pub same_whole : ℤ → ℤ → Bool
+same_whole (pos m) (pos n) = eqb m n
+same_whole (pos m) (negsuc n) = false
+same_whole (negsuc m) (pos n) = false
+same_whole (negsuc m) (negsuc n) = eqb m n
 
-abbrev pub lessWhole : ℤ → ℤ → Bool
-lessWhole (pos m) (pos n) = ltb m n
-lessWhole (pos m) (negsuc n) = false
-lessWhole (negsuc m) (pos n) = true
-lessWhole (negsuc m) (negsuc n) = ltb n m
+abbrev pub less_whole : ℤ → ℤ → Bool
+less_whole (pos m) (pos n) = ltb m n
+less_whole (pos m) (negsuc n) = false
+less_whole (negsuc m) (pos n) = true
+less_whole (negsuc m) (negsuc n) = ltb n m

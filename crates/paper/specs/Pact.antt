@@ -5,8 +5,8 @@ use Rattle.std.specs.Prelude.{ℕ, ◌+◌, ◌*◌, ◌/◌, ◌%◌, ◌<◌, 
 use Rattle.std.proofs.Math.Option.{Option, none, some}
 
 -- "A Pact may have up to 16 input arguments and up to 16 entries in a user data table."
-abbrev pub mostIndices : ℕ
-mostIndices = 16
+abbrev pub most_indices : ℕ
+most_indices = 16
 
 -- "Grammar"
 
@@ -65,23 +65,23 @@ links xor a b = cond a (not b) b
 
 module _ (inputs users : List ℕ) where
   -- "Compare from input to datatable entries", "from input to input entries"
-  abbrev pub loadedFrom : Load → ℕ → ℕ
-  loadedFrom user j = get_or users j 0
-  loadedFrom input j = get_or inputs j 0
+  abbrev pub loaded_from : Load → ℕ → ℕ
+  loaded_from user j = get_or users j 0
+  loaded_from input j = get_or inputs j 0
 
-  abbrev pub assertionHolds : Assertion → Bool
-  assertionHolds a =
+  abbrev pub assertion_holds : Assertion → Bool
+  assertion_holds a =
       let c = a.comparator in
-      inverts c.inverted (relates c.relation (get_or inputs a.left 0) (loadedFrom c.load a.right))
+      inverts c.inverted (relates c.relation (get_or inputs a.left 0) (loaded_from c.load a.right))
 
-  abbrev pub clauseHolds : Clause → Bool
-  clauseHolds (alone a) = assertionHolds a
-  clauseHolds (linked c j a) = inverts j.inverted (links j.linking (clauseHolds c) (assertionHolds a))
+  abbrev pub clause_holds : Clause → Bool
+  clause_holds (alone a) = assertion_holds a
+  clause_holds (linked c j a) = inverts j.inverted (links j.linking (clause_holds c) (assertion_holds a))
 
   -- "A series of independent clauses ("implicit and")"
-  abbrev pub contractHolds : List Clause → Bool
-  contractHolds [] = true
-  contractHolds (c ∷ cs) = clauseHolds c && contractHolds cs
+  abbrev pub contract_holds : List Clause → Bool
+  contract_holds [] = true
+  contract_holds (c ∷ cs) = clause_holds c && contract_holds cs
 
 -- "OpCodes": bit 7 "operator type", bit 6 "not", bits 5 - 2 "operation", bits 1 - 0 "RESERVED"
 
@@ -91,11 +91,11 @@ pub data Opcode : Type 0 where
   -- "IN, a nonzero reserved bit, an unused operation number" (02 k), and a number that is no byte
   wrong : Opcode
 
-abbrev pub relationOf : ℕ → Option Relation
-relationOf n = cond (eqb n 0) (some eq) (cond (eqb n 1) (some gt) (cond (eqb n 2) (some gte) none))
+abbrev pub relation_of : ℕ → Option Relation
+relation_of n = cond (eqb n 0) (some eq) (cond (eqb n 1) (some gt) (cond (eqb n 2) (some gte) none))
 
-abbrev pub linkingOf : ℕ → Option Linking
-linkingOf n = cond (eqb n 0) (some and) (cond (eqb n 1) (some or) (cond (eqb n 2) (some xor) none))
+abbrev pub linking_of : ℕ → Option Linking
+linking_of n = cond (eqb n 0) (some and) (cond (eqb n 1) (some or) (cond (eqb n 2) (some xor) none))
 
 abbrev pub load_of : Bool → Load
 load_of false = user
@@ -110,66 +110,66 @@ conjoining i none = wrong
 conjoining i (some l) = conjoins (record { inverted = i; linking = l })
 
 -- "COMP = 0", "CONJ = 1"; of a comparator bit 5 is the load and bits 4 - 2 the operation
-abbrev pub operatorOf : ℕ → Bool → ℕ → Opcode
-operatorOf operator inverted operation =
-    cond (eqb operator 0) (comparing inverted (load_of (eqb (operation / 8) 1)) (relationOf (operation % 8)))
-    (cond (eqb operator 1) (conjoining inverted (linkingOf operation)) wrong)
+abbrev pub operator_of : ℕ → Bool → ℕ → Opcode
+operator_of operator inverted operation =
+    cond (eqb operator 0) (comparing inverted (load_of (eqb (operation / 8) 1)) (relation_of (operation % 8)))
+    (cond (eqb operator 1) (conjoining inverted (linking_of operation)) wrong)
 
 abbrev pub opcode_of : ℕ → Opcode
-opcode_of b = cond (eqb (b % 4) 0) (operatorOf (b / 128) (eqb (b / 64 % 2) 1) (b / 4 % 16)) wrong
+opcode_of b = cond (eqb (b % 4) 0) (operator_of (b / 128) (eqb (b / 64 % 2) 1) (b / 4 % 16)) wrong
 
 -- "Index Codes": bits 7 - 4 "LHS index", bits 3 - 0 "RHS index"
 
-abbrev pub leftIndex : ℕ → ℕ
-leftIndex b = b / 16
+abbrev pub left_index : ℕ → ℕ
+left_index b = b / 16
 
-abbrev pub rightIndex : ℕ → ℕ
-rightIndex b = b % 16
+abbrev pub right_index : ℕ → ℕ
+right_index b = b % 16
 
 -- the same tables the other way: the bytes of a contract
 
 abbrev pub bit_of : Bool → ℕ → ℕ
 bit_of b n = cond b n 0
 
-abbrev pub relationNo : Relation → ℕ
-relationNo eq = 0
-relationNo gt = 1
-relationNo gte = 2
+abbrev pub relation_no : Relation → ℕ
+relation_no eq = 0
+relation_no gt = 1
+relation_no gte = 2
 
-abbrev pub linkingNo : Linking → ℕ
-linkingNo and = 0
-linkingNo or = 1
-linkingNo xor = 2
+abbrev pub linking_no : Linking → ℕ
+linking_no and = 0
+linking_no or = 1
+linking_no xor = 2
 
-abbrev pub loadBit : Load → ℕ
-loadBit user = 0
-loadBit input = 32
+abbrev pub load_bit : Load → ℕ
+load_bit user = 0
+load_bit input = 32
 
-abbrev pub comparatorByte : Comparator → ℕ
-comparatorByte c = bit_of c.inverted 64 + loadBit c.load + 4 * relationNo c.relation
+abbrev pub comparator_byte : Comparator → ℕ
+comparator_byte c = bit_of c.inverted 64 + load_bit c.load + 4 * relation_no c.relation
 
-abbrev pub conjunctionByte : Conjunction → ℕ
-conjunctionByte j = 128 + bit_of j.inverted 64 + 4 * linkingNo j.linking
+abbrev pub conjunction_byte : Conjunction → ℕ
+conjunction_byte j = 128 + bit_of j.inverted 64 + 4 * linking_no j.linking
 
-abbrev pub assertionBytes : Assertion → List ℕ
-assertionBytes a = comparatorByte a.comparator ∷ (16 * a.left + a.right) ∷ []
+abbrev pub assertion_bytes : Assertion → List ℕ
+assertion_bytes a = comparator_byte a.comparator ∷ (16 * a.left + a.right) ∷ []
 
-abbrev pub clauseBytes : Clause → List ℕ
-clauseBytes (alone a) = assertionBytes a
-clauseBytes (linked c j a) = clauseBytes c ++ (conjunctionByte j ∷ assertionBytes a)
+abbrev pub clause_bytes : Clause → List ℕ
+clause_bytes (alone a) = assertion_bytes a
+clause_bytes (linked c j a) = clause_bytes c ++ (conjunction_byte j ∷ assertion_bytes a)
 
-abbrev pub contractBytes : List Clause → List ℕ
-contractBytes [] = []
-contractBytes (c ∷ cs) = clauseBytes c ++ contractBytes cs
+abbrev pub contract_bytes : List Clause → List ℕ
+contract_bytes [] = []
+contract_bytes (c ∷ cs) = clause_bytes c ++ contract_bytes cs
 
 -- each index has a name, or a user number, of so many
 module _ (names users : ℕ) where
-  abbrev pub indicesOf : Load → ℕ
-  indicesOf user = users
-  indicesOf input = names
+  abbrev pub indices_of : Load → ℕ
+  indices_of user = users
+  indices_of input = names
 
   abbrev pub Indexed : Assertion → Type 0
-  Indexed a = (a.left < names) × (a.right < indicesOf a.comparator.load) × (a.right < mostIndices)
+  Indexed a = (a.left < names) × (a.right < indices_of a.comparator.load) × (a.right < most_indices)
 
   abbrev pub AllIndexed : Clause → Type 0
   AllIndexed (alone a) = Indexed a

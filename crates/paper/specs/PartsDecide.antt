@@ -6,11 +6,11 @@ use Rattle.paper.specs.Keys.{Key}
 use Rattle.paper.specs.Entry.{Entry}
 use Rattle.paper.specs.Grammar.{Tree, joined, place_of}
 use Rattle.paper.specs.Types.{typed}
-use Rattle.paper.specs.Meaning.{value_of, isTrue}
+use Rattle.paper.specs.Meaning.{value_of, is_true}
 use Rattle.paper.specs.Calls.{tree}
 use Rattle.paper.specs.BlocksRoundTrip.{All}
-use Rattle.paper.specs.Parts.{topLevel, Stretch, Part, parts, mostParts}
-use Rattle.paper.specs.Explained.{holdsOn}
+use Rattle.paper.specs.Parts.{top_level, Stretch, Part, parts, most_parts}
+use Rattle.paper.specs.Explained.{holds_on}
 
 -- a tree that is others joined by ";" from the left
 pub data JoinedLeft : List Tree → Tree → Type 0 where
@@ -28,7 +28,7 @@ TextIsItsParts = (text : List ℕ) (t : Tree) → tree text ≡ ok t → (ps : L
 abbrev pub PartsDecide : Type 0
 PartsDecide =
     (text : List ℕ) (t : Tree) (ps : List Part) → tree text ≡ ok t → parts text ≡ ok ps → (ks : List Key) (e : Entry)
-    → (isTrue (value_of ks e t) ≡ true) ↔ All (λ p. holdsOn ks e p ≡ true) ps
+    → (is_true (value_of ks e t) ≡ true) ↔ All (λ p. holds_on ks e p ≡ true) ps
 
 -- and where it has the right types, so has each part
 abbrev pub PartsTyped : Type 0
@@ -57,7 +57,7 @@ SomePart = (text : List ℕ) (t : Tree) (ps : List Part) → tree text ≡ ok t 
 -- each part has a token, and a ";" stands between two
 
 abbrev pub FewParts : Type 0
-FewParts = (ts : List Token) → 2 * length (topLevel ts) ≤ length ts + 1
+FewParts = (ts : List Token) → 2 * length (top_level ts) ≤ length ts + 1
 
 abbrev pub AtMostParts : Type 0
-AtMostParts = (text : List ℕ) (ps : List Part) → parts text ≡ ok ps → length ps ≤ mostParts
+AtMostParts = (text : List ℕ) (ps : List Part) → parts text ≡ ok ps → length ps ≤ most_parts

@@ -16,19 +16,19 @@ pub record PartOf (from to : ℕ) (s r : Bor (List ℕ)) : Type 0 where
   pub offset : ¬ (r.now ≡ []) → r.ref_ptr.1 ≡ from + s.ref_ptr.1
 
 -- "a stretch of the restriction text": for a part; else an empty one
-abbrev pub inText : Explanation → Bor (List ℕ) → Bor (List ℕ) → Type 0
-inText (X.Part number place from to) s r = PartOf from to s r
-inText (X.Key place from to) s r = PartOf 0 0 s r
-inText (X.Nothing j) s r = PartOf 0 0 s r
+abbrev pub InText : Explanation → Bor (List ℕ) → Bor (List ℕ) → Type 0
+InText (X.Part number place from to) s r = PartOf from to s r
+InText (X.Key place from to) s r = PartOf 0 0 s r
+InText (X.Nothing j) s r = PartOf 0 0 s r
 
 -- "or the name in the key list": for a key; else an empty one
-abbrev pub inList : Explanation → Bor (List ℕ) → Bor (List ℕ) → Type 0
-inList (X.Part number place from to) s r = PartOf 0 0 s r
-inList (X.Key place from to) s r = PartOf from to s r
-inList (X.Nothing j) s r = PartOf 0 0 s r
+abbrev pub InList : Explanation → Bor (List ℕ) → Bor (List ℕ) → Type 0
+InList (X.Part number place from to) s r = PartOf 0 0 s r
+InList (X.Key place from to) s r = PartOf from to s r
+InList (X.Nothing j) s r = PartOf 0 0 s r
 
 -- what is promised of an explanation with its pieces: one of the text, and one of the list
 pub record ExplainedPromised (text list : Bor (List ℕ)) (entry : List ℕ) (why : Explanation) (piece name : Bor (List ℕ)) : Type 0 where
   pub says : ExplainPromised text.now list.now entry why
-  pub in-text : inText why text piece
-  pub in_list : inList why list name
+  pub in_text : InText why text piece
+  pub in_list : InList why list name

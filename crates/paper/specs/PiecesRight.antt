@@ -13,7 +13,7 @@ use Rattle.paper.specs.declared.Judgement.{Judgement}
 use Rattle.paper.specs.Answers.{ok}
 use Rattle.paper.specs.Numbers.{bytes_at}
 use Rattle.paper.specs.Keys.{Key, keys}
-use Rattle.paper.specs.Explained.{keyIndex, stretchFrom}
+use Rattle.paper.specs.Explained.{key_index, stretch_from}
 use Rattle.paper.specs.ExplainedRight.{PieceOfText}
 use Rattle.paper.specs.Pieces.{ExplainedPromised}
 
@@ -39,7 +39,7 @@ pub record SameShown (r q : Shown) : Type 0 where
   pub list : SamePiece r.list q.list
 
 pub record OneShown : Type 0 where
-  pub there-is : (text list : Bor (List ℕ)) (entry : List ℕ) → (r : Shown) × ShownPromised text list entry r
+  pub there_is : (text list : Bor (List ℕ)) (entry : List ℕ) → (r : Shown) × ShownPromised text list entry r
   pub no_second : (text list : Bor (List ℕ)) (entry : List ℕ) (r q : Shown) → ShownPromised text list entry r
       → ShownPromised text list entry q → SameShown r q
 
@@ -47,7 +47,7 @@ pub record OneShown : Type 0 where
 
 -- of a part: its stretch, which lies in the text and has a byte
 pub record ShowsPart (text : List ℕ) (place from to : ℕ) (piece : List ℕ) : Type 0 where
-  pub lies : PieceOfText text place (stretchFrom from to)
+  pub lies : PieceOfText text place (stretch_from from to)
   pub bytes : piece ≡ bytes_at text from (to - from)
   pub size : length piece ≡ to - from
   pub some : ¬ (piece ≡ [])
@@ -57,7 +57,7 @@ pub record ShowsName (list : List ℕ) (place : ℕ) (piece : List ℕ) : Type 0
   pub ks : List Key
   pub listed : keys list ≡ ok ks
   pub key : Key
-  pub there : get_elem? ks (keyIndex place) ≡ some key
+  pub there : get_elem? ks (key_index place) ≡ some key
   pub bytes : piece ≡ key.name
   pub some : ¬ (piece ≡ [])
 
@@ -65,10 +65,10 @@ pub record PiecesShown : Type 0 where
   pub of_part : (text list : Bor (List ℕ)) (entry : List ℕ) (number place from to : ℕ) (piece name : Bor (List ℕ))
       → ExplainedPromised text list entry (X.Part number place from to) piece name
       → ShowsPart text.now place from to piece.now × (name.now ≡ [])
-  pub of-key : (text list : Bor (List ℕ)) (entry : List ℕ) (place from to : ℕ) (piece name : Bor (List ℕ))
+  pub of_key : (text list : Bor (List ℕ)) (entry : List ℕ) (place from to : ℕ) (piece name : Bor (List ℕ))
       → ExplainedPromised text list entry (X.Key place from to) piece name
       → (piece.now ≡ []) × ShowsName list.now place name.now
-  pub of-nothing : (text list : Bor (List ℕ)) (entry : List ℕ) (j : Judgement) (piece name : Bor (List ℕ))
+  pub of_nothing : (text list : Bor (List ℕ)) (entry : List ℕ) (j : Judgement) (piece name : Bor (List ℕ))
       → ExplainedPromised text list entry (X.Nothing j) piece name → (piece.now ≡ []) × (name.now ≡ [])
 
 -- a copy: the bytes of a piece, elsewhere
@@ -78,7 +78,7 @@ pub record CopyOf (r q : Bor (List ℕ)) : Type 0 where
 
 -- it is no piece, wherever a piece has a byte
 pub record CopiesNoPieces : Type 0 where
-  pub of-text : (text list : Bor (List ℕ)) (entry : List ℕ) (r q : Shown) → ShownPromised text list entry r → ¬ (r.text.now ≡ [])
+  pub of_text : (text list : Bor (List ℕ)) (entry : List ℕ) (r q : Shown) → ShownPromised text list entry r → ¬ (r.text.now ≡ [])
       → CopyOf r.text q.text → ¬ ShownPromised text list entry q
-  pub of-list : (text list : Bor (List ℕ)) (entry : List ℕ) (r q : Shown) → ShownPromised text list entry r → ¬ (r.list.now ≡ [])
+  pub of_list : (text list : Bor (List ℕ)) (entry : List ℕ) (r q : Shown) → ShownPromised text list entry r → ¬ (r.list.now ≡ [])
       → CopyOf r.list q.list → ¬ ShownPromised text list entry q

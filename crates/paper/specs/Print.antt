@@ -19,51 +19,51 @@ bare (compared at c l r) = compared 0 c (bare l) (bare r)
 -- numerals
 
 -- the digits of a number in a base, at most so many: the first one highest, and no 0 before another
-abbrev pub digitsIn : ℕ → ℕ → ℕ → List ℕ
-digitsIn base zero n = []
-digitsIn base (suc most) n =
-    let more = digitsIn base most (n / base) ++ (n % base ∷ []) in
+abbrev pub digits_in : ℕ → ℕ → ℕ → List ℕ
+digits_in base zero n = []
+digits_in base (suc most) n =
+    let more = digits_in base most (n / base) ++ (n % base ∷ []) in
     cond (ltb n base) (n ∷ []) more
 
 -- 0 to 9, and then lower-case letters
-abbrev pub digitByte : ℕ → ℕ
-digitByte d = cond (ltb d 10) (48 + d) (87 + d)
+abbrev pub digit_byte : ℕ → ℕ
+digit_byte d = cond (ltb d 10) (48 + d) (87 + d)
 
 -- a number below 2^128 has no more digits in any base
-abbrev pub mostDigits : ℕ
-mostDigits = 128
+abbrev pub most_digits : ℕ
+most_digits = 128
 
-abbrev pub numeralIn : ℕ → ℕ → List ℕ
-numeralIn base n = map digitByte (digitsIn base mostDigits n)
+abbrev pub numeral_in : ℕ → ℕ → List ℕ
+numeral_in base n = map digit_byte (digits_in base most_digits n)
 
 -- 02 e: "The print then uses that base with lower-case digits and prefix (none for decimal), without leading zeros"
-abbrev pub basePrefix : Base → List ℕ
-basePrefix decimal = []
-basePrefix binary = bytes "0b"
-basePrefix hex = bytes "0x"
+abbrev pub base_prefix : Base → List ℕ
+base_prefix decimal = []
+base_prefix binary = bytes "0b"
+base_prefix hex = bytes "0x"
 
-abbrev pub literalBytes : Literal → List ℕ
-literalBytes n = basePrefix n.base ++ numeralIn (radix n.base) n.value
+abbrev pub literal_bytes : Literal → List ℕ
+literal_bytes n = base_prefix n.base ++ numeral_in (radix n.base) n.value
 
 -- operators
 
-abbrev pub prefixBytes : Prefix → List ℕ
-prefixBytes notSign = bytes "!"
-prefixBytes minusSign = bytes "-"
+abbrev pub prefix_bytes : Prefix → List ℕ
+prefix_bytes notSign = bytes "!"
+prefix_bytes minusSign = bytes "-"
 
-abbrev pub joinBytes : Join → List ℕ
-joinBytes sequel = bytes ";"
-joinBytes implies = bytes "->"
-joinBytes or_else = bytes "||"
-joinBytes andAlso = bytes "&&"
+abbrev pub join_bytes : Join → List ℕ
+join_bytes sequel = bytes ";"
+join_bytes implies = bytes "->"
+join_bytes or_else = bytes "||"
+join_bytes andAlso = bytes "&&"
 
-abbrev pub comparisonBytes : Comparison → List ℕ
-comparisonBytes equal = bytes "=="
-comparisonBytes unequal = bytes "!="
-comparisonBytes greater = bytes ">"
-comparisonBytes at_least = bytes ">="
-comparisonBytes less = bytes "<"
-comparisonBytes at_most = bytes "<="
+abbrev pub comparison_bytes : Comparison → List ℕ
+comparison_bytes equal = bytes "=="
+comparison_bytes unequal = bytes "!="
+comparison_bytes greater = bytes ">"
+comparison_bytes at_least = bytes ">="
+comparison_bytes less = bytes "<"
+comparison_bytes at_most = bytes "<="
 
 -- "one blank on each side of a binary operator"
 abbrev pub spaced : List ℕ → List ℕ
@@ -72,17 +72,17 @@ spaced s = bytes " " ++ s ++ bytes " "
 -- "only parentheses that the grammar needs". The rungs of 01's ladder, from ";", the loosest, to prefix operators and atoms: the
 -- one that each operator makes a tree of, and the one from which on a tree may stand on each side of it without parentheses
 
-abbrev pub comparisonRung : ℕ
-comparisonRung = 4
+abbrev pub comparison_rung : ℕ
+comparison_rung = 4
 
 abbrev pub tightest : ℕ
 tightest = 5
 
-abbrev pub rungOf : Join → ℕ
-rungOf sequel = 0
-rungOf implies = 1
-rungOf or_else = 2
-rungOf andAlso = 3
+abbrev pub rung_of : Join → ℕ
+rung_of sequel = 0
+rung_of implies = 1
+rung_of or_else = 2
+rung_of andAlso = 3
 
 -- "";" left, "->" at most once, "||" left, "&&" left"
 
@@ -92,11 +92,11 @@ left_of implies = 2
 left_of or_else = 2
 left_of andAlso = 3
 
-abbrev pub rightOf : Join → ℕ
-rightOf sequel = 1
-rightOf implies = 2
-rightOf or_else = 3
-rightOf andAlso = 4
+abbrev pub right_of : Join → ℕ
+right_of sequel = 1
+right_of implies = 2
+right_of or_else = 3
+right_of andAlso = 4
 
 abbrev pub rung : Tree → ℕ
 rung (truth at b) = tightest
@@ -105,8 +105,8 @@ rung (key at w) = tightest
 rung (field at w to f) = tightest
 rung (attribute at to f) = tightest
 rung (prefixed at o t) = tightest
-rung (joined at o l r) = rungOf o
-rung (compared at c l r) = comparisonRung
+rung (joined at o l r) = rung_of o
+rung (compared at c l r) = comparison_rung
 
 -- whether a tree needs parentheses where a rung is asked for
 abbrev pub looser : ℕ → Tree → Bool
@@ -118,18 +118,18 @@ enclosed false s = s
 
 -- the print
 
-abbrev pub truthBytes : Bool → List ℕ
-truthBytes true = bytes "true"
-truthBytes false = bytes "false"
+abbrev pub truth_bytes : Bool → List ℕ
+truth_bytes true = bytes "true"
+truth_bytes false = bytes "false"
 
 unfoldable pub print : Tree → List ℕ
-print (truth at b) = truthBytes b
-print (number at n) = literalBytes n
+print (truth at b) = truth_bytes b
+print (number at n) = literal_bytes n
 print (key at w) = w
 print (field at w to f) = w ++ bytes "::" ++ f
 print (attribute at to f) = bytes "::" ++ f
-print (prefixed at o t) = prefixBytes o ++ enclosed (looser tightest t) (print t)
+print (prefixed at o t) = prefix_bytes o ++ enclosed (looser tightest t) (print t)
 print (joined at o l r) =
-    enclosed (looser (left_of o) l) (print l) ++ spaced (joinBytes o) ++ enclosed (looser (rightOf o) r) (print r)
+    enclosed (looser (left_of o) l) (print l) ++ spaced (join_bytes o) ++ enclosed (looser (right_of o) r) (print r)
 print (compared at c l r) =
-    enclosed (looser tightest l) (print l) ++ spaced (comparisonBytes c) ++ enclosed (looser tightest r) (print r)
+    enclosed (looser tightest l) (print l) ++ spaced (comparison_bytes c) ++ enclosed (looser tightest r) (print r)

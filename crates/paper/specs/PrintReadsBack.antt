@@ -2,13 +2,13 @@
 -- that sense." "Only parentheses that the grammar needs."
 use Rattle.std.specs.Prelude.{ℕ, ◌≤◌, ◌≡◌, ◌↔◌, List, length}
 use Rattle.paper.specs.Answers.{ok}
-use Rattle.paper.specs.Tokens.{Token, tokens, mostTokens}
+use Rattle.paper.specs.Tokens.{Token, tokens, most_tokens}
 use Rattle.paper.specs.Addresses.{address}
-use Rattle.paper.specs.Grammar.{Tree, mostLevels}
+use Rattle.paper.specs.Grammar.{Tree, most_levels}
 use Rattle.paper.specs.Sentences.{Prefixed, Whole}
 use Rattle.paper.specs.Print.{bare, print}
 use Rattle.paper.specs.Sized.{levels, count, Clean}
-use Rattle.paper.specs.Calls.{tree, readAnswer, printable}
+use Rattle.paper.specs.Calls.{tree, read_answer, printable}
 
 -- a print of any length, since only the call has a limit of bytes
 abbrev pub PrintReadsBack : Type 0
@@ -32,9 +32,9 @@ PrintNoLarger =
 
 -- a print that is lent passes `read`, with as many nodes
 abbrev pub LentPrintReads : Type 0
-LentPrintReads = (text buffer s : List ℕ) → printable text buffer ≡ ok s → readAnswer s ≡ readAnswer text
+LentPrintReads = (text buffer s : List ℕ) → printable text buffer ≡ ok s → read_answer s ≡ read_answer text
 
 -- a tree that is within the limits is read back, wherever it came from
 abbrev pub CleanPrintReads : Type 0
-CleanPrintReads = (t : Tree) → Clean t → levels t ≤ mostLevels → count t ≤ mostTokens
+CleanPrintReads = (t : Tree) → Clean t → levels t ≤ most_levels → count t ≤ most_tokens
     → (r : Tree) × (tree (print t) ≡ ok r) × (bare r ≡ bare t)

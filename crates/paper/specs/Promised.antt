@@ -18,29 +18,29 @@ use Rattle.paper.specs.declared.RunningAll.{RunningAll}
 use Rattle.paper.specs.declared.Explanation.{Explanation}
 use Rattle.paper.specs.declared.Summarizing.{Summarizing}
 use Rattle.paper.specs.declared.Rechecking.{Rechecking}
-use Rattle.paper.specs.Answers.{readingSays, checkingSays, judgementSays, translationSays, loadingSays, runningSays, printingSays}
+use Rattle.paper.specs.Answers.{reading_says, checking_says, judgement_says, translation_says, loading_says, running_says, printing_says}
 use Rattle.paper.specs.BlocksRoundTrip.{All}
-use Rattle.paper.specs.Parts.{mostParts}
-use Rattle.paper.specs.Explained.{explainAnswer, explanationSays}
-use Rattle.paper.specs.Named.{summaryAnswer, summarizingSays}
-use Rattle.paper.specs.Rechecking.{recheckAnswer, recheckingSays}
-use Rattle.paper.specs.Fixing.{fixAnswer, fixBuffer, fixingSays}
-use Rattle.paper.specs.Drafting.{draftAnswer, draftBuffer, draftingSays}
-use Rattle.paper.specs.Comparing.{compareAnswer, agreementSays}
-use Rattle.paper.specs.Counting.{countAnswer, countNumbers, countingSays}
-use Rattle.paper.specs.RunAll.{runAllAnswer, runAllBytes, runningAllSays}
-use Rattle.paper.specs.Calls.{readAnswer, checkAnswer, judgeAnswer, translateAnswer, translateBuffer, loadAnswer, runAnswer, printAnswer, printBuffer}
+use Rattle.paper.specs.Parts.{most_parts}
+use Rattle.paper.specs.Explained.{explain_answer, explanation_says}
+use Rattle.paper.specs.Named.{summary_answer, summarizing_says}
+use Rattle.paper.specs.Rechecking.{recheck_answer, rechecking_says}
+use Rattle.paper.specs.Fixing.{fix_answer, fix_buffer, fixing_says}
+use Rattle.paper.specs.Drafting.{draft_answer, draft_buffer, drafting_says}
+use Rattle.paper.specs.Comparing.{compare_answer, agreement_says}
+use Rattle.paper.specs.Counting.{count_answer, count_numbers, counting_says}
+use Rattle.paper.specs.RunAll.{run_all_answer, run_all_bytes, running_all_says}
+use Rattle.paper.specs.Calls.{read_answer, check_answer, judge_answer, translate_answer, translate_buffer, load_answer, run_answer, print_answer, print_buffer}
 
 -- what is promised of the result of each call, for the bytes that are lent to it
 
 abbrev pub ReadPromised : List ℕ → Reading → Type 0
-ReadPromised text r = readingSays r ≡ readAnswer text
+ReadPromised text r = reading_says r ≡ read_answer text
 
 abbrev pub CheckPromised : List ℕ → List ℕ → Checking → Type 0
-CheckPromised text list r = checkingSays r ≡ checkAnswer text list
+CheckPromised text list r = checking_says r ≡ check_answer text list
 
 abbrev pub JudgePromised : List ℕ → List ℕ → List ℕ → Judgement → Type 0
-JudgePromised text list entry r = judgementSays r ≡ judgeAnswer text list entry
+JudgePromised text list entry r = judgement_says r ≡ judge_answer text list entry
 
 -- what `translate` returns, and what the buffer holds at its exit
 pub record TranslateResult : Type 0 where
@@ -48,14 +48,14 @@ pub record TranslateResult : Type 0 where
   pub buffer : List ℕ
 
 pub record TranslatePromised (text list buffer : List ℕ) (r : TranslateResult) : Type 0 where
-  pub says : translationSays r.answer ≡ translateAnswer text list buffer
-  pub holds : r.buffer ≡ translateBuffer text list buffer
+  pub says : translation_says r.answer ≡ translate_answer text list buffer
+  pub holds : r.buffer ≡ translate_buffer text list buffer
 
 abbrev pub LoadPromised : List ℕ → List ℕ → Loading → Type 0
-LoadPromised list blocks r = loadingSays r ≡ loadAnswer list blocks
+LoadPromised list blocks r = loading_says r ≡ load_answer list blocks
 
 abbrev pub RunPromised : List ℕ → List ℕ → List ℕ → Running → Type 0
-RunPromised list blocks entry r = runningSays r ≡ runAnswer list blocks entry
+RunPromised list blocks entry r = running_says r ≡ run_answer list blocks entry
 
 -- what `print` returns, and what the buffer holds at its exit
 pub record PrintResult : Type 0 where
@@ -63,8 +63,8 @@ pub record PrintResult : Type 0 where
   pub buffer : List ℕ
 
 pub record PrintPromised (text buffer : List ℕ) (r : PrintResult) : Type 0 where
-  pub says : printingSays r.answer ≡ printAnswer text buffer
-  pub holds : r.buffer ≡ printBuffer text buffer
+  pub says : printing_says r.answer ≡ print_answer text buffer
+  pub holds : r.buffer ≡ print_buffer text buffer
 
 -- what `fix_octal` returns, and what the buffer holds at its exit
 pub record FixResult : Type 0 where
@@ -72,8 +72,8 @@ pub record FixResult : Type 0 where
   pub buffer : List ℕ
 
 pub record FixPromised (text buffer : List ℕ) (r : FixResult) : Type 0 where
-  pub says : fixingSays r.answer ≡ fixAnswer text buffer
-  pub holds : r.buffer ≡ fixBuffer text buffer
+  pub says : fixing_says r.answer ≡ fix_answer text buffer
+  pub holds : r.buffer ≡ fix_buffer text buffer
 
 -- what `pact` returns, and what the buffer holds at its exit
 pub record DraftResult : Type 0 where
@@ -81,11 +81,11 @@ pub record DraftResult : Type 0 where
   pub buffer : List ℕ
 
 pub record DraftPromised (contract table list buffer : List ℕ) (r : DraftResult) : Type 0 where
-  pub says : draftingSays r.answer ≡ draftAnswer contract table list buffer
-  pub holds : r.buffer ≡ draftBuffer contract table list buffer
+  pub says : drafting_says r.answer ≡ draft_answer contract table list buffer
+  pub holds : r.buffer ≡ draft_buffer contract table list buffer
 
 abbrev pub ComparePromised : List ℕ → List ℕ → List ℕ → Agreement → Type 0
-ComparePromised text list blocks r = agreementSays r ≡ compareAnswer text list blocks
+ComparePromised text list blocks r = agreement_says r ≡ compare_answer text list blocks
 
 -- what `count` returns, and what the numbers that are lent to it are at its exit
 pub record CountResult : Type 0 where
@@ -93,8 +93,8 @@ pub record CountResult : Type 0 where
   pub numbers : List ℕ
 
 pub record CountPromised (text list entries numbers : List ℕ) (r : CountResult) : Type 0 where
-  pub says : countingSays r.answer ≡ countAnswer text list entries
-  pub holds : r.numbers ≡ countNumbers text list entries numbers
+  pub says : counting_says r.answer ≡ count_answer text list entries
+  pub holds : r.numbers ≡ count_numbers text list entries numbers
 
 -- what `run_all` returns, and what the bytes that are lent to it for its answers are at its exit
 pub record RunAllResult : Type 0 where
@@ -102,34 +102,34 @@ pub record RunAllResult : Type 0 where
   pub bytes : List ℕ
 
 pub record RunAllPromised (list blocks entries answers : List ℕ) (r : RunAllResult) : Type 0 where
-  pub says : runningAllSays r.answer ≡ runAllAnswer list blocks entries answers
-  pub holds : r.bytes ≡ runAllBytes list blocks entries answers
+  pub says : running_all_says r.answer ≡ run_all_answer list blocks entries answers
+  pub holds : r.bytes ≡ run_all_bytes list blocks entries answers
 
 -- the numbers of an explanation; its pieces, which are references, stand in Pieces
 abbrev pub ExplainPromised : List ℕ → List ℕ → List ℕ → Explanation → Type 0
-ExplainPromised text list entry r = explanationSays r ≡ explainAnswer text list entry
+ExplainPromised text list entry r = explanation_says r ≡ explain_answer text list entry
 
 abbrev pub SummarizePromised : List ℕ → List ℕ → Summarizing → Type 0
-SummarizePromised text list r = summarizingSays r ≡ summaryAnswer text list
+SummarizePromised text list r = summarizing_says r ≡ summary_answer text list
 
 -- of the old entry, its earlier answer and the new entry
 abbrev pub RecheckPromised : List ℕ → List ℕ → List ℕ → Judgement → List ℕ → Rechecking → Type 0
-RecheckPromised text list old earlier new r = recheckingSays r ≡ recheckAnswer text list old (judgementSays earlier) new
+RecheckPromised text list old earlier new r = rechecking_says r ≡ recheck_answer text list old (judgement_says earlier) new
 
 abbrev pub verdict : Bool → Judgement
 verdict true = J.Accepted
 verdict false = J.Violated
 
 -- the verdict of a run, and so many steps
-abbrev pub verdictIn : Bool → ℕ → Running
-verdictIn true steps = N.Accepted steps
-verdictIn false steps = N.Violated steps
+abbrev pub verdict_in : Bool → ℕ → Running
+verdict_in true steps = N.Accepted steps
+verdict_in false steps = N.Violated steps
 
 -- a run, its steps aside
-abbrev pub judgementOfRun : Running → Judgement
-judgementOfRun (N.Accepted steps) = J.Accepted
-judgementOfRun (N.Violated steps) = J.Violated
-judgementOfRun (N.Refused n at) = J.Refused n at
+abbrev pub judgement_of_run : Running → Judgement
+judgement_of_run (N.Accepted steps) = J.Accepted
+judgement_of_run (N.Violated steps) = J.Violated
+judgement_of_run (N.Refused n at) = J.Refused n at
 
 -- one result satisfies it, and no second
 pub record Sole {R : Type 0} (Promised : R → Type 0) : Type 0 where
@@ -152,7 +152,7 @@ pub record NoSecondResult : Type 0 where
   pub draft : (contract table list buffer : List ℕ) → Sole (DraftPromised contract table list buffer)
   pub compare : (text list blocks : List ℕ) → Sole (ComparePromised text list blocks)
   pub count : (text list entries numbers : List ℕ) → Sole (CountPromised text list entries numbers)
-  pub runAll : (list blocks entries answers : List ℕ) → Sole (RunAllPromised list blocks entries answers)
+  pub run_all : (list blocks entries answers : List ℕ) → Sole (RunAllPromised list blocks entries answers)
 
 -- what can be lent: numbers below 256
 abbrev pub Bytes : List ℕ → Type 0
@@ -164,7 +164,7 @@ UserNumbers table = All (λ v. v < 2 ^ 64) table
 
 -- numbers for the parts, which are as many as a text can have
 pub record PartNumbers (numbers : List ℕ) : Type 0 where
-  pub many : length numbers ≡ mostParts
+  pub many : length numbers ≡ most_parts
   pub each : All (λ n. n < 2 ^ 64) numbers
 
 -- the calls as programs: any that return such results, and those that keep their promises on all bytes
@@ -184,7 +184,7 @@ pub record Programs : Type 0 where
   pub draft : List ℕ → List ℕ → List ℕ → List ℕ → DraftResult
   pub compare : List ℕ → List ℕ → List ℕ → Agreement
   pub count : List ℕ → List ℕ → List ℕ → List ℕ → CountResult
-  pub runAll : List ℕ → List ℕ → List ℕ → List ℕ → RunAllResult
+  pub run_all : List ℕ → List ℕ → List ℕ → List ℕ → RunAllResult
 
 abbrev pub KeepsRead : Programs → Type 0
 KeepsRead p = (text : List ℕ) → Bytes text → ReadPromised text (p.read text)
@@ -243,7 +243,7 @@ KeepsCount p =
 abbrev pub KeepsRunAll : Programs → Type 0
 KeepsRunAll p =
     (list blocks entries answers : List ℕ) → Bytes list → Bytes blocks → Bytes entries → Bytes answers
-    → RunAllPromised list blocks entries answers (p.runAll list blocks entries answers)
+    → RunAllPromised list blocks entries answers (p.run_all list blocks entries answers)
 
 pub record Kept (p : Programs) : Type 0 where
   pub read : KeepsRead p
@@ -260,7 +260,7 @@ pub record Kept (p : Programs) : Type 0 where
   pub draft : KeepsDraft p
   pub compare : KeepsCompare p
   pub count : KeepsCount p
-  pub runAll : KeepsRunAll p
+  pub run_all : KeepsRunAll p
 
 -- there are such programs
 abbrev pub CanBeKept : Type 0

@@ -2,22 +2,22 @@
 -- low <= high, also for the range made from a number. .. no other refusal changes."
 use Rattle.std.specs.Prelude.{ℕ, ◌^◌, ◌<◌, ◌≡◌, Bool, true, false, not, ◌&&◌, ◌||◌, eqb, ltb}
 use Rattle.paper.specs.Keys.{Kind, range}
-use Rattle.paper.specs.Entry.{Match, kindRule}
-use Rattle.paper.specs.Meaning.{oneValue}
+use Rattle.paper.specs.Entry.{Match, kind_rule}
+use Rattle.paper.specs.Meaning.{one_value}
 
 -- 004's condition, as 01 had it: "low < high, or both 0"
-abbrev pub rangeBefore : Match → Bool
-rangeBefore m = eqb m.length 0 && (ltb m.first m.second || eqb m.first 0 && eqb m.second 0)
+abbrev pub range_before : Match → Bool
+range_before m = eqb m.length 0 && (ltb m.first m.second || eqb m.first 0 && eqb m.second 0)
 
 -- a range of one port; that of port 0 was taken before
-abbrev pub onePort : Match → Bool
-onePort m = eqb m.length 0 && (eqb m.first m.second && not (eqb m.first 0))
+abbrev pub one_port : Match → Bool
+one_port m = eqb m.length 0 && (eqb m.first m.second && not (eqb m.first 0))
 
 -- "no other refusal changes": taken is what was taken before, and besides exactly the ranges of one port, of which none was
 pub record OnlyWider : Type 0 where
-  pub taken : (w : ℕ) (m : Match) → kindRule range w m ≡ (rangeBefore m || onePort m)
-  pub newly : (m : Match) → (rangeBefore m && onePort m) ≡ false
+  pub taken : (w : ℕ) (m : Match) → kind_rule range w m ≡ (range_before m || one_port m)
+  pub newly : (m : Match) → (range_before m && one_port m) ≡ false
 
 -- "also for the range made from a number": the match of one value keeps its kind's rule, whatever the kind
 abbrev pub OneValueConforms : Type 0
-OneValueConforms = (k : Kind) (w n : ℕ) → n < 2 ^ w → kindRule k w (oneValue k w n) ≡ true
+OneValueConforms = (k : Kind) (w n : ℕ) → n < 2 ^ w → kind_rule k w (one_value k w n) ≡ true

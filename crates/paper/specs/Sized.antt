@@ -3,7 +3,7 @@ use Rattle.std.specs.Prelude.{ℕ, suc, ◌+◌, ◌^◌, ◌<◌, max, ◌≡�
 use Rattle.paper.specs.Tokens.{is_key, undotted}
 use Rattle.paper.specs.Grammar.{Tree, truth, number, key, field, attribute, prefixed, joined, compared}
 use Rattle.paper.specs.Sentences.{Name}
-use Rattle.paper.specs.Print.{tightest, left_of, rightOf, looser}
+use Rattle.paper.specs.Print.{tightest, left_of, right_of, looser}
 
 -- "A level is opened by each prefix operator and each parenthesis", and a parenthesis is two tokens
 
@@ -20,7 +20,7 @@ levels (key at w) = 0
 levels (field at w to f) = 0
 levels (attribute at to f) = 0
 levels (prefixed at o t) = suc (deeper (looser tightest t) (levels t))
-levels (joined at o l r) = max (deeper (looser (left_of o) l) (levels l)) (deeper (looser (rightOf o) r) (levels r))
+levels (joined at o l r) = max (deeper (looser (left_of o) l) (levels l)) (deeper (looser (right_of o) r) (levels r))
 levels (compared at c l r) = max (deeper (looser tightest l) (levels l)) (deeper (looser tightest r) (levels r))
 
 abbrev pub count : Tree → ℕ
@@ -30,7 +30,7 @@ count (key at w) = 1
 count (field at w to f) = 3
 count (attribute at to f) = 2
 count (prefixed at o t) = 1 + wider (looser tightest t) (count t)
-count (joined at o l r) = wider (looser (left_of o) l) (count l) + 1 + wider (looser (rightOf o) r) (count r)
+count (joined at o l r) = wider (looser (left_of o) l) (count l) + 1 + wider (looser (right_of o) r) (count r)
 count (compared at c l r) = wider (looser tightest l) (count l) + 1 + wider (looser tightest r) (count r)
 
 -- numbers below 2^128, and names that are words

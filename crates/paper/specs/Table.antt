@@ -1,22 +1,22 @@
 -- 01, "Refusal numbers": "Stages run in the order below, those that a call has. In a stage the earliest place wins; at one place the
 -- lower number wins." For each call: it refuses exactly so, and passes exactly when no stage has a fault.
 use Rattle.std.specs.Prelude.{ℕ, ◌≤◌, ◌<◌, ◌≡◌, ◌↔◌, ◌⊎◌, List, [], ◌∷◌, ◌++◌, length}
-use Rattle.paper.specs.Answers.{Input, inText, inList, inEntry, inBlocks, inBuffer, inContract, in_table, Answer, ok, refused}
+use Rattle.paper.specs.Answers.{Input, InText, InList, inEntry, inBlocks, inBuffer, inContract, in_table, Answer, ok, refused}
 use Rattle.paper.specs.Tokens.{Token, tokens}
-use Rattle.paper.specs.Keys.{RecordRule, layoutRule, keys}
+use Rattle.paper.specs.Keys.{RecordRule, layout_rule, keys}
 use Rattle.paper.specs.Print.{print}
-use Rattle.paper.specs.Calls.{tree, restriction, readAnswer, checkAnswer, judgeAnswer, translateAnswer, loadAnswer, runAnswer, printAnswer}
-use Rattle.paper.specs.Named.{summaryAnswer}
-use Rattle.paper.specs.Fixing.{oldScan, fixed, fixAnswer}
-use Rattle.paper.specs.Drafting.{nameRule, names_of, drafted, draftAnswer}
-use Rattle.paper.specs.Comparing.{compareAnswer}
-use Rattle.paper.specs.Counting.{countAnswer}
-use Rattle.paper.specs.RunAll.{runAllAnswer}
+use Rattle.paper.specs.Calls.{tree, restriction, read_answer, check_answer, judge_answer, translate_answer, load_answer, run_answer, print_answer}
+use Rattle.paper.specs.Named.{summary_answer}
+use Rattle.paper.specs.Fixing.{old_scan, fixed, fix_answer}
+use Rattle.paper.specs.Drafting.{name_rule, names_of, drafted, draft_answer}
+use Rattle.paper.specs.Comparing.{compare_answer}
+use Rattle.paper.specs.Counting.{count_answer}
+use Rattle.paper.specs.RunAll.{run_all_answer}
 use Rattle.paper.specs.Faults.{Faults, TextSize, ListSize, ListRecords, Cuts, TokenFaults, TextTokens, TextGrammar, TreeTypes, RootType, BufferSize, BlocksSize, BlocksLayout, BlocksCode, EntrySize, EntryRules, EntriesMany, EntriesSize, AnswersSize, LendingSize, TableSize, ContractFaults, TextLimits}
 
 -- the table's numbers run from 1 to this one
-abbrev pub lastNumber : ℕ
-lastNumber = 25
+abbrev pub last_number : ℕ
+last_number = 25
 
 -- "In a stage the earliest place wins; at one place the lower number wins."
 
@@ -58,69 +58,69 @@ abbrev pub Given : {A : Type 0} → Answer A → (A → Faults) → Faults
 Given {A} x F n at = (v : A) × (x ≡ ok v) × F v n at
 
 -- 1
-abbrev pub sizeStages : List ℕ → List Stage
-sizeStages text = stage inText (TextSize text) ∷ []
+abbrev pub size_stages : List ℕ → List Stage
+size_stages text = stage InText (TextSize text) ∷ []
 
 -- 2; 3 and 4
-abbrev pub listStagesBy : RecordRule → List ℕ → List Stage
-listStagesBy rule list = stage inList (ListSize list) ∷ stage inList (ListRecords rule list) ∷ []
+abbrev pub list_stages_by : RecordRule → List ℕ → List Stage
+list_stages_by rule list = stage InList (ListSize list) ∷ stage InList (ListRecords rule list) ∷ []
 
-abbrev pub listStages : List ℕ → List Stage
-listStages list = listStagesBy layoutRule list
+abbrev pub list_stages : List ℕ → List Stage
+list_stages list = list_stages_by layout_rule list
 
 -- 5 to 7 and 22; 8 to 10
-abbrev pub treeStages : List ℕ → List Stage
-treeStages text = stage inText (TextTokens text) ∷ stage inText (Given (tokens text) (TextGrammar (length text))) ∷ []
+abbrev pub tree_stages : List ℕ → List Stage
+tree_stages text = stage InText (TextTokens text) ∷ stage InText (Given (tokens text) (TextGrammar (length text))) ∷ []
 
 -- 11 to 13 and 23; 14
-abbrev pub typeStages : List ℕ → List ℕ → List Stage
-typeStages text list =
-    stage inText (Given (keys list) (λ ks. Given (tree text) (TreeTypes ks)))
-    ∷ stage inText (Given (keys list) (λ ks. Given (tree text) (RootType ks)))
+abbrev pub type_stages : List ℕ → List ℕ → List Stage
+type_stages text list =
+    stage InText (Given (keys list) (λ ks. Given (tree text) (TreeTypes ks)))
+    ∷ stage InText (Given (keys list) (λ ks. Given (tree text) (RootType ks)))
     ∷ []
 
 -- 15
-abbrev pub bufferStages : List ℕ → List ℕ → List ℕ → List Stage
-bufferStages text list buffer = stage inBuffer (Given (restriction text list) (λ r. BufferSize r buffer)) ∷ []
+abbrev pub buffer_stages : List ℕ → List ℕ → List ℕ → List Stage
+buffer_stages text list buffer = stage inBuffer (Given (restriction text list) (λ r. BufferSize r buffer)) ∷ []
 
 -- 16; 17; 18
-abbrev pub blockStages : List ℕ → List ℕ → List Stage
-blockStages list blocks =
+abbrev pub block_stages : List ℕ → List ℕ → List Stage
+block_stages list blocks =
     stage inBlocks (BlocksSize blocks)
     ∷ stage inBlocks (Given (keys list) (λ ks. BlocksLayout (length ks) blocks))
     ∷ stage inBlocks (Given (keys list) (λ ks. BlocksCode ks blocks))
     ∷ []
 
 -- 19; 20
-abbrev pub entryStages : List ℕ → List ℕ → List Stage
-entryStages list entry =
+abbrev pub entry_stages : List ℕ → List ℕ → List Stage
+entry_stages list entry =
     stage inEntry (Given (keys list) (λ ks. EntrySize ks entry))
     ∷ stage inEntry (Given (keys list) (λ ks. EntryRules ks entry))
     ∷ []
 
 -- 25; no entry of many has a wrong length, and one that breaks its rule is counted
-abbrev pub entriesStages : List ℕ → List ℕ → List Stage
-entriesStages list entries = stage inEntry (Given (keys list) (λ ks. EntriesMany ks entries)) ∷ []
+abbrev pub entries_stages : List ℕ → List ℕ → List Stage
+entries_stages list entries = stage inEntry (Given (keys list) (λ ks. EntriesMany ks entries)) ∷ []
 
 -- 19, and then 15. In 01's order 15 comes before every number of blocks and entries: `translate` knows what it needs from the text. How many
 -- answers are wanted is known once no entry is cut, so that here it comes last
-abbrev pub tableStages : List ℕ → List ℕ → List ℕ → List Stage
-tableStages list entries answers =
+abbrev pub table_stages : List ℕ → List ℕ → List ℕ → List Stage
+table_stages list entries answers =
     stage inEntry (Given (keys list) (λ ks. EntriesSize ks entries))
     ∷ stage inBuffer (Given (keys list) (λ ks. AnswersSize ks entries answers))
     ∷ []
 
 -- 21
-abbrev pub printingStages : List ℕ → List ℕ → List Stage
-printingStages text buffer = stage inBuffer (Given (tree text) (λ t. LendingSize (print t) buffer)) ∷ []
+abbrev pub printing_stages : List ℕ → List ℕ → List Stage
+printing_stages text buffer = stage inBuffer (Given (tree text) (λ t. LendingSize (print t) buffer)) ∷ []
 
 -- 5 to 7 by the old rules, and 21 of what 02 h's pass makes
-abbrev pub fixingStages : List ℕ → List ℕ → List Stage
-fixingStages text buffer = stage inText (TokenFaults oldScan text) ∷ stage inBuffer (LendingSize (fixed text) buffer) ∷ []
+abbrev pub fixing_stages : List ℕ → List ℕ → List Stage
+fixing_stages text buffer = stage InText (TokenFaults old_scan text) ∷ stage inBuffer (LendingSize (fixed text) buffer) ∷ []
 
 -- 24 of the table; 24 of the contract; 21 of the text that 02 k makes of it
-abbrev pub draftingStages : List ℕ → List ℕ → List ℕ → List ℕ → List Stage
-draftingStages contract table list buffer =
+abbrev pub drafting_stages : List ℕ → List ℕ → List ℕ → List ℕ → List Stage
+drafting_stages contract table list buffer =
     stage in_table (TableSize table)
     ∷ stage inContract (Given (names_of list) (λ ks. ContractFaults (length ks) (length table) contract))
     ∷ stage inBuffer (Given (drafted contract table list) (λ t. TextLimits t buffer))
@@ -129,60 +129,60 @@ draftingStages contract table list buffer =
 
 -- those that each call has
 
-abbrev pub readStages : List ℕ → List Stage
-readStages text = sizeStages text ++ treeStages text
+abbrev pub read_stages : List ℕ → List Stage
+read_stages text = size_stages text ++ tree_stages text
 
-abbrev pub checkStages : List ℕ → List ℕ → List Stage
-checkStages text list = sizeStages text ++ listStages list ++ treeStages text ++ typeStages text list
+abbrev pub check_stages : List ℕ → List ℕ → List Stage
+check_stages text list = size_stages text ++ list_stages list ++ tree_stages text ++ type_stages text list
 
-abbrev pub judgeStages : List ℕ → List ℕ → List ℕ → List Stage
-judgeStages text list entry = checkStages text list ++ entryStages list entry
+abbrev pub judge_stages : List ℕ → List ℕ → List ℕ → List Stage
+judge_stages text list entry = check_stages text list ++ entry_stages list entry
 
-abbrev pub translateStages : List ℕ → List ℕ → List ℕ → List Stage
-translateStages text list buffer = checkStages text list ++ bufferStages text list buffer
+abbrev pub translate_stages : List ℕ → List ℕ → List ℕ → List Stage
+translate_stages text list buffer = check_stages text list ++ buffer_stages text list buffer
 
-abbrev pub loadStages : List ℕ → List ℕ → List Stage
-loadStages list blocks = listStages list ++ blockStages list blocks
+abbrev pub load_stages : List ℕ → List ℕ → List Stage
+load_stages list blocks = list_stages list ++ block_stages list blocks
 
-abbrev pub runStages : List ℕ → List ℕ → List ℕ → List Stage
-runStages list blocks entry = loadStages list blocks ++ entryStages list entry
+abbrev pub run_stages : List ℕ → List ℕ → List ℕ → List Stage
+run_stages list blocks entry = load_stages list blocks ++ entry_stages list entry
 
-abbrev pub printStages : List ℕ → List ℕ → List Stage
-printStages text buffer = readStages text ++ printingStages text buffer
+abbrev pub print_stages : List ℕ → List ℕ → List Stage
+print_stages text buffer = read_stages text ++ printing_stages text buffer
 
-abbrev pub fixStages : List ℕ → List ℕ → List Stage
-fixStages text buffer = sizeStages text ++ fixingStages text buffer
+abbrev pub fix_stages : List ℕ → List ℕ → List Stage
+fix_stages text buffer = size_stages text ++ fixing_stages text buffer
 
-abbrev pub draftStages : List ℕ → List ℕ → List ℕ → List ℕ → List Stage
-draftStages contract table list buffer = listStagesBy nameRule list ++ draftingStages contract table list buffer
+abbrev pub draft_stages : List ℕ → List ℕ → List ℕ → List ℕ → List Stage
+draft_stages contract table list buffer = list_stages_by name_rule list ++ drafting_stages contract table list buffer
 
 -- text and list first, then the blocks
-abbrev pub compareStages : List ℕ → List ℕ → List ℕ → List Stage
-compareStages text list blocks = checkStages text list ++ blockStages list blocks
+abbrev pub compare_stages : List ℕ → List ℕ → List ℕ → List Stage
+compare_stages text list blocks = check_stages text list ++ block_stages list blocks
 
-abbrev pub countStages : List ℕ → List ℕ → List ℕ → List Stage
-countStages text list entries = checkStages text list ++ entriesStages list entries
+abbrev pub count_stages : List ℕ → List ℕ → List ℕ → List Stage
+count_stages text list entries = check_stages text list ++ entries_stages list entries
 
 -- "loads once, then"
-abbrev pub runAllStages : List ℕ → List ℕ → List ℕ → List ℕ → List Stage
-runAllStages list blocks entries answers = loadStages list blocks ++ tableStages list entries answers
+abbrev pub run_all_stages : List ℕ → List ℕ → List ℕ → List ℕ → List Stage
+run_all_stages list blocks entries answers = load_stages list blocks ++ table_stages list entries answers
 
 pub record TableHolds : Type 0 where
-  pub read : (text : List ℕ) → ByTable (readAnswer text) (readStages text)
-  pub check : (text list : List ℕ) → ByTable (checkAnswer text list) (checkStages text list)
-  pub judge : (text list entry : List ℕ) → ByTable (judgeAnswer text list entry) (judgeStages text list entry)
-  pub translate : (text list buffer : List ℕ) → ByTable (translateAnswer text list buffer) (translateStages text list buffer)
-  pub load : (list blocks : List ℕ) → ByTable (loadAnswer list blocks) (loadStages list blocks)
-  pub run : (list blocks entry : List ℕ) → ByTable (runAnswer list blocks entry) (runStages list blocks entry)
-  pub print : (text buffer : List ℕ) → ByTable (printAnswer text buffer) (printStages text buffer)
-  pub summarize : (text list : List ℕ) → ByTable (summaryAnswer text list) (checkStages text list)
-  pub fix : (text buffer : List ℕ) → ByTable (fixAnswer text buffer) (fixStages text buffer)
+  pub read : (text : List ℕ) → ByTable (read_answer text) (read_stages text)
+  pub check : (text list : List ℕ) → ByTable (check_answer text list) (check_stages text list)
+  pub judge : (text list entry : List ℕ) → ByTable (judge_answer text list entry) (judge_stages text list entry)
+  pub translate : (text list buffer : List ℕ) → ByTable (translate_answer text list buffer) (translate_stages text list buffer)
+  pub load : (list blocks : List ℕ) → ByTable (load_answer list blocks) (load_stages list blocks)
+  pub run : (list blocks entry : List ℕ) → ByTable (run_answer list blocks entry) (run_stages list blocks entry)
+  pub print : (text buffer : List ℕ) → ByTable (print_answer text buffer) (print_stages text buffer)
+  pub summarize : (text list : List ℕ) → ByTable (summary_answer text list) (check_stages text list)
+  pub fix : (text buffer : List ℕ) → ByTable (fix_answer text buffer) (fix_stages text buffer)
   pub draft : (contract table list buffer : List ℕ)
-      → ByTable (draftAnswer contract table list buffer) (draftStages contract table list buffer)
-  pub compare : (text list blocks : List ℕ) → ByTable (compareAnswer text list blocks) (compareStages text list blocks)
-  pub count : (text list entries : List ℕ) → ByTable (countAnswer text list entries) (countStages text list entries)
-  pub runAll : (list blocks entries answers : List ℕ)
-      → ByTable (runAllAnswer list blocks entries answers) (runAllStages list blocks entries answers)
+      → ByTable (draft_answer contract table list buffer) (draft_stages contract table list buffer)
+  pub compare : (text list blocks : List ℕ) → ByTable (compare_answer text list blocks) (compare_stages text list blocks)
+  pub count : (text list entries : List ℕ) → ByTable (count_answer text list entries) (count_stages text list entries)
+  pub run_all : (list blocks entries answers : List ℕ)
+      → ByTable (run_all_answer list blocks entries answers) (run_all_stages list blocks entries answers)
 
 -- and a text that passes 5 to 7 and 22 is cut into its tokens
 abbrev pub TokensAreCut : Type 0

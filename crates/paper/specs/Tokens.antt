@@ -7,8 +7,8 @@ use Rattle.std.specs.Prelude.{ℕ, zero, suc, ◌+◌, ◌-◌, ◌^◌, Bool, t
 use Rattle.std.proofs.Math.Option.{Option, none, some}
 use Prim.Native.Char.{code}
 use Prim.Native.String as S
-use Rattle.paper.specs.Answers.{Answer, ok, refused, ◌>>=◌, inText}
-use Rattle.paper.specs.Numbers.{inBase}
+use Rattle.paper.specs.Answers.{Answer, ok, refused, ◌>>=◌, InText}
+use Rattle.paper.specs.Numbers.{in_base}
 
 -- bytes
 
@@ -17,12 +17,12 @@ abbrev pub bytes : S.String → List ℕ
 bytes S.[] = []
 bytes (S.◌∷◌ c s) = code c ∷ bytes s
 
-abbrev pub sameBytes : List ℕ → List ℕ → Bool
-sameBytes [] [] = true
-sameBytes [] (b ∷ t) = false
-sameBytes (a ∷ s) [] = false
-sameBytes (a ∷ s) (b ∷ t) =
-    let rest = sameBytes s t in
+abbrev pub same_bytes : List ℕ → List ℕ → Bool
+same_bytes [] [] = true
+same_bytes [] (b ∷ t) = false
+same_bytes (a ∷ s) [] = false
+same_bytes (a ∷ s) (b ∷ t) =
+    let rest = same_bytes s t in
     cond (eqb a b) rest false
 
 -- one byte, or two in a row, against a quoted text
@@ -35,19 +35,19 @@ are q b c = eqb b (get_or (bytes q) 0 0) && eqb c (get_or (bytes q) 1 0)
 abbrev pub within : ℕ → ℕ → ℕ → Bool
 within low high b = leb low b && leb b high
 
-abbrev pub isDigit : ℕ → Bool
-isDigit b = within 48 57 b  -- 0 to 9
+abbrev pub is_digit : ℕ → Bool
+is_digit b = within 48 57 b  -- 0 to 9
 
 -- id ::= [_a-zA-Z][_a-zA-Z0-9]*
-abbrev pub isIdStart : ℕ → Bool
-isIdStart b = within 97 122 b || within 65 90 b || is "_" b
+abbrev pub is_id_start : ℕ → Bool
+is_id_start b = within 97 122 b || within 65 90 b || is "_" b
 
-abbrev pub isIdByte : ℕ → Bool
-isIdByte b = isIdStart b || isDigit b
+abbrev pub is_id_byte : ℕ → Bool
+is_id_byte b = is_id_start b || is_digit b
 
 -- space, tab, CR, LF
-abbrev pub isBlank : ℕ → Bool
-isBlank b = is " " b || eqb b 9 || eqb b 13 || eqb b 10
+abbrev pub is_blank : ℕ → Bool
+is_blank b = is " " b || eqb b 9 || eqb b 13 || eqb b 10
 
 -- how many bytes from the left pass a test
 abbrev pub span : (ℕ → Bool) → List ℕ → ℕ
@@ -63,16 +63,16 @@ starts p (b ∷ s) = p b
 
 -- words: how many bytes go on a word, an id byte or a dot that an id start follows
 
-abbrev pub wordMore : List ℕ → ℕ
-wordMore [] = 0
-wordMore (b ∷ s) =
-    let more = suc (wordMore s) in
-    cond (isIdByte b || is "." b && starts isIdStart s) more 0
+abbrev pub word_more : List ℕ → ℕ
+word_more [] = 0
+word_more (b ∷ s) =
+    let more = suc (word_more s) in
+    cond (is_id_byte b || is "." b && starts is_id_start s) more 0
 
 -- key ::= id ('.' id)*: a word is there, and it is the whole
 abbrev pub is_key : List ℕ → Bool
 is_key [] = false
-is_key (b ∷ s) = isIdStart b && eqb (wordMore s) (length s)
+is_key (b ∷ s) = is_id_start b && eqb (word_more s) (length s)
 
 -- no dot in it
 abbrev pub undotted : List ℕ → Bool
@@ -94,24 +94,24 @@ pub data Notation : Type 0 where
   based : Base → Notation
   octal : Notation
 
-abbrev pub radixOf : Notation → ℕ
-radixOf (based base) = radix base
-radixOf octal = 8
+abbrev pub radix_of : Notation → ℕ
+radix_of (based base) = radix base
+radix_of octal = 8
 
 pub record Numeral : Type 0 where
   pub notation : Notation
   pub digits : List ℕ
 
 -- what a digit counts, in either case of a letter; 16, the digit of no base, for any other byte
-abbrev pub digitOf : ℕ → ℕ
-digitOf b =
-    cond (isDigit b) (b - 48)
+abbrev pub digit_of : ℕ → ℕ
+digit_of b =
+    cond (is_digit b) (b - 48)
     (cond (within 97 102 b) (b - 87)
     (cond (within 65 70 b) (b - 55) 16))
 
 -- the notation that a letter announces after a first 0
-abbrev pub notationOf : ℕ → Option Notation
-notationOf b =
+abbrev pub notation_of : ℕ → Option Notation
+notation_of b =
     cond (is "d" b || is "D" b) (some (based decimal))
     (cond (is "b" b || is "B" b) (some (based binary))
     (cond (is "o" b || is "O" b) (some octal)
@@ -125,26 +125,26 @@ spelled none run rest = record { notation = based decimal; digits = run }
 abbrev pub spelling : List ℕ → Numeral
 spelling [] = record { notation = based decimal; digits = [] }
 spelling (b ∷ []) = record { notation = based decimal; digits = b ∷ [] }
-spelling (b ∷ c ∷ s) = spelled (cond (is "0" b) (notationOf c) none) (b ∷ c ∷ s) s
+spelling (b ∷ c ∷ s) = spelled (cond (is "0" b) (notation_of c) none) (b ∷ c ∷ s) s
 
 -- at least one digit, and all of them of the notation
-abbrev pub isNumeral : Numeral → Bool
-isNumeral n = ltb 0 (length n.digits) && eqb (span (λ b. ltb (digitOf b) (radixOf n.notation)) n.digits) (length n.digits)
+abbrev pub is_numeral : Numeral → Bool
+is_numeral n = ltb 0 (length n.digits) && eqb (span (λ b. ltb (digit_of b) (radix_of n.notation)) n.digits) (length n.digits)
 
-abbrev pub numeralValue : Numeral → ℕ
-numeralValue n = inBase (radixOf n.notation) (map digitOf n.digits)
+abbrev pub numeral_value : Numeral → ℕ
+numeral_value n = in_base (radix_of n.notation) (map digit_of n.digits)
 
 -- what a token and a tree keep of a number: how it was written, and its value. "Tokens, tree and print carry it."
 pub record Literal : Type 0 where
   pub base : Base
   pub value : ℕ
 
-abbrev pub literalIn : Base → ℕ → Literal
-literalIn base n = record { base = base; value = n }
+abbrev pub literal_in : Base → ℕ → Literal
+literal_in base n = record { base = base; value = n }
 
 -- "address numerals stay decimal"
 abbrev pub plain : ℕ → Literal
-plain n = literalIn decimal n
+plain n = literal_in decimal n
 
 -- signs
 
@@ -163,8 +163,8 @@ pub data Sign : Type 0 where
   prefix : Prefix → Sign
   opening closing colons : Sign
 
-abbrev pub twoBytes : ℕ → ℕ → Option Sign
-twoBytes b c =
+abbrev pub two_bytes : ℕ → ℕ → Option Sign
+two_bytes b c =
     cond (are "->" b c) (some (join implies))
     (cond (are "||" b c) (some (join or_else))
     (cond (are "&&" b c) (some (join andAlso))
@@ -174,8 +174,8 @@ twoBytes b c =
     (cond (are "<=" b c) (some (comparison at_most))
     (cond (are "::" b c) (some colons) none)))))))
 
-abbrev pub oneByte : ℕ → Option Sign
-oneByte b =
+abbrev pub one_byte : ℕ → Option Sign
+one_byte b =
     cond (is ";" b) (some (join sequel))
     (cond (is ">" b) (some (comparison greater))
     (cond (is "<" b) (some (comparison less))
@@ -202,88 +202,88 @@ pub record Token : Type 0 where
 pub data Scan : Type 0 where
   blank : ℕ → Scan
   token : Tok → ℕ → Scan
-  octalNumeral : ℕ → ℕ → Scan
-  noToken tooLarge : Scan
+  octal_numeral : ℕ → ℕ → Scan
+  no_token tooLarge : Scan
 
 -- how many bytes more; none where there is nothing to take
 abbrev pub taken : Scan → ℕ
 taken (blank n) = n
 taken (token t n) = n
-taken (octalNumeral v n) = n
-taken noToken = 0
+taken (octal_numeral v n) = n
+taken no_token = 0
 taken tooLarge = 0
 
-abbrev pub scanComment : List ℕ → Scan
-scanComment [] = noToken
-scanComment (c ∷ s) = cond (is "/" c) (blank (suc (span (λ b. not (eqb b 10)) s))) noToken
+abbrev pub scan_comment : List ℕ → Scan
+scan_comment [] = no_token
+scan_comment (c ∷ s) = cond (is "/" c) (blank (suc (span (λ b. not (eqb b 10)) s))) no_token
 
 -- after the quote: bytes other than quote and LF, a quote
-abbrev pub scanString : List ℕ → Scan
-scanString s =
+abbrev pub scan_string : List ℕ → Scan
+scan_string s =
     let n = span (λ b. not (is "'" b || eqb b 10)) s in
-    cond (starts (is "'") (drop n s)) (token (string (take n s)) (suc n)) noToken
+    cond (starts (is "'") (drop n s)) (token (string (take n s)) (suc n)) no_token
 
-abbrev pub scanWord : ℕ → List ℕ → Scan
-scanWord b s = token (word (b ∷ take (wordMore s) s)) (wordMore s)
+abbrev pub scan_word : ℕ → List ℕ → Scan
+scan_word b s = token (word (b ∷ take (word_more s) s)) (word_more s)
 
 -- 6: "a numeral above 2^128 − 1"
-abbrev pub literalScan : Base → ℕ → ℕ → Scan
-literalScan base v more = cond (ltb v (2 ^ 128)) (token (numeral (literalIn base v)) more) tooLarge
+abbrev pub literal_scan : Base → ℕ → ℕ → Scan
+literal_scan base v more = cond (ltb v (2 ^ 128)) (token (numeral (literal_in base v)) more) tooLarge
 
-abbrev pub numeralScan : Notation → ℕ → ℕ → Scan
-numeralScan (based base) v more = literalScan base v more
-numeralScan octal v more = octalNumeral v more
+abbrev pub numeral_scan : Notation → ℕ → ℕ → Scan
+numeral_scan (based base) v more = literal_scan base v more
+numeral_scan octal v more = octal_numeral v more
 
 -- "must be one numeral of 004 as a whole"
-abbrev pub scanNumeral : ℕ → List ℕ → Scan
-scanNumeral b s =
-    let more = span isIdByte s in
+abbrev pub scan_numeral : ℕ → List ℕ → Scan
+scan_numeral b s =
+    let more = span is_id_byte s in
     let n = spelling (b ∷ take more s) in
-    cond (isNumeral n) (numeralScan n.notation (numeralValue n) more) noToken
+    cond (is_numeral n) (numeral_scan n.notation (numeral_value n) more) no_token
 
-abbrev pub scanOne : Option Sign → Scan
-scanOne (some g) = token (sign g) 0
-scanOne none = noToken
+abbrev pub scan_one : Option Sign → Scan
+scan_one (some g) = token (sign g) 0
+scan_one none = no_token
 
 -- "the longest possible from the left"
-abbrev pub scanTwo : Option Sign → ℕ → Scan
-scanTwo (some g) b = token (sign g) 1
-scanTwo none b = scanOne (oneByte b)
+abbrev pub scan_two : Option Sign → ℕ → Scan
+scan_two (some g) b = token (sign g) 1
+scan_two none b = scan_one (one_byte b)
 
-abbrev pub scanSign : ℕ → List ℕ → Scan
-scanSign b [] = scanOne (oneByte b)
-scanSign b (c ∷ s) = scanTwo (twoBytes b c) b
+abbrev pub scan_sign : ℕ → List ℕ → Scan
+scan_sign b [] = scan_one (one_byte b)
+scan_sign b (c ∷ s) = scan_two (two_bytes b c) b
 
 pub data Class : Type 0 where
   isSpace isSlash isQuote isLetter isFigure isOther : Class
 
 abbrev pub class_of : ℕ → Class
 class_of b =
-    cond (isBlank b) isSpace
+    cond (is_blank b) isSpace
     (cond (is "/" b) isSlash
     (cond (is "'" b) isQuote
-    (cond (isIdStart b) isLetter
-    (cond (isDigit b) isFigure isOther))))
+    (cond (is_id_start b) isLetter
+    (cond (is_digit b) isFigure isOther))))
 
-abbrev pub scanClass : Class → ℕ → List ℕ → Scan
-scanClass isSpace b s = blank 0
-scanClass isSlash b s = scanComment s
-scanClass isQuote b s = scanString s
-scanClass isLetter b s = scanWord b s
-scanClass isFigure b s = scanNumeral b s
-scanClass isOther b s = scanSign b s
+abbrev pub scan_class : Class → ℕ → List ℕ → Scan
+scan_class isSpace b s = blank 0
+scan_class isSlash b s = scan_comment s
+scan_class isQuote b s = scan_string s
+scan_class isLetter b s = scan_word b s
+scan_class isFigure b s = scan_numeral b s
+scan_class isOther b s = scan_sign b s
 
 unfoldable pub scan : ℕ → List ℕ → Scan
-scan b s = scanClass (class_of b) b s
+scan b s = scan_class (class_of b) b s
 
 abbrev pub onward : Scan → ℕ → ℕ → (ℕ → ℕ → Answer (List Token)) → Answer (List Token)
 onward (blank n) at room go = go n room
-onward (token t n) at zero go = refused 7 inText at
+onward (token t n) at zero go = refused 7 InText at
 onward (token t n) at (suc room) go = go n room >>= λ ts. ok (record { at = at; tok = t } ∷ ts)
-onward (octalNumeral v n) at zero go = refused 7 inText at
-onward (octalNumeral v n) at (suc room) go = refused 22 inText at
-onward noToken at room go = refused 5 inText at
-onward tooLarge at room go = refused 6 inText at
+onward (octal_numeral v n) at zero go = refused 7 InText at
+onward (octal_numeral v n) at (suc room) go = refused 22 InText at
+onward no_token at room go = refused 5 InText at
+onward tooLarge at room go = refused 6 InText at
 
 -- what stands at a byte, of it and those after it
 abbrev pub Scanner : Type 0
@@ -292,22 +292,22 @@ Scanner = ℕ → List ℕ → Scan
 -- the tokens from an offset on: how many bytes the last one still covers, the offset, and how many tokens there is room for.
 -- "In a stage the earliest place wins; at one place the lower number wins": 7 only where 5 and 6 are not given, and 02 h's 22, "whatever its size
 -- (never 6)", only where 7 is not.
-unfoldable pub tokensBy : Scanner → ℕ → ℕ → ℕ → List ℕ → Answer (List Token)
-tokensBy look n at room [] = ok []
-tokensBy look (suc n) at room (b ∷ s) = tokensBy look n (suc at) room s
-tokensBy look zero at room (b ∷ s) = onward (look b s) at room (λ n left. tokensBy look n (suc at) left s)
+unfoldable pub tokens_by : Scanner → ℕ → ℕ → ℕ → List ℕ → Answer (List Token)
+tokens_by look n at room [] = ok []
+tokens_by look (suc n) at room (b ∷ s) = tokens_by look n (suc at) room s
+tokens_by look zero at room (b ∷ s) = onward (look b s) at room (λ n left. tokens_by look n (suc at) left s)
 
-abbrev pub tokensFrom : ℕ → ℕ → ℕ → List ℕ → Answer (List Token)
-tokensFrom n at room s = tokensBy scan n at room s
+abbrev pub tokens_from : ℕ → ℕ → ℕ → List ℕ → Answer (List Token)
+tokens_from n at room s = tokens_by scan n at room s
 
 -- 7: "a 1,025th token"
-abbrev pub mostTokens : ℕ
-mostTokens = 1024
+abbrev pub most_tokens : ℕ
+most_tokens = 1024
 
 unfoldable pub tokens : List ℕ → Answer (List Token)
-unfolding tokensBy scan
-tokens text = tokensFrom 0 0 mostTokens text
+unfolding tokens_by scan
+tokens text = tokens_from 0 0 most_tokens text
 
 -- 1: "text over 4,096 bytes", text 4096
-abbrev pub mostText : ℕ
-mostText = 4096
+abbrev pub most_text : ℕ
+most_text = 4096

@@ -12,32 +12,32 @@ use Rattle.paper.specs.Tokens.{Prefix, notSign, minusSign}
 use Rattle.paper.specs.Keys.{Key, find}
 use Rattle.paper.specs.Entry.{Entry}
 use Rattle.paper.specs.Grammar.{Tree, truth, number, key, field, attribute, prefixed, joined, compared}
-use Rattle.paper.specs.Types.{Ty, bool, int, of, same_ty, and_then, fieldNamed, meet, type_of}
-use Rattle.paper.specs.Meaning.{Connective, both, either, ifThen, connective, isTrue, value_of}
-use Rattle.paper.specs.Code.{Skip, Instruction, pushBool, pushInt, pushKey, pushField, pushPriority, invert, negate, convert, compare, connects, skip}
+use Rattle.paper.specs.Types.{Ty, bool, int, of, same_ty, and_then, field_named, meet, type_of}
+use Rattle.paper.specs.Meaning.{Connective, both, either, ifThen, connective, is_true, value_of}
+use Rattle.paper.specs.Code.{Skip, Instruction, push_bool, push_int, push_key, push_field, push_priority, invert, negate, convert, compare, connects, skip}
 
-abbrev pub hasType : Answer Ty → Option Ty
-hasType (ok a) = some a
-hasType (refused n i at) = none
+abbrev pub has_type : Answer Ty → Option Ty
+has_type (ok a) = some a
+has_type (refused n i at) = none
 
 -- the type in which the operands of a comparison meet
 abbrev pub meeting : List Key → Tree → Tree → Option Ty
-meeting ks l r = and_then (hasType (type_of ks l)) (λ a. and_then (hasType (type_of ks r)) (meet a))
+meeting ks l r = and_then (has_type (type_of ks l)) (λ a. and_then (has_type (type_of ks r)) (meet a))
 
 -- only types of keys and fields are converted to
-abbrev pub convertTo : Ty → List Instruction
-convertTo bool = []
-convertTo int = []
-convertTo (of k w) = convert k w ∷ []
+abbrev pub convert_to : Ty → List Instruction
+convert_to bool = []
+convert_to int = []
+convert_to (of k w) = convert k w ∷ []
 
 abbrev pub changed : Option Ty → Option Ty → List Instruction
 changed none m = []
 changed (some a) none = []
-changed (some a) (some m) = cond (same_ty a m) [] (convertTo m)
+changed (some a) (some m) = cond (same_ty a m) [] (convert_to m)
 
 -- the conversion after an operand's own code
 abbrev pub conversion : List Key → Tree → Option Ty → List Instruction
-conversion ks t m = changed (hasType (type_of ks t)) m
+conversion ks t m = changed (has_type (type_of ks t)) m
 
 abbrev pub operation : Prefix → Instruction
 operation notSign = invert
@@ -48,31 +48,31 @@ pushing none = []
 pushing (some i) = i ∷ []
 
 -- a join whose left operand is so is settled by it: "and" by false, "or" by true, "implies" by false
-abbrev pub settledBy : Connective → Bool
-settledBy both = false
-settledBy either = true
-settledBy ifThen = false
+abbrev pub settled_by : Connective → Bool
+settled_by both = false
+settled_by either = true
+settled_by ifThen = false
 
 -- what a join is worth that its left operand settles
-abbrev pub settledTo : Connective → Bool
-settledTo both = false
-settledTo either = true
-settledTo ifThen = true
+abbrev pub settled_to : Connective → Bool
+settled_to both = false
+settled_to either = true
+settled_to ifThen = true
 
 -- over the right operand, of so many instructions, and the join after it
-abbrev pub skipFor : Connective → ℕ → Skip
-skipFor o right = record { on = settledBy o; to = settledTo o; over = right + 1 }
+abbrev pub skip_for : Connective → ℕ → Skip
+skip_for o right = record { on = settled_by o; to = settled_to o; over = right + 1 }
 
 unfoldable pub code_of : List Key → Tree → List Instruction
 unfolding type_of
-code_of ks (truth at b) = pushBool b ∷ []
-code_of ks (number at n) = pushInt n.value ∷ []
-code_of ks (key at w) = pushing (and_then (find ks w) (λ k. some (pushKey k)))
-code_of ks (field at w to f) = pushing (and_then (find ks w) (λ k. and_then (fieldNamed f) (λ g. some (pushField g k))))
-code_of ks (attribute at to f) = pushPriority ∷ []
+code_of ks (truth at b) = push_bool b ∷ []
+code_of ks (number at n) = push_int n.value ∷ []
+code_of ks (key at w) = pushing (and_then (find ks w) (λ k. some (push_key k)))
+code_of ks (field at w to f) = pushing (and_then (find ks w) (λ k. and_then (field_named f) (λ g. some (push_field g k))))
+code_of ks (attribute at to f) = push_priority ∷ []
 code_of ks (prefixed at o t) = code_of ks t ++ (operation o ∷ [])
 code_of ks (joined at o l r) =
-    code_of ks l ++ (skip (skipFor (connective o) (length (code_of ks r))) ∷ (code_of ks r ++ (connects (connective o) ∷ [])))
+    code_of ks l ++ (skip (skip_for (connective o) (length (code_of ks r))) ∷ (code_of ks r ++ (connects (connective o) ∷ [])))
 code_of ks (compared at c l r) =
     code_of ks l ++ conversion ks l (meeting ks l r) ++ code_of ks r ++ conversion ks r (meeting ks l r) ++ (compare c ∷ [])
 
@@ -100,15 +100,15 @@ joins (joined at o l r) = joins l + joins r + 1
 joins (compared at c l r) = joins l + joins r
 
 -- how many steps the code of a tree takes on an entry: a skip is one; where it is taken, the right operand and the join are none
-unfoldable pub stepsOf : List Key → Entry → Tree → ℕ
+unfoldable pub steps_of : List Key → Entry → Tree → ℕ
 unfolding type_of value_of
-stepsOf ks e (truth at b) = 1
-stepsOf ks e (number at n) = 1
-stepsOf ks e (key at w) = 1
-stepsOf ks e (field at w to f) = 1
-stepsOf ks e (attribute at to f) = 1
-stepsOf ks e (prefixed at o t) = stepsOf ks e t + 1
-stepsOf ks e (joined at o l r) =
-    stepsOf ks e l + cond (beq (isTrue (value_of ks e l)) (settledBy (connective o))) 1 (1 + stepsOf ks e r + 1)
-stepsOf ks e (compared at c l r) =
-    stepsOf ks e l + length (conversion ks l (meeting ks l r)) + stepsOf ks e r + length (conversion ks r (meeting ks l r)) + 1
+steps_of ks e (truth at b) = 1
+steps_of ks e (number at n) = 1
+steps_of ks e (key at w) = 1
+steps_of ks e (field at w to f) = 1
+steps_of ks e (attribute at to f) = 1
+steps_of ks e (prefixed at o t) = steps_of ks e t + 1
+steps_of ks e (joined at o l r) =
+    steps_of ks e l + cond (beq (is_true (value_of ks e l)) (settled_by (connective o))) 1 (1 + steps_of ks e r + 1)
+steps_of ks e (compared at c l r) =
+    steps_of ks e l + length (conversion ks l (meeting ks l r)) + steps_of ks e r + length (conversion ks r (meeting ks l r)) + 1

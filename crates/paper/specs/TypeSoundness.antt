@@ -7,12 +7,12 @@ use Rattle.paper.specs.Entry.{Entry}
 use Rattle.paper.specs.Grammar.{Tree}
 use Rattle.paper.specs.Types.{Ty, type_of, typed}
 use Rattle.paper.specs.Meaning.{Value, truth, ty_of, value_of}
-use Rattle.paper.specs.Translating.{hasType}
+use Rattle.paper.specs.Translating.{has_type}
 use Rattle.paper.specs.LoadedBlocksRun.{Covers}
 
 -- an equation, so that a tree without a type has no value
 abbrev pub ValuesHaveTypes : Type 0
-ValuesHaveTypes = (ks : List Key) (e : Entry) → Covers ks e → (t : Tree) → hasType (type_of ks t) ≡ map ty_of (value_of ks e t)
+ValuesHaveTypes = (ks : List Key) (e : Entry) → Covers ks e → (t : Tree) → has_type (type_of ks t) ≡ map ty_of (value_of ks e t)
 
 -- a value of a type
 pub record Meant (ks : List Key) (e : Entry) (t : Tree) (a : Ty) : Type 0 where

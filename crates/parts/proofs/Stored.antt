@@ -9,7 +9,7 @@ use lib.ListN.{length, get_or, set, length-set}
 use lib.Seq.{get_or-set_same, get_or-set_other}
 use Rattle.paper.specs.Parts.{Stretch}
 use Rattle.paper.specs.BlocksRoundTrip.{All}
-use Rattle.parts.specs.Rows.{row_at, Has, stretchAt, rootAt, each, stretchesOn}
+use Rattle.parts.specs.Rows.{row_at, Has, stretch_at, root_at, each, stretches_on}
 
 module _ {A : Type 0} where
   each_snoc : (has : ℕ → A) (k n : ℕ) → each has k (suc n) ≡ each has k n ++ (has (k + n) ∷ [])
@@ -26,10 +26,10 @@ module _ {A : Type 0} where
       ap₂ (λ (a : A) (l : List A). a ∷ l) (same k (omega arith) (omega arith))
       (each_same has had (suc k) n (λ j low high. same j (omega arith) (omega arith)))
 
-  pub each-length : (has : ℕ → A) (k n : ℕ) → length (each has k n) ≡ n
+  pub each_length : (has : ℕ → A) (k n : ℕ) → length (each has k n) ≡ n
   unfolding each
-  each-length has k zero = refl
-  each-length has k (suc n) = ap suc (each-length has (suc k) n)
+  each_length has k zero = refl
+  each_length has k (suc n) = ap suc (each_length has (suc k) n)
 
   -- what all have, each has
   pub each_all : (P : A → Type 0) (has : ℕ → A) (k n : ℕ) → All P (each has k n) → (j : ℕ) → j < n → P (has (k + j))
@@ -49,50 +49,50 @@ module _ (rows after : List ℕ) (n start end : ℕ) (room : Has rows n) (put : 
       (get_or-set_other (set rows (row_at n) start) (row_at n + 1) i end 0 (λ e. omega arith)
       ∙ get_or-set_other rows (row_at n) i start 0 (λ e. omega arith))
 
-  stretch-kept : (k : ℕ) → k < n → stretchAt after k ≡ stretchAt rows k
-  stretch-kept k h =
+  stretch_kept : (k : ℕ) → k < n → stretch_at after k ≡ stretch_at rows k
+  stretch_kept k h =
       λ j. record { from = word_kept (row_at k) (omega arith) j; to = word_kept (row_at k + 1) (omega arith) j }
 
-  start-new : get_or after (row_at n) 0 ≡ start
-  start-new =
+  start_new : get_or after (row_at n) 0 ≡ start
+  start_new =
       rw put
       (get_or-set_other (set rows (row_at n) start) (row_at n + 1) (row_at n) end 0 (λ e. omega arith)
       ∙ get_or-set_same rows (row_at n) start 0 (omega arith))
 
-  end-new : get_or after (row_at n + 1) 0 ≡ end
-  end-new = rw put (get_or-set_same (set rows (row_at n) start) (row_at n + 1) end 0 (simp length-set (omega arith)))
+  end_new : get_or after (row_at n + 1) 0 ≡ end
+  end_new = rw put (get_or-set_same (set rows (row_at n) start) (row_at n + 1) end 0 (simp length-set (omega arith)))
 
-  stretch-new : stretchAt after n ≡ record { from = start; to = end }
-  stretch-new = λ j. record { from = start-new j; to = end-new j }
+  stretch_new : stretch_at after n ≡ record { from = start; to = end }
+  stretch_new = λ j. record { from = start_new j; to = end_new j }
 
-  pub stretch-stored : stretchesOn after (n + 1) ≡ stretchesOn rows n ++ (record { from = start; to = end } ∷ [])
-  stretch-stored =
-      let last : stretchAt after (0 + n) ≡ record { from = start; to = end } = rw zero-add stretch-new in
+  pub stretch_stored : stretches_on after (n + 1) ≡ stretches_on rows n ++ (record { from = start; to = end } ∷ [])
+  stretch_stored =
+      let last : stretch_at after (0 + n) ≡ record { from = start; to = end } = rw zero-add stretch_new in
       rw (add-one n)
-      (each_snoc (stretchAt after) 0 n
+      (each_snoc (stretch_at after) 0 n
       ∙ ap₂ (λ (l : List Stretch) (s : Stretch). l ++ (s ∷ []))
-      (each_same (stretchAt after) (stretchAt rows) 0 n (λ k low high. stretch-kept k (omega arith))) last)
+      (each_same (stretch_at after) (stretch_at rows) 0 n (λ k low high. stretch_kept k (omega arith))) last)
 
 -- a root, stored in the row of index k
 
 module _ (rows after : List ℕ) (k root : ℕ) (room : Has rows k) (put : after ≡ set rows (row_at k + 2) root) where
-  root-new : rootAt after k ≡ root
-  root-new = rw put (get_or-set_same rows (row_at k + 2) root 0 (omega arith))
+  root_new : root_at after k ≡ root
+  root_new = rw put (get_or-set_same rows (row_at k + 2) root 0 (omega arith))
 
-  root_kept : (j : ℕ) → k < j → rootAt after j ≡ rootAt rows j
+  root_kept : (j : ℕ) → k < j → root_at after j ≡ root_at rows j
   root_kept j h = rw put (get_or-set_other rows (row_at k + 2) (row_at j + 2) root 0 (λ e. omega arith))
 
-  pub root-stored : (n : ℕ) → each (rootAt after) k (suc n) ≡ root ∷ each (rootAt rows) (suc k) n
+  pub root_stored : (n : ℕ) → each (root_at after) k (suc n) ≡ root ∷ each (root_at rows) (suc k) n
   unfolding each
-  root-stored n =
-      ap₂ (λ (r : ℕ) (l : List ℕ). r ∷ l) root-new
-      (each_same (rootAt after) (rootAt rows) (suc k) n (λ j low high. root_kept j (omega arith)))
+  root_stored n =
+      ap₂ (λ (r : ℕ) (l : List ℕ). r ∷ l) root_new
+      (each_same (root_at after) (root_at rows) (suc k) n (λ j low high. root_kept j (omega arith)))
 
   -- no stretch is stored in that word
-  pub stretches-kept : (n : ℕ) → stretchesOn after n ≡ stretchesOn rows n
-  stretches-kept n = each_same (stretchAt after) (stretchAt rows) 0 n (λ j low high. same j)
+  pub stretches_kept : (n : ℕ) → stretches_on after n ≡ stretches_on rows n
+  stretches_kept n = each_same (stretch_at after) (stretch_at rows) 0 n (λ j low high. same j)
     where
-      same : (j : ℕ) → stretchAt after j ≡ stretchAt rows j
+      same : (j : ℕ) → stretch_at after j ≡ stretch_at rows j
       same j =
           let from : get_or after (row_at j) 0 ≡ get_or rows (row_at j) 0 =
           rw put (get_or-set_other rows (row_at k + 2) (row_at j) root 0 (λ e. omega arith)) in

@@ -1,9 +1,9 @@
 // Where each part begins and ends: a loop over the tokens, which counts the parentheses that are open.
 ghost use Rattle.std.specs.Prelude.{◌≡◌, ◌*◌, ◌≤◌, ◌<◌};
-ghost use Rattle.paper.specs.Tokens.{mostTokens};
-ghost use Rattle.paper.specs.Parts.{mostParts};
-ghost use Rattle.parts.specs.Rows.{stretchesOn};
-ghost use Rattle.parts.specs.Cutting.{kindDivides, kindOpens, stretches, Closed};
+ghost use Rattle.paper.specs.Tokens.{most_tokens};
+ghost use Rattle.paper.specs.Parts.{most_parts};
+ghost use Rattle.parts.specs.Rows.{stretches_on};
+ghost use Rattle.parts.specs.Cutting.{kind_divides, kind_opens, stretches, Closed};
 ghost use Rattle.parts.specs.Found.{Taped, Room};
 
 use crate::rows;
@@ -11,7 +11,7 @@ use tokens::{kinds, rows as tape_rows};
 
 // A ";" outside parentheses.
 fn divides(depth: usize, kind: u32) -> bool
-    ensures { result ≡ kindDivides depth kind }
+    ensures { result ≡ kind_divides depth kind }
 {
     if kind != kinds::SEQUEL {
         return false;
@@ -21,8 +21,8 @@ fn divides(depth: usize, kind: u32) -> bool
 
 // How many parentheses are open after a token of a kind. A text that is read closes none that is not open.
 fn open_after(depth: usize, kind: u32) -> usize
-    requires { depth < mostTokens }
-    ensures { result ≡ kindOpens depth kind }
+    requires { depth < most_tokens }
+    ensures { result ≡ kind_opens depth kind }
 {
     if kind == kinds::OPENING {
         return depth + 1;
@@ -52,8 +52,8 @@ fn close(tape: &[u32], first: usize, past: usize, parts: &mut [u32], n: usize) -
 pub(crate) fn cut(tape: &[u32], count: usize, parts: &mut [u32]) -> usize
     requires taped { Taped tape.now count }
     requires room { Room parts.old }
-    ensures says { stretchesOn parts.new result ≡ stretches tape.now 0 0 0 count }
-    ensures few { result ≤ mostParts }
+    ensures says { stretches_on parts.new result ≡ stretches tape.now 0 0 0 count }
+    ensures few { result ≤ most_parts }
 {
     let mut n = 0;
     let mut first = 0;

@@ -2,7 +2,7 @@
 //
 // A row holds the part's first byte, the byte past its last, and the node of its root. specs/Rows.antt has the definition.
 ghost use Rattle.std.specs.Prelude.{◌≡◌, ◌+◌, ◌^◌, ◌<◌, set};
-ghost use Rattle.parts.specs.Rows.{Has, row_at, stretchAt, rootAt};
+ghost use Rattle.parts.specs.Rows.{Has, row_at, stretch_at, root_at};
 
 pub const WORDS: usize = 3;
 
@@ -15,7 +15,7 @@ fn wide(x: u32) -> usize
 // The offset of a part's first byte.
 pub fn start_at(parts: &[u32], part: usize) -> usize
     requires { Has parts.now part }
-    ensures { result ≡ (stretchAt parts.now part).from }
+    ensures { result ≡ (stretch_at parts.now part).from }
 {
     wide(parts[part * WORDS])
 }
@@ -23,7 +23,7 @@ pub fn start_at(parts: &[u32], part: usize) -> usize
 // The offset past its last byte.
 pub fn end_at(parts: &[u32], part: usize) -> usize
     requires { Has parts.now part }
-    ensures { result ≡ (stretchAt parts.now part).to }
+    ensures { result ≡ (stretch_at parts.now part).to }
 {
     wide(parts[part * WORDS + 1])
 }
@@ -31,7 +31,7 @@ pub fn end_at(parts: &[u32], part: usize) -> usize
 // The node of its root.
 pub fn root_at(parts: &[u32], part: usize) -> usize
     requires { Has parts.now part }
-    ensures { result ≡ rootAt parts.now part }
+    ensures { result ≡ root_at parts.now part }
 {
     wide(parts[part * WORDS + 2])
 }

@@ -1,6 +1,6 @@
 // The root of each part: down the left operands of the text's tree, from the last part to the first.
 ghost use Rattle.std.specs.Prelude.{◌≡◌, ◌+◌, ◌*◌, ◌-◌, ◌≤◌, length};
-ghost use Rattle.paper.specs.Parts.{mostParts};
+ghost use Rattle.paper.specs.Parts.{most_parts};
 ghost use Rattle.parts.specs.Spine.{LeftOf, Rooted};
 ghost use Rattle.parts.specs.Found.{Noded, Room};
 
@@ -30,7 +30,7 @@ fn right_of(i: usize) -> usize
 // Stores the roots of n parts, of which the text has so many. Its tree alone does not tell: `(a; b); c` has two, and `a; b; c` three.
 pub(crate) fn name_roots(nodes: &[u32], root: usize, parts: &mut [u32], n: usize)
     requires noded { Noded nodes.now root }
-    requires room { Room parts.old × (n ≤ mostParts) }
+    requires room { Room parts.old × (n ≤ most_parts) }
     ensures { Rooted nodes.now root parts.old parts.new n }
 {
     let mut at = root;

@@ -10,8 +10,8 @@ use Rattle.paper.specs.Calls.{over}
 use Rattle.printing.specs.Writing.{Wrote}
 
 -- bytes copied to the start stand before those that stood after them
-pub copied-first : (l s : List ℕ) → length s ≤ length l → sets l 0 s ≡ over s l
-copied-first l s h = rw zero-add at (sets-eq s l 0 (omega arith))
+pub copied_first : (l s : List ℕ) → length s ≤ length l → sets l 0 s ≡ over s l
+copied_first l s h = rw zero-add at (sets-eq s l 0 (omega arith))
 
 pub record Whole (a s b : List ℕ) (n : ℕ) : Type 0 where
   pub count : n ≡ length s
@@ -19,11 +19,11 @@ pub record Whole (a s b : List ℕ) (n : ℕ) : Type 0 where
   pub bytes : take n b ≡ s
 
 module _ {a b s : List ℕ} {n : ℕ} (w : Wrote a 0 s b n) where
-  pub came-to-the-end : n ≤ length a → Whole a s b n
-  came-to-the-end h =
+  pub came_to_the_end : n ≤ length a → Whole a s b n
+  came_to_the_end h =
       let count : n ≡ length s = omega (arith, w.ends) in
       let room : length s ≤ length a = omega arith in
-      record { count = count; room = room; bytes = rw (count, w.stored (omega arith), copied-first a s room) (take_at s _ (length s) refl) }
+      record { count = count; room = room; bytes = rw (count, w.stored (omega arith), copied_first a s room) (take_at s _ (length s) refl) }
 
-  pub came-past-the-room : length a < n → length a < length s
-  came-past-the-room h = omega (arith, w.ends)
+  pub came_past_the_room : length a < n → length a < length s
+  came_past_the_room h = omega (arith, w.ends)

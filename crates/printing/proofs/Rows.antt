@@ -6,20 +6,20 @@ use mathlib.Core.Path.{◌≡◌, refl, sym, subst, ◌∙◌}
 use mathlib.Core.List.{List, [], ◌++◌}
 use lib.ListN.{length, length-append}
 use lib.Seq.{sets, length-sets}
-use Rattle.number.proofs.BigEndian.{sets-append}
+use Rattle.number.proofs.BigEndian.{sets_append}
 use Rattle.printing.specs.Writing.{Wrote}
 
 -- one piece
 
 module _ (a : List ℕ) (from : ℕ) (s : List ℕ) where
-  pub nothing-fits : length a < from → Wrote a from s a from
-  nothing-fits h = record { kept = refl; ends = omega arith; stored = λ k. absurd (omega arith) }
+  pub nothing_fits : length a < from → Wrote a from s a from
+  nothing_fits h = record { kept = refl; ends = omega arith; stored = λ k. absurd (omega arith) }
 
-  pub does-not-fit : from ≤ length a → length a < from + length s → Wrote a from s a (length a + 1)
-  does-not-fit g h = record { kept = refl; ends = omega arith; stored = λ k. absurd (omega arith) }
+  pub does_not_fit : from ≤ length a → length a < from + length s → Wrote a from s a (length a + 1)
+  does_not_fit g h = record { kept = refl; ends = omega arith; stored = λ k. absurd (omega arith) }
 
-  pub all-written : {b : List ℕ} → from + length s ≤ length a → b ≡ sets a from s → Wrote a from s b (from + length s)
-  all-written h same = record { kept = rw (same, length-sets); ends = omega arith; stored = λ k. same }
+  pub all_written : {b : List ℕ} → from + length s ≤ length a → b ≡ sets a from s → Wrote a from s b (from + length s)
+  all_written h same = record { kept = rw (same, length-sets); ends = omega arith; stored = λ k. same }
 
 pub none_written : (a : List ℕ) (from : ℕ) → Wrote a from [] a from
 none_written a from = record { kept = refl; ends = omega arith; stored = λ k. refl }
@@ -38,5 +38,5 @@ wrote_on {a} {b} {c} {from} {i} {j} {s} {t} v w =
       stored = λ h.
           let there : i ≡ from + length s = omega (arith, l, v.ends) in
           let second = w.stored (omega (arith, l, v.kept, there)) in
-          second ∙ rw (there, v.stored (omega (arith, l))) (sym (sets-append a from s t));
+          second ∙ rw (there, v.stored (omega (arith, l))) (sym (sets_append a from s t));
     }

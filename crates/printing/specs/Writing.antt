@@ -2,10 +2,10 @@
 use Rattle.std.specs.Prelude.{ℕ, ◌+◌, ◌≤◌, min, max, ◌≡◌, Bool, cond, List, [], length}
 use Rattle.std.proofs.lemmas.List.Edits.{sets}
 use Rattle.paper.specs.Tokens.{bytes}
-use Rattle.paper.specs.Print.{joinBytes, comparisonBytes, spaced, comparisonRung, tightest, rungOf, left_of, rightOf}
+use Rattle.paper.specs.Print.{join_bytes, comparison_bytes, spaced, comparison_rung, tightest, rung_of, left_of, right_of}
 use Rattle.trees.specs.declared.node.Operator.{Operator}
 use Rattle.trees.specs.declared.node.Operator.TheVariants.{Joins, Compares}
-use Rattle.trees.specs.Standing.{joinMeant, comparisonMeant}
+use Rattle.trees.specs.Standing.{join_meant, comparison_meant}
 use Rattle.printing.specs.declared.signs.Rung.{Rung}
 use Rattle.printing.specs.declared.signs.Rung.TheVariants as R
 
@@ -20,36 +20,36 @@ pub record Wrote (before : List ℕ) (from : ℕ) (s : List ℕ) (after : List �
   pub stored : from + length s ≤ length before → after ≡ sets before from s
 
 -- rungs by name
-abbrev pub rungMeant : Rung → ℕ
-rungMeant R.Sequel = 0
-rungMeant R.Implies = 1
-rungMeant R.Or = 2
-rungMeant R.And = 3
-rungMeant R.Comparison = comparisonRung
-rungMeant R.Tightest = tightest
+abbrev pub rung_meant : Rung → ℕ
+rung_meant R.Sequel = 0
+rung_meant R.Implies = 1
+rung_meant R.Or = 2
+rung_meant R.And = 3
+rung_meant R.Comparison = comparison_rung
+rung_meant R.Tightest = tightest
 
 -- an operator between two operands: its sign, the rung of what it makes, and the rungs that it asks for
 
-abbrev pub operatorBytes : Operator → List ℕ
-operatorBytes (Joins o) = spaced (joinBytes (joinMeant o))
-operatorBytes (Compares c) = spaced (comparisonBytes (comparisonMeant c))
+abbrev pub operator_bytes : Operator → List ℕ
+operator_bytes (Joins o) = spaced (join_bytes (join_meant o))
+operator_bytes (Compares c) = spaced (comparison_bytes (comparison_meant c))
 
-abbrev pub rungBetween : Operator → ℕ
-rungBetween (Joins o) = rungOf (joinMeant o)
-rungBetween (Compares c) = comparisonRung
+abbrev pub rung_between : Operator → ℕ
+rung_between (Joins o) = rung_of (join_meant o)
+rung_between (Compares c) = comparison_rung
 
-abbrev pub leftBetween : Operator → ℕ
-leftBetween (Joins o) = left_of (joinMeant o)
-leftBetween (Compares c) = tightest
+abbrev pub left_between : Operator → ℕ
+left_between (Joins o) = left_of (join_meant o)
+left_between (Compares c) = tightest
 
-abbrev pub rightBetween : Operator → ℕ
-rightBetween (Joins o) = rightOf (joinMeant o)
-rightBetween (Compares c) = tightest
+abbrev pub right_between : Operator → ℕ
+right_between (Joins o) = right_of (join_meant o)
+right_between (Compares c) = tightest
 
 -- the two halves of `enclosed`
 
-abbrev pub openBytes : Bool → List ℕ
-openBytes needed = cond needed (bytes "(") []
+abbrev pub open_bytes : Bool → List ℕ
+open_bytes needed = cond needed (bytes "(") []
 
-abbrev pub closeBytes : Bool → List ℕ
-closeBytes needed = cond needed (bytes ")") []
+abbrev pub close_bytes : Bool → List ℕ
+close_bytes needed = cond needed (bytes ")") []

@@ -1,11 +1,11 @@
 // Nodes with no operand.
 ghost use Rattle.std.specs.Prelude.{◌+◌, ◌*◌, ◌≤◌, ◌++◌, length, drop};
 ghost use Rattle.paper.specs.Tokens.{bytes};
-ghost use Rattle.paper.specs.Print.{print, basePrefix, numeralIn, literalBytes, truthBytes};
+ghost use Rattle.paper.specs.Print.{print, base_prefix, numeral_in, literal_bytes, truth_bytes};
 ghost use Rattle.number.specs.Values.{value};
-ghost use Rattle.number.specs.Bases.{baseMeant, literalMeant};
-ghost use Rattle.trees.specs.Nodes.{leafAt, placeAt};
-ghost use Rattle.trees.specs.Standing.{leafOn, spelling};
+ghost use Rattle.number.specs.Bases.{base_meant, literal_meant};
+ghost use Rattle.trees.specs.Nodes.{leaf_at, place_at};
+ghost use Rattle.trees.specs.Standing.{leaf_on, spelling};
 ghost use Rattle.printing.specs.Writing.{Wrote};
 
 use crate::put;
@@ -22,7 +22,7 @@ fn write_rest(s: &[u8], first: usize, from: usize, out: &mut [u8]) -> usize
 
 // What announces a base: nothing for decimal.
 fn write_base(base: Base, from: usize, out: &mut [u8]) -> usize
-    ensures { Wrote out.old from (basePrefix (baseMeant base)) out.new result }
+    ensures { Wrote out.old from (base_prefix (base_meant base)) out.new result }
 {
     match base {
         Base::Decimal => from,
@@ -34,7 +34,7 @@ fn write_base(base: Base, from: usize, out: &mut [u8]) -> usize
 // The numeral of a limb, in few bytes of its own.
 fn write_limb(n: u32, base: u32, from: usize, out: &mut [u8]) -> usize
     requires { (2 ≤ base) × (base ≤ 16) }
-    ensures { Wrote out.old from (numeralIn base n) out.new result }
+    ensures { Wrote out.old from (numeral_in base n) out.new result }
 {
     let mut bytes = [0u8; number::MOST_LIMB_DIGITS];
     let first = number::put_limb_digits(n, base, &mut bytes);
@@ -44,7 +44,7 @@ fn write_limb(n: u32, base: u32, from: usize, out: &mut [u8]) -> usize
 // The numeral of a number. Nearly all have one limb, which is passed on by itself: the digits of several need four times the room.
 fn write_digits(number: Magnitude, base: u32, from: usize, out: &mut [u8]) -> usize
     requires { (2 ≤ base) × (base ≤ 16) }
-    ensures { Wrote out.old from (numeralIn base (value number)) out.new result }
+    ensures { Wrote out.old from (numeral_in base (value number)) out.new result }
 {
     if !number.is_long() {
         return write_limb(number.limbs[0], base, from, out);
@@ -54,7 +54,7 @@ fn write_digits(number: Magnitude, base: u32, from: usize, out: &mut [u8]) -> us
 }
 
 fn write_number(literal: Literal, from: usize, out: &mut [u8]) -> usize
-    ensures { Wrote out.old from (literalBytes (literalMeant literal)) out.new result }
+    ensures { Wrote out.old from (literal_bytes (literal_meant literal)) out.new result }
 {
     let base = literal.base;
     let announced = write_base(base, from, out);
@@ -62,7 +62,7 @@ fn write_number(literal: Literal, from: usize, out: &mut [u8]) -> usize
 }
 
 fn write_truth(truth: bool, from: usize, out: &mut [u8]) -> usize
-    ensures { Wrote out.old from (truthBytes truth) out.new result }
+    ensures { Wrote out.old from (truth_bytes truth) out.new result }
 {
     if truth {
         return put::write(b"true", from, out);
@@ -99,7 +99,7 @@ pub(crate) fn write_leaf(
     out: &mut [u8],
 ) -> usize
     requires { node * 8 + 8 ≤ length nodes.now }
-    ensures { Wrote out.old from (print (leafOn text.now (placeAt nodes.now node) (leafAt nodes.now node))) out.new result }
+    ensures { Wrote out.old from (print (leaf_on text.now (place_at nodes.now node) (leaf_at nodes.now node))) out.new result }
 {
     let leaf = Leaf::read(nodes, node);
     match leaf {

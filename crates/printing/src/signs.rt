@@ -1,8 +1,8 @@
 // Operators: their signs, and the rungs of the ladder that decide on parentheses.
 ghost use Rattle.std.specs.Prelude.{◌≡◌, ltb};
-ghost use Rattle.paper.specs.Print.{prefixBytes, joinBytes, comparisonBytes, rungOf, left_of, rightOf, spaced};
-ghost use Rattle.trees.specs.Standing.{prefixMeant, joinMeant, comparisonMeant};
-ghost use Rattle.printing.specs.Writing.{Wrote, rungMeant, operatorBytes, rungBetween, leftBetween, rightBetween, openBytes, closeBytes};
+ghost use Rattle.paper.specs.Print.{prefix_bytes, join_bytes, comparison_bytes, rung_of, left_of, right_of, spaced};
+ghost use Rattle.trees.specs.Standing.{prefix_meant, join_meant, comparison_meant};
+ghost use Rattle.printing.specs.Writing.{Wrote, rung_meant, operator_bytes, rung_between, left_between, right_between, open_bytes, close_bytes};
 
 use crate::put;
 use trees::{Comparison, Join, Operator, Prefix};
@@ -21,7 +21,7 @@ pub enum Rung {
 impl Rung {
     // The paper's number.
     pub fn number(self) -> u8
-        ensures { result ≡ rungMeant self }
+        ensures { result ≡ rung_meant self }
     {
         match self {
             Rung::Sequel => 0,
@@ -35,7 +35,7 @@ impl Rung {
 }
 
 fn join_rung(o: Join) -> Rung
-    ensures { rungMeant result ≡ rungOf (joinMeant o) }
+    ensures { rung_meant result ≡ rung_of (join_meant o) }
 {
     match o {
         Join::Sequel => Rung::Sequel,
@@ -47,7 +47,7 @@ fn join_rung(o: Join) -> Rung
 
 // The rung of what an operator makes.
 pub fn rung_of(o: Operator) -> Rung
-    ensures { rungMeant result ≡ rungBetween o }
+    ensures { rung_meant result ≡ rung_between o }
 {
     match o {
         Operator::Joins(j) => join_rung(j),
@@ -57,13 +57,13 @@ pub fn rung_of(o: Operator) -> Rung
 
 // Whether what an operator makes needs parentheses where a rung is asked for.
 pub(crate) fn is_looser(o: Operator, rung: Rung) -> bool
-    ensures { result ≡ ltb (rungBetween o) (rungMeant rung) }
+    ensures { result ≡ ltb (rung_between o) (rung_meant rung) }
 {
     rung_of(o).number() < rung.number()
 }
 
 fn join_left(o: Join) -> Rung
-    ensures { rungMeant result ≡ left_of (joinMeant o) }
+    ensures { rung_meant result ≡ left_of (join_meant o) }
 {
     match o {
         Join::Sequel => Rung::Sequel,
@@ -75,7 +75,7 @@ fn join_left(o: Join) -> Rung
 
 // The rung that is asked for before an operator.
 pub fn left_rung(o: Operator) -> Rung
-    ensures { rungMeant result ≡ leftBetween o }
+    ensures { rung_meant result ≡ left_between o }
 {
     match o {
         Operator::Joins(j) => join_left(j),
@@ -84,7 +84,7 @@ pub fn left_rung(o: Operator) -> Rung
 }
 
 fn join_right(o: Join) -> Rung
-    ensures { rungMeant result ≡ rightOf (joinMeant o) }
+    ensures { rung_meant result ≡ right_of (join_meant o) }
 {
     match o {
         Join::Sequel => Rung::Implies,
@@ -96,7 +96,7 @@ fn join_right(o: Join) -> Rung
 
 // The rung that is asked for after it.
 pub fn right_rung(o: Operator) -> Rung
-    ensures { rungMeant result ≡ rightBetween o }
+    ensures { rung_meant result ≡ right_between o }
 {
     match o {
         Operator::Joins(j) => join_right(j),
@@ -105,7 +105,7 @@ pub fn right_rung(o: Operator) -> Rung
 }
 
 pub(crate) fn write_prefix(o: Prefix, from: usize, out: &mut [u8]) -> usize
-    ensures { Wrote out.old from (prefixBytes (prefixMeant o)) out.new result }
+    ensures { Wrote out.old from (prefix_bytes (prefix_meant o)) out.new result }
 {
     match o {
         Prefix::Not => put::write(b"!", from, out),
@@ -114,7 +114,7 @@ pub(crate) fn write_prefix(o: Prefix, from: usize, out: &mut [u8]) -> usize
 }
 
 fn write_join(o: Join, from: usize, out: &mut [u8]) -> usize
-    ensures { Wrote out.old from (spaced (joinBytes (joinMeant o))) out.new result }
+    ensures { Wrote out.old from (spaced (join_bytes (join_meant o))) out.new result }
 {
     match o {
         Join::Sequel => put::write(b" ; ", from, out),
@@ -125,7 +125,7 @@ fn write_join(o: Join, from: usize, out: &mut [u8]) -> usize
 }
 
 fn write_comparison(c: Comparison, from: usize, out: &mut [u8]) -> usize
-    ensures { Wrote out.old from (spaced (comparisonBytes (comparisonMeant c))) out.new result }
+    ensures { Wrote out.old from (spaced (comparison_bytes (comparison_meant c))) out.new result }
 {
     match c {
         Comparison::Equal => put::write(b" == ", from, out),
@@ -139,7 +139,7 @@ fn write_comparison(c: Comparison, from: usize, out: &mut [u8]) -> usize
 
 // An operator between its blanks.
 pub(crate) fn write_operator(o: Operator, from: usize, out: &mut [u8]) -> usize
-    ensures { Wrote out.old from (operatorBytes o) out.new result }
+    ensures { Wrote out.old from (operator_bytes o) out.new result }
 {
     match o {
         Operator::Joins(j) => write_join(j, from, out),
@@ -150,7 +150,7 @@ pub(crate) fn write_operator(o: Operator, from: usize, out: &mut [u8]) -> usize
 // Parentheses where they are needed, else nothing.
 
 pub(crate) fn write_open(needed: bool, from: usize, out: &mut [u8]) -> usize
-    ensures { Wrote out.old from (openBytes needed) out.new result }
+    ensures { Wrote out.old from (open_bytes needed) out.new result }
 {
     if needed {
         return put::write(b"(", from, out);
@@ -159,7 +159,7 @@ pub(crate) fn write_open(needed: bool, from: usize, out: &mut [u8]) -> usize
 }
 
 pub(crate) fn write_close(needed: bool, from: usize, out: &mut [u8]) -> usize
-    ensures { Wrote out.old from (closeBytes needed) out.new result }
+    ensures { Wrote out.old from (close_bytes needed) out.new result }
 {
     if needed {
         return put::write(b")", from, out);

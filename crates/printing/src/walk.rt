@@ -1,8 +1,8 @@
 // The walk: a prefix operator and its operand; or the left operand, the operator and the right one, in parentheses where they are needed.
 ghost use Rattle.std.specs.Prelude.{◌+◌, ◌*◌, ◌≤◌, length};
 ghost use Rattle.paper.specs.Print.{enclosed, looser, print};
-ghost use Rattle.trees.specs.Standing.{treeAt};
-ghost use Rattle.printing.specs.Writing.{Wrote, rungMeant};
+ghost use Rattle.trees.specs.Standing.{tree_at};
+ghost use Rattle.printing.specs.Writing.{Wrote, rung_meant};
 
 use crate::signs::Rung;
 use crate::{leaf, signs};
@@ -20,7 +20,7 @@ fn write_operand(
 ) -> usize
     requires { node * 8 + 8 ≤ length nodes.now }
     ensures { Wrote out.old from
-        (enclosed (looser (rungMeant rung) (treeAt text.now nodes.now node)) (print (treeAt text.now nodes.now node)))
+        (enclosed (looser (rung_meant rung) (tree_at text.now nodes.now node)) (print (tree_at text.now nodes.now node)))
         out.new result }
 {
     let n = Node::read(nodes, node);
@@ -42,7 +42,7 @@ pub fn write_tree(
 ) -> usize
     requires { node * 8 + 8 ≤ length nodes.now }
     ensures { Wrote out.old from
-        (enclosed (looser (rungMeant rung) (treeAt text.now nodes.now node)) (print (treeAt text.now nodes.now node)))
+        (enclosed (looser (rung_meant rung) (tree_at text.now nodes.now node)) (print (tree_at text.now nodes.now node)))
         out.new result }
 {
     let n = Node::read(nodes, node);

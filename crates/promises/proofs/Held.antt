@@ -8,26 +8,26 @@ use Rattle.paper.specs.declared.Translation.TheVariants as T
 use Rattle.paper.specs.declared.Loading.{Loading}
 use Rattle.paper.specs.declared.Loading.TheVariants as L
 use Rattle.paper.specs.declared.Running.{Running}
-use Rattle.paper.specs.Blocks.{blockSize, blocksNeeded}
-use Rattle.paper.specs.CodeCorrect.{mostTranslated}
-use Rattle.paper.specs.TranslationCorrect.{verdictOf}
-use Rattle.paper.specs.Promised.{judgementOfRun, JudgePromised, TranslatePromised, LoadPromised, RunPromised}
-use Rattle.paper.specs.Demands.{blocksWritten}
-use Rattle.paper.proofs.TranslationCorrect.{translation-carries}
-use Rattle.paper.proofs.Promised.{judgement-same, judgement-of-run, loading-same}
+use Rattle.paper.specs.Blocks.{block_size, blocks_needed}
+use Rattle.paper.specs.CodeCorrect.{most_translated}
+use Rattle.paper.specs.TranslationCorrect.{verdict_of}
+use Rattle.paper.specs.Promised.{judgement_of_run, JudgePromised, TranslatePromised, LoadPromised, RunPromised}
+use Rattle.paper.specs.Demands.{blocks_written}
+use Rattle.paper.proofs.TranslationCorrect.{translation_carries}
+use Rattle.paper.proofs.Promised.{judgement_same, judgement_of_run_lem, loading_same}
 use Rattle.promises.specs.Held.{gave, Held}
 
 module _ (text list buffer exit : List ℕ) (n : ℕ) (t : TranslatePromised text list buffer (gave (T.Written n) exit)) where
-  pub room-there : (blockSize * blocksNeeded n ≤ length buffer) × (length exit ≡ length buffer) × (n ≤ mostTranslated)
-  room-there =
-      let f = translation-carries text list buffer n (sym t.says) in
+  pub room_there : (block_size * blocks_needed n ≤ length buffer) × (length exit ≡ length buffer) × (n ≤ most_translated)
+  room_there =
+      let f = translation_carries text list buffer n (sym t.says) in
       (f.room, rw t.holds f.size, f.few)
 
   pub held : (entry : List ℕ) (loaded : Loading) (ran : Running) (judged : Judgement)
-      → LoadPromised list (blocksWritten n exit) loaded → RunPromised list (blocksWritten n exit) entry ran → JudgePromised text list entry judged
+      → LoadPromised list (blocks_written n exit) loaded → RunPromised list (blocks_written n exit) entry ran → JudgePromised text list entry judged
       → Held text list entry buffer exit n loaded ran judged
   held entry loaded ran judged l r j =
-      let f = translation-carries text list buffer n (sym t.says) in
+      let f = translation_carries text list buffer n (sym t.says) in
       record {
         translate = t;
         load = l;
@@ -36,11 +36,11 @@ module _ (text list buffer exit : List ℕ) (n : ℕ) (t : TranslatePromised tex
         carried =
             record {
               room = f.room;
-              loads = loading-same loaded (L.Loaded n) (l ∙ rw t.holds f.carries.loads);
+              loads = loading_same loaded (L.Loaded n) (l ∙ rw t.holds f.carries.loads);
               later = rw t.holds f.later;
             };
         alike =
-            judgement-same (judgementOfRun ran) judged
-            (judgement-of-run ran ∙ ap verdictOf r ∙ rw t.holds (f.carries.judges entry) ∙ sym j);
+            judgement_same (judgement_of_run ran) judged
+            (judgement_of_run_lem ran ∙ ap verdict_of r ∙ rw t.holds (f.carries.judges entry) ∙ sym j);
         steps = r ∙ rw t.holds (f.carries.runs entry);
       }

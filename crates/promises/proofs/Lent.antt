@@ -6,6 +6,6 @@ use mir.Syntax.{w8}
 use mir.Val.{Fits}
 use Rattle.paper.specs.Promised.{Bytes}
 
-pub lent-bytes : (s : List ℕ) → ((i : ℕ) → Fits w8 (get_or s i 0)) → Bytes s
-lent-bytes [] each = tt
-lent-bytes (b ∷ s) each = ((each 0).fits, lent-bytes s (λ i. each (suc i)))
+pub lent_bytes : (s : List ℕ) → ((i : ℕ) → Fits w8 (get_or s i 0)) → Bytes s
+lent_bytes [] each = tt
+lent_bytes (b ∷ s) each = ((each 0).fits, lent_bytes s (λ i. each (suc i)))

@@ -11,10 +11,10 @@ use Rattle.paper.specs.declared.Fixing.{Fixing}
 use Rattle.paper.specs.declared.Drafting.{Drafting}
 use Rattle.paper.specs.declared.Counting.{Counting}
 use Rattle.paper.specs.declared.RunningAll.{RunningAll}
-use Rattle.paper.specs.Answers.{runningSays}
-use Rattle.paper.specs.TranslationCorrect.{judgedInSteps}
-use Rattle.paper.specs.Promised.{judgementOfRun, JudgePromised, TranslateResult, TranslatePromised, LoadPromised, RunPromised, PrintResult, FixResult, DraftResult, CountResult, RunAllResult}
-use Rattle.paper.specs.Demands.{TranslateAnswered, blocksWritten, Carried}
+use Rattle.paper.specs.Answers.{running_says}
+use Rattle.paper.specs.TranslationCorrect.{judged_in_steps}
+use Rattle.paper.specs.Promised.{judgement_of_run, JudgePromised, TranslateResult, TranslatePromised, LoadPromised, RunPromised, PrintResult, FixResult, DraftResult, CountResult, RunAllResult}
+use Rattle.paper.specs.Demands.{TranslateAnswered, blocks_written, Carried}
 use Rattle.promises.specs.declared.calls.Carrying.{Carrying}
 use Rattle.promises.specs.declared.calls.Carrying.TheVariants as W
 
@@ -27,31 +27,31 @@ abbrev pub lent : Printing → List ℕ → PrintResult
 lent r exit = record { answer = r; buffer = exit }
 
 -- and of `fix_octal`
-abbrev pub fixedTo : Fixing → List ℕ → FixResult
-fixedTo r exit = record { answer = r; buffer = exit }
+abbrev pub fixed_to : Fixing → List ℕ → FixResult
+fixed_to r exit = record { answer = r; buffer = exit }
 
 -- and of `pact`
-abbrev pub draftedTo : Drafting → List ℕ → DraftResult
-draftedTo r exit = record { answer = r; buffer = exit }
+abbrev pub drafted_to : Drafting → List ℕ → DraftResult
+drafted_to r exit = record { answer = r; buffer = exit }
 
 -- an answer of `count`, and what the numbers of the parts are at its exit
-abbrev pub countedTo : Counting → List ℕ → CountResult
-countedTo r exit = record { answer = r; numbers = exit }
+abbrev pub counted_to : Counting → List ℕ → CountResult
+counted_to r exit = record { answer = r; numbers = exit }
 
 -- an answer of `run_all`, and what the answers are at its exit
-abbrev pub ranOver : RunningAll → List ℕ → RunAllResult
-ranOver r exit = record { answer = r; bytes = exit }
+abbrev pub ran_over : RunningAll → List ℕ → RunAllResult
+ran_over r exit = record { answer = r; bytes = exit }
 
 -- each answer keeps its call's promise; the blocks load with the number returned, and say of the entry what the text says, in the steps that
 -- are counted over its tree
 pub record Held (text list entry buffer exit : List ℕ) (n : ℕ) (loaded : Loading) (ran : Running) (judged : Judgement) : Type 0 where
   pub translate : TranslatePromised text list buffer (gave (T.Written n) exit)
-  pub load : LoadPromised list (blocksWritten n exit) loaded
-  pub run : RunPromised list (blocksWritten n exit) entry ran
+  pub load : LoadPromised list (blocks_written n exit) loaded
+  pub run : RunPromised list (blocks_written n exit) entry ran
   pub judge : JudgePromised text list entry judged
   pub carried : Carried buffer exit n loaded
-  pub alike : judgementOfRun ran ≡ judged
-  pub steps : runningSays ran ≡ judgedInSteps text list entry
+  pub alike : judgement_of_run ran ≡ judged
+  pub steps : running_says ran ≡ judged_in_steps text list entry
 
 abbrev pub Carries : List ℕ → List ℕ → List ℕ → List ℕ → List ℕ → Carrying → Type 0
 Carries text list entry buffer exit (W.Refused n at) = TranslateAnswered text list buffer (gave (T.Refused n at) exit)

@@ -1,7 +1,7 @@
 // The real calls, held to the demands. Each function calls `valve`, and its contract states for its own inputs what is demanded of what was
 // answered, in the words of `paper` (specs/Demands). It holds by the contracts of `valve` alone, so one that is weakened fails here.
 ghost use Rattle.paper.specs.Demands.{ReadAnswered, ReadRight, CheckAnswered, CheckedRight, JudgeAnswered, JudgedRight, TranslateAnswered, TranslatedRight, LoadAnswered, RunAnswered, RanRight, PrintAnswered, PrintedRight, FixAnswered, FixesRight, DraftAnswered, DraftsRight, CompareAnswered, CompareRight, CountAnswered, CountRight, ExplainAnswered, ExplainRight, SummarizeAnswered, SummarizeRight, RecheckAnswered, RecheckRight, RunAllAnswered, RunAllRight};
-ghost use Rattle.promises.specs.Held.{gave, lent, fixedTo, draftedTo, countedTo, ranOver, Carries};
+ghost use Rattle.promises.specs.Held.{gave, lent, fixed_to, drafted_to, counted_to, ran_over, Carries};
 
 use blocks::Block;
 use paper::{
@@ -69,16 +69,16 @@ pub fn print(text: &[u8], buffer: &mut [u8]) -> Printing
 
 // Demands 1 and 2 of `fix_octal`.
 pub fn fix_octal(text: &[u8], buffer: &mut [u8]) -> Fixing
-    ensures fix_answered { FixAnswered text.now buffer.old (fixedTo result buffer.new) }
-    ensures fixes_right { FixesRight text.now buffer.old (fixedTo result buffer.new) }
+    ensures fix_answered { FixAnswered text.now buffer.old (fixed_to result buffer.new) }
+    ensures fixes_right { FixesRight text.now buffer.old (fixed_to result buffer.new) }
 {
     valve::fix_octal(text, buffer)
 }
 
 // Demands 1 and 2 of `pact`.
 pub fn pact(contract: &[u8], table: &[u64], names: &[u8], buffer: &mut [u8]) -> Drafting
-    ensures draft_answered { DraftAnswered contract.now table.now names.now buffer.old (draftedTo result buffer.new) }
-    ensures drafts_right { DraftsRight contract.now table.now names.now buffer.old (draftedTo result buffer.new) }
+    ensures draft_answered { DraftAnswered contract.now table.now names.now buffer.old (drafted_to result buffer.new) }
+    ensures drafts_right { DraftsRight contract.now table.now names.now buffer.old (drafted_to result buffer.new) }
 {
     valve::pact(contract, table, names, buffer)
 }
@@ -93,16 +93,16 @@ pub fn compare(text: &[u8], list: &[u8], blocks: &[u8]) -> Agreement
 
 // Demands 1 and 2 of `count`.
 pub fn count(text: &[u8], list: &[u8], entries: &[u8], parts: &mut [u64; MOST_PARTS]) -> Counting
-    ensures count_answered { CountAnswered text.now list.now entries.now parts.old (countedTo result parts.new) }
-    ensures count_right { CountRight text.now list.now entries.now parts.old (countedTo result parts.new) }
+    ensures count_answered { CountAnswered text.now list.now entries.now parts.old (counted_to result parts.new) }
+    ensures count_right { CountRight text.now list.now entries.now parts.old (counted_to result parts.new) }
 {
     valve::count(text, list, entries, parts)
 }
 
 // Demands 1 and 2 of `run_all`.
 pub fn run_all(list: &[u8], blocks: &[u8], entries: &[u8], answers: &mut [u8]) -> RunningAll
-    ensures run_all_answered { RunAllAnswered list.now blocks.now entries.now answers.old (ranOver result answers.new) }
-    ensures run_all_right { RunAllRight list.now blocks.now entries.now answers.old (ranOver result answers.new) }
+    ensures run_all_answered { RunAllAnswered list.now blocks.now entries.now answers.old (ran_over result answers.new) }
+    ensures run_all_right { RunAllRight list.now blocks.now entries.now answers.old (ran_over result answers.new) }
 {
     valve::run_all(list, blocks, entries, answers)
 }

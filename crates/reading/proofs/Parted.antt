@@ -1,4 +1,4 @@
--- From the rows that `find` fills to the parts of the text (`sown`), through the marks, which change no tree (`still-sown`), to parts that can be
+-- From the rows that `find` fills to the parts of the text (`sown`), through the marks, which change no tree (`still_sown`), to parts that can be
 -- judged: where the whole has the right types, so has each part, and its root stands no higher than the whole's (`ready`).
 use Prim.Native.Nat.{ℕ, suc, ◌+◌, ◌*◌, ◌-◌, ◌≤◌, ◌<◌}
 use native.Mathlib.Nat.{zero-add}
@@ -13,17 +13,17 @@ use Rattle.paper.specs.Answers.{ok, refused, input_of, offset_of}
 use Rattle.paper.specs.Types.{typed}
 use Rattle.paper.specs.Calls.{restriction}
 use Rattle.paper.specs.Parts.{Part}
-use Rattle.paper.proofs.PartsTyped.{parts_typed, some-part}
-use Rattle.keys.specs.Says.{keysIn}
-use Rattle.trees.specs.Standing.{treeAt}
-use Rattle.trees.proofs.Marking.{same-tree, marked-below}
-use Rattle.parts.specs.Rows.{stretchAt, rootAt, part_at, partsOn}
+use Rattle.paper.proofs.PartsTyped.{parts_typed, some_part}
+use Rattle.keys.specs.Says.{keys_in}
+use Rattle.trees.specs.Standing.{tree_at}
+use Rattle.trees.proofs.Marking.{same_tree, marked_below}
+use Rattle.parts.specs.Rows.{stretch_at, root_at, part_at, parts_on}
 use Rattle.parts.specs.Found.{ReadAs, Finds}
-use Rattle.parts.proofs.Stored.{each_same, each-length, each_all}
+use Rattle.parts.proofs.Stored.{each_same, each_length, each_all}
 use Rattle.resolving.specs.Resolved.{Resolves}
 use Rattle.reading.specs.declared.grown.Grown.{Grown}
 use Rattle.reading.specs.declared.grown.Grown.TheVariants as R
-use Rattle.reading.specs.Grown.{CountedOn, Planted, Told, Settled, ofTree, ofParts, RowRoom, Sown, Sows}
+use Rattle.reading.specs.Grown.{CountedOn, Planted, Told, Settled, of_tree, of_parts, RowRoom, Sown, Sows}
 use Rattle.reading.specs.Restricted.{Typed, Restricts}
 use Rattle.reading.specs.Parted.{Judgeable, Parted, Readies, PassedParts, RestrictsParts}
 
@@ -37,47 +37,47 @@ module _ (text tape : List ℕ) (count : ℕ) (on : CountedOn text tape count) (
 
 -- what the reader's answer tells of the parts
 
-pub sown-told : (text nodes rows : List ℕ) (r : Grown) → Sows text nodes rows r → {m n : ℕ} → r ≡ R.Tree m n → RowRoom rows
+pub sown_told : (text nodes rows : List ℕ) (r : Grown) → Sows text nodes rows r → {m n : ℕ} → r ≡ R.Tree m n → RowRoom rows
     → Sown text nodes rows m n
-sown-told text nodes rows r told e = subst (Sows text nodes rows) e told
+sown_told text nodes rows r told e = subst (Sows text nodes rows) e told
 
-module _ (text list before nodes rows : List ℕ) (m n : ℕ) (marks : Resolves (keysIn list) text before nodes m) where
-  same-part : (j : ℕ) → part_at text before rows j ≡ part_at text nodes rows j
-  same-part j =
-      let same = same-tree text before nodes marks.keeps.nodes marks.keeps.leaves marks.keeps.places (rootAt rows j) in
-      λ i. record { number = suc j; root = sym same i; stretch = stretchAt rows j }
+module _ (text list before nodes rows : List ℕ) (m n : ℕ) (marks : Resolves (keys_in list) text before nodes m) where
+  same_part : (j : ℕ) → part_at text before rows j ≡ part_at text nodes rows j
+  same_part j =
+      let same = same_tree text before nodes marks.keeps.nodes marks.keeps.leaves marks.keeps.places (root_at rows j) in
+      λ i. record { number = suc j; root = sym same i; stretch = stretch_at rows j }
 
-  pub still-sown : Sown text before rows m n → Sown text nodes rows m n
-  still-sown s =
+  pub still_sown : Sown text before rows m n → Sown text nodes rows m n
+  still_sown s =
       record {
         few = s.few;
         below = s.below;
-        are = s.are ∙ ap ok (each_same (part_at text before rows) (part_at text nodes rows) 0 n (λ j low high. same-part j));
+        are = s.are ∙ ap ok (each_same (part_at text before rows) (part_at text nodes rows) 0 n (λ j low high. same_part j));
       }
 
 module _ (text list nodes rows : List ℕ) (m n : ℕ) (t : Typed text list nodes (m - 1)) (room : m * 8 ≤ length nodes) (s : Sown text nodes rows m n) where
   abbrev Right : Part → Type 0
-  Right p = typed (keysIn list) p.root ≡ ok tt
+  Right p = typed (keys_in list) p.root ≡ ok tt
 
-  each_right : (k : ℕ) → k < n → typed (keysIn list) (treeAt text nodes (rootAt rows k)) ≡ ok tt
+  each_right : (k : ℕ) → k < n → typed (keys_in list) (tree_at text nodes (root_at rows k)) ≡ ok tt
   each_right k h =
-      let all = parts_typed text (treeAt text nodes (m - 1)) (partsOn text nodes rows n) t.read s.are (keysIn list) t.checked in
+      let all = parts_typed text (tree_at text nodes (m - 1)) (parts_on text nodes rows n) t.read s.are (keys_in list) t.checked in
       rw zero-add at (each_all Right (part_at text nodes rows) 0 n all k h)
 
-  judgeable : (k : ℕ) → k < n → Judgeable text list nodes (rootAt rows k)
+  judgeable : (k : ℕ) → k < n → Judgeable text list nodes (root_at rows k)
   judgeable k h =
       let low = s.below k h in
       record {
         has = omega (arith, low, room);
         checked = each_right k h;
-        marked = marked-below (keysIn list) text nodes (omega (arith, low)) t.marked;
+        marked = marked_below (keys_in list) text nodes (omega (arith, low)) t.marked;
       }
 
   pub ready : RowRoom rows → Parted text list nodes rows n
   ready lent =
-      let some = some-part text (treeAt text nodes (m - 1)) (partsOn text nodes rows n) t.read s.are in
+      let some = some_part text (tree_at text nodes (m - 1)) (parts_on text nodes rows n) t.read s.are in
       record {
-        some = omega (arith, some, each-length (part_at text nodes rows) 0 n);
+        some = omega (arith, some, each_length (part_at text nodes rows) 0 n);
         few = s.few;
         are = s.are;
         has = λ k h. omega (arith, lent, h, s.few);
@@ -86,21 +86,21 @@ module _ (text list nodes rows : List ℕ) (m n : ℕ) (t : Typed text list node
 
 -- the answer of the parts, from that of the tree
 
-pub restricts-parts : (text list nodes rows : List ℕ) (r : Grown) → Told (Restricts text list nodes) (ofTree r) → Readies text list nodes rows r
-    → RowRoom rows → Told (RestrictsParts text list nodes rows) (ofParts r)
-restricts-parts text list nodes rows (R.Tree k n) told ready lent = record { root = k; rooted = told; parted = ready lent }
-restricts-parts text list nodes rows (R.Refused n p) told ready lent = told
-restricts-parts text list nodes rows R.Over told ready lent = tt
+pub restricts_parts : (text list nodes rows : List ℕ) (r : Grown) → Told (Restricts text list nodes) (of_tree r) → Readies text list nodes rows r
+    → RowRoom rows → Told (RestrictsParts text list nodes rows) (of_parts r)
+restricts_parts text list nodes rows (R.Tree k n) told ready lent = record { root = k; rooted = told; parted = ready lent }
+restricts_parts text list nodes rows (R.Refused n p) told ready lent = told
+restricts_parts text list nodes rows R.Over told ready lent = tt
 
-pub parts-settled : (r : Grown) → Settled (ofTree r) → Settled (ofParts r)
-parts-settled (R.Tree k n) settled = tt
-parts-settled (R.Refused n p) settled = tt
-parts-settled R.Over settled = settled
+pub parts_settled : (r : Grown) → Settled (of_tree r) → Settled (of_parts r)
+parts_settled (R.Tree k n) settled = tt
+parts_settled (R.Refused n p) settled = tt
+parts_settled R.Over settled = settled
 
 -- what that tells
 module _ (text list nodes rows : List ℕ) (r : Counted) (told : RestrictsParts text list nodes rows r) where
-  pub not-parted : {n : ℕ} {p : Place} → r ≡ Refused n p → restriction text list ≡ refused n (input_of p) (offset_of p)
-  not-parted e = subst (RestrictsParts text list nodes rows) e told
+  pub not_parted : {n : ℕ} {p : Place} → r ≡ Refused n p → restriction text list ≡ refused n (input_of p) (offset_of p)
+  not_parted e = subst (RestrictsParts text list nodes rows) e told
 
   pub passed : {n : ℕ} → r ≡ Count n → PassedParts text list nodes rows n
   passed e = subst (RestrictsParts text list nodes rows) e told

@@ -4,36 +4,36 @@ use native.Mathlib.Omega.{arith}
 use mathlib.Core.Path.{◌≡◌}
 use mathlib.Core.List.{List}
 use lib.ListN.{length}
-use Rattle.paper.specs.Tokens.{mostTokens}
-use Rattle.tokens.specs.Tape.{rowWords}
+use Rattle.paper.specs.Tokens.{most_tokens}
+use Rattle.tokens.specs.Tape.{row_words}
 use Rattle.tokens.specs.declared.Cut.{Cut}
 use Rattle.tokens.specs.declared.Cut.TheVariants as C
 use Rattle.reading.specs.declared.tried.Scratch.{Scratch}
 use Rattle.reading.specs.declared.tried.Scratch.TheVariants as S
 use Rattle.reading.specs.declared.tried.Tried.{Tried}
-use Rattle.reading.specs.Grown.{Room, Brief, briefText, ShortRoom, shortText, RoomFor, Settled, Settles, CutOn, CutFits}
+use Rattle.reading.specs.Grown.{Room, Brief, brief_text, ShortRoom, short_text, RoomFor, Settled, Settles, CutOn, CutFits}
 
 -- a slice of a length has room for a text: `Room`, by the length
 abbrev pub Enough : List ℕ → ℕ → Type 0
-Enough text size = (n : ℕ) → n ≤ mostTokens → n ≤ length text → n * rowWords ≤ size
+Enough text size = (n : ℕ) → n ≤ most_tokens → n ≤ length text → n * row_words ≤ size
 
 -- rows for as many tokens as any text can have
-pub room-for-all : (text : List ℕ) (size : ℕ) → size ≡ mostTokens * rowWords → Enough text size
-room-for-all text size e n few short = omega arith
+pub room_for_all : (text : List ℕ) (size : ℕ) → size ≡ most_tokens * row_words → Enough text size
+room_for_all text size e n few short = omega arith
 
 -- and for as many as a brief text can have
-pub room-for-brief : (text : List ℕ) (size : ℕ) → size ≡ briefText * rowWords → Brief text → Enough text size
-room-for-brief text size e brief n few short = omega arith
+pub room_for_brief : (text : List ℕ) (size : ℕ) → size ≡ brief_text * row_words → Brief text → Enough text size
+room_for_brief text size e brief n few short = omega arith
 
 -- whichever scratch is lent, a brief text has room in it, and where there is room it is answered
 
-pub brief-room : (scratch : Scratch) (text rows : List ℕ) → Brief text → RoomFor scratch text rows → Room text rows
-brief-room S.Short text rows brief room = λ n few short. omega arith
-brief-room S.Long text rows brief room = room
+pub brief_room : (scratch : Scratch) (text rows : List ℕ) → Brief text → RoomFor scratch text rows → Room text rows
+brief_room S.Short text rows brief room = λ n few short. omega arith
+brief_room S.Long text rows brief room = room
 
-pub brief-settles : (scratch : Scratch) (r : Tried) → Settled r → Settles scratch r
-brief-settles S.Short r settled = tt
-brief-settles S.Long r settled = settled
+pub brief_settles : (scratch : Scratch) (r : Tried) → Settled r → Settles scratch r
+brief_settles S.Short r settled = tt
+brief_settles S.Long r settled = settled
 
 module _ (text tape nodes : List ℕ) where
   -- nodes with room for the text have it for its tokens
@@ -43,7 +43,7 @@ module _ (text tape nodes : List ℕ) where
   all_fit C.Over on room = tt
 
   -- and so have as many nodes as the tape has rows
-  pub few-fit : length tape ≡ shortText * rowWords → (r : Cut) → CutOn text tape r → ShortRoom nodes → CutFits nodes r
-  few-fit size (C.Counted n) on room = omega (arith, on.placed.has)
-  few-fit size (C.Refused k p) on room = tt
-  few-fit size C.Over on room = tt
+  pub few_fit : length tape ≡ short_text * row_words → (r : Cut) → CutOn text tape r → ShortRoom nodes → CutFits nodes r
+  few_fit size (C.Counted n) on room = omega (arith, on.placed.has)
+  few_fit size (C.Refused k p) on room = tt
+  few_fit size C.Over on room = tt

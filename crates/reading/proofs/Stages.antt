@@ -10,18 +10,18 @@ use Rattle.paper.specs.declared.Counted.{Counted}
 use Rattle.paper.specs.declared.Counted.TheVariants.{Count, Refused}
 use Rattle.paper.specs.declared.Checking.{Checking}
 use Rattle.paper.specs.declared.Checking.TheVariants as C
-use Rattle.paper.specs.Answers.{Answer, ok, refused, ◌>>=◌, Input, inText, input_of, offset_of, countedSays, checkingSays}
-use Rattle.paper.specs.Tokens.{mostText}
+use Rattle.paper.specs.Answers.{Answer, ok, refused, ◌>>=◌, Input, InText, input_of, offset_of, counted_says, checking_says}
+use Rattle.paper.specs.Tokens.{most_text}
 use Rattle.paper.specs.Keys.{keys}
 use Rattle.paper.specs.Grammar as G
-use Rattle.paper.specs.Types.{type_of, rootType, typed}
+use Rattle.paper.specs.Types.{type_of, root_type, typed}
 use Rattle.paper.specs.Calls.{tree, restriction}
 use Rattle.paper.proofs.Stages.{bind_ok}
-use Rattle.keys.specs.Says.{keysIn, keyCount}
+use Rattle.keys.specs.Says.{keys_in, key_count}
 use Rattle.keys.proofs.Checked as K
-use Rattle.trees.specs.Standing.{treeAt}
+use Rattle.trees.specs.Standing.{tree_at}
 use Rattle.trees.specs.Marks.{Marked}
-use Rattle.trees.proofs.Marking.{same-tree}
+use Rattle.trees.proofs.Marking.{same_tree}
 use Rattle.resolving.specs.Resolved.{Resolves}
 use Rattle.typing.specs.Known.{Known}
 use Rattle.reading.specs.declared.grown.Grown.{Grown}
@@ -30,14 +30,14 @@ use Rattle.reading.specs.declared.tried.Scratch.{Scratch}
 use Rattle.reading.specs.declared.tried.Scratch.TheVariants as S
 use Rattle.reading.specs.declared.tried.Tried.{Tried}
 use Rattle.reading.specs.declared.tried.Tried.TheVariants as T
-use Rattle.reading.specs.Grown.{Planted, Grows, Told, Settled, Settles, answer_of, ofTree}
+use Rattle.reading.specs.Grown.{Planted, Grows, Told, Settled, Settles, answer_of, of_tree}
 use Rattle.reading.specs.Restricted.{Typed, Rooted, Types, Restricts}
 
 -- a refusal of two stages is that of the stages after them too
-refused-early : {A B : Type 0} (x : Answer A) (f : A → Answer (Unit {0})) (g : A → Answer B) {n : ℕ} {i : Input} {at : ℕ}
+refused_early : {A B : Type 0} (x : Answer A) (f : A → Answer (Unit {0})) (g : A → Answer B) {n : ℕ} {i : Input} {at : ℕ}
     → (x >>= f) ≡ refused n i at → (x >>= λ a. f a >>= λ _. g a) ≡ refused n i at
-refused-early (ok a) f g e = ap (λ (y : Answer (Unit {0})). y >>= λ _. g a) e
-refused-early (refused m j to) f g e = cc
+refused_early (ok a) f g e = ap (λ (y : Answer (Unit {0})). y >>= λ _. g a) e
+refused_early (refused m j to) f g e = cc
 
 -- where there is room no text is over: neither where there is an answer
 pub settles : (s : Scratch) (r : Counted) → Settles s (T.Answered r)
@@ -45,37 +45,37 @@ settles S.Short r = tt
 settles S.Long r = tt
 
 -- nor where the reader says so
-pub still-over : (s : Scratch) (r : Grown) → r ≡ R.Over → Settles s (ofTree r) → Settles s T.Over
-still-over s r e h = subst (λ (x : Grown). Settles s (ofTree x)) e h
+pub still_over : (s : Scratch) (r : Grown) → r ≡ R.Over → Settles s (of_tree r) → Settles s T.Over
+still_over s r e h = subst (λ (x : Grown). Settles s (of_tree x)) e h
 
 -- 5 to 10; 11 to 14
 
-module _ (text nodes : List ℕ) (r : Grown) (grows : Told (Grows text nodes) (ofTree r)) where
+module _ (text nodes : List ℕ) (r : Grown) (grows : Told (Grows text nodes) (of_tree r)) where
   pub grown : {m n : ℕ} → r ≡ R.Tree m n → Planted text nodes m
-  grown e = subst (λ (x : Grown). Told (Grows text nodes) (ofTree x)) e grows
+  grown e = subst (λ (x : Grown). Told (Grows text nodes) (of_tree x)) e grows
 
   -- a refusal of the tree is one of its types
-  pub not-grown : (list : List ℕ) {n : ℕ} {p : Place} → r ≡ R.Refused n p → (tree text >>= typed (keysIn list)) ≡ refused n (input_of p) (offset_of p)
-  not-grown list e =
-      ap (λ (x : Answer G.Tree). x >>= typed (keysIn list)) (subst (λ (x : Grown). Told (Grows text nodes) (ofTree x)) e grows)
+  pub not_grown : (list : List ℕ) {n : ℕ} {p : Place} → r ≡ R.Refused n p → (tree text >>= typed (keys_in list)) ≡ refused n (input_of p) (offset_of p)
+  not_grown list e =
+      ap (λ (x : Answer G.Tree). x >>= typed (keys_in list)) (subst (λ (x : Grown). Told (Grows text nodes) (of_tree x)) e grows)
 
 -- marks change no tree
-pub still-planted : (text list before nodes : List ℕ) (m : ℕ) → Resolves (keysIn list) text before nodes m → Planted text before m → Planted text nodes m
-still-planted text list before nodes m marks p =
-    let same = same-tree text before nodes marks.keeps.nodes marks.keeps.leaves marks.keeps.places (m - 1) in
+pub still_planted : (text list before nodes : List ℕ) (m : ℕ) → Resolves (keys_in list) text before nodes m → Planted text before m → Planted text nodes m
+still_planted text list before nodes m marks p =
+    let same = same_tree text before nodes marks.keeps.nodes marks.keeps.leaves marks.keeps.places (m - 1) in
     record { read = rw same p.read; count = rw same p.count; some = p.some; few = p.few; short = p.short; has = omega (arith, marks.keeps.size, p.has) }
 
 module _ (text list nodes : List ℕ) (m : ℕ) (p : Planted text nodes m) (c : Checking)
-    (says : checkingSays c ≡ typed (keysIn list) (treeAt text nodes (m - 1)))
+    (says : checking_says c ≡ typed (keys_in list) (tree_at text nodes (m - 1)))
   where
-    pub not-typed : {n : ℕ} {q : Place} → c ≡ C.Refused n q → (tree text >>= typed (keysIn list)) ≡ refused n (input_of q) (offset_of q)
-    not-typed f = ap (λ (x : Answer G.Tree). x >>= typed (keysIn list)) p.read ∙ sym says ∙ ap checkingSays f
+    pub not_typed : {n : ℕ} {q : Place} → c ≡ C.Refused n q → (tree text >>= typed (keys_in list)) ≡ refused n (input_of q) (offset_of q)
+    not_typed f = ap (λ (x : Answer G.Tree). x >>= typed (keys_in list)) p.read ∙ sym says ∙ ap checking_says f
 
-    pub right-types : Marked (keysIn list) text nodes (m - 1 + 1) → c ≡ C.Passed → Typed text list nodes (m - 1)
-    right-types marked f =
+    pub right_types : Marked (keys_in list) text nodes (m - 1 + 1) → c ≡ C.Passed → Typed text list nodes (m - 1)
+    right_types marked f =
         record {
           read = p.read;
-          checked = sym says ∙ ap checkingSays f;
+          checked = sym says ∙ ap checking_says f;
           count = omega (arith, p.count, p.some);
           few = omega (arith, p.few, p.some);
           short = omega (arith, p.short, p.some);
@@ -86,23 +86,23 @@ module _ (text list nodes : List ℕ) (m : ℕ) (p : Planted text nodes m) (c : 
 -- 1; 2; 3 and 4; then these
 
 module _ (text list : List ℕ) where
-  pub too_long : mostText < length text → restriction text list ≡ refused 1 inText mostText
+  pub too_long : most_text < length text → restriction text list ≡ refused 1 InText most_text
   unfolding restriction
-  too_long h = rw (lt-leb (length text) mostText h)
+  too_long h = rw (lt-leb (length text) most_text h)
 
-  module _ (h : length text ≤ mostText) where
+  module _ (h : length text ≤ most_text) where
     short : restriction text list ≡ (keys list >>= λ ks. tree text >>= λ t. typed ks t >>= λ _. ok (record { keys = ks; root = t }))
     unfolding restriction
-    short = rw (le-leb (length text) mostText h)
+    short = rw (le-leb (length text) most_text h)
 
-    module _ (l : Counted) (says : countedSays l ≡ keyCount list) where
+    module _ (l : Counted) (says : counted_says l ≡ key_count list) where
       -- a refusal of the list is one of the whole
       pub not_listed : {n : ℕ} {p : Place} → l ≡ Refused n p → restriction text list ≡ refused n (input_of p) (offset_of p)
-      not_listed e = short ∙ rw (K.not_listed list (sym says ∙ ap countedSays e))
+      not_listed e = short ∙ rw (K.not_listed list (sym says ∙ ap counted_says e))
 
       module _ {n : ℕ} (e : l ≡ Count n) where
-        pub good : keys list ≡ ok (keysIn list)
-        good = (K.listed list (sym says ∙ ap countedSays e)).0
+        pub good : keys list ≡ ok (keys_in list)
+        good = (K.listed list (sym says ∙ ap counted_says e)).0
 
         pub restricts : (nodes : List ℕ) (r : Tried) → Told (Types text list nodes) r
             → Told (Restricts text list nodes) r
@@ -113,7 +113,7 @@ module _ (text list : List ℕ) where
               listed = good;
               typed = t;
             }
-        restricts nodes (T.Answered (Refused m p)) t = short ∙ rw good (refused-early (tree text) (typed (keysIn list)) _ t)
+        restricts nodes (T.Answered (Refused m p)) t = short ∙ rw good (refused_early (tree text) (typed (keys_in list)) _ t)
 
 -- what is told of an answer that is there
 pub told : (Says : Counted → Type 0) (r : Tried) → Settled r → Told Says r → Says (answer_of r)
@@ -126,15 +126,15 @@ pub planted : (text nodes : List ℕ) (r : Counted) → Grows text nodes r → {
 planted text nodes r told e = subst (Grows text nodes) e told
 
 module _ (text list nodes : List ℕ) (r : Counted) (told : Restricts text list nodes r) where
-  pub not-restricted : {n : ℕ} {p : Place} → r ≡ Refused n p → restriction text list ≡ refused n (input_of p) (offset_of p)
-  not-restricted e = subst (Restricts text list nodes) e told
+  pub not_restricted : {n : ℕ} {p : Place} → r ≡ Refused n p → restriction text list ≡ refused n (input_of p) (offset_of p)
+  not_restricted e = subst (Restricts text list nodes) e told
 
   pub rooted : {k : ℕ} → r ≡ Count k → Rooted text list nodes k
   rooted e = subst (Restricts text list nodes) e told
 
 -- the tree of a text that passed has a type, and the marks of its names
-pub root-known : (text list nodes : List ℕ) (k : ℕ) → Rooted text list nodes k → Known list nodes k text
+pub root_known : (text list nodes : List ℕ) (k : ℕ) → Rooted text list nodes k → Known list nodes k text
 unfolding typed
-root-known text list nodes k r =
-    let a = bind_ok (type_of (keysIn list) (treeAt text nodes k)) (rootType (treeAt text nodes k)) tt r.typed.checked in
+root_known text list nodes k r =
+    let a = bind_ok (type_of (keys_in list) (tree_at text nodes k)) (root_type (tree_at text nodes k)) tt r.typed.checked in
     record { marked = r.typed.marked; type = a.0; typed = a.1 }

@@ -5,11 +5,11 @@ use Rattle.paper.specs.declared.Counted.TheVariants.{Count, Refused}
 use Rattle.paper.specs.Answers.{ok, refused, input_of, offset_of}
 use Rattle.paper.specs.Types.{typed}
 use Rattle.paper.specs.Calls.{restriction}
-use Rattle.paper.specs.Parts.{parts, mostParts}
-use Rattle.keys.specs.Says.{keysIn}
-use Rattle.trees.specs.Standing.{treeAt}
+use Rattle.paper.specs.Parts.{parts, most_parts}
+use Rattle.keys.specs.Says.{keys_in}
+use Rattle.trees.specs.Standing.{tree_at}
 use Rattle.trees.specs.Marks.{Marked}
-use Rattle.parts.specs.Rows.{Has, rootAt, partsOn}
+use Rattle.parts.specs.Rows.{Has, root_at, parts_on}
 use Rattle.reading.specs.declared.grown.Grown.{Grown}
 use Rattle.reading.specs.declared.grown.Grown.TheVariants as R
 use Rattle.reading.specs.Grown.{RowRoom}
@@ -18,16 +18,16 @@ use Rattle.reading.specs.Restricted.{Rooted}
 -- the tree at a node can be judged: it has the right types by the list's keys, and the marks of its names
 pub record Judgeable (text list nodes : List ℕ) (i : ℕ) : Type 0 where
   pub has : i * 8 + 8 ≤ length nodes
-  pub checked : typed (keysIn list) (treeAt text nodes i) ≡ ok tt
-  pub marked : Marked (keysIn list) text nodes (i + 1)
+  pub checked : typed (keys_in list) (tree_at text nodes i) ≡ ok tt
+  pub marked : Marked (keys_in list) text nodes (i + 1)
 
 -- n rows have the parts of a text, and each of these can be judged
 pub record Parted (text list nodes rows : List ℕ) (n : ℕ) : Type 0 where
   pub some : 1 ≤ n
-  pub few : n ≤ mostParts
-  pub are : parts text ≡ ok (partsOn text nodes rows n)
+  pub few : n ≤ most_parts
+  pub are : parts text ≡ ok (parts_on text nodes rows n)
   pub has : (k : ℕ) → k < n → Has rows k
-  pub each : (k : ℕ) → k < n → Judgeable text list nodes (rootAt rows k)
+  pub each : (k : ℕ) → k < n → Judgeable text list nodes (root_at rows k)
 
 -- where rows were lent for them
 abbrev pub Readies : List ℕ → List ℕ → List ℕ → List ℕ → Grown → Type 0

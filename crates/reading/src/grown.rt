@@ -1,6 +1,6 @@
 // What the reader's stages hand on.
 ghost use Rattle.std.specs.Prelude.{◌≡◌};
-ghost use Rattle.reading.specs.Grown.{ofTree, ofParts};
+ghost use Rattle.reading.specs.Grown.{of_tree, of_parts};
 
 use crate::tried::Tried;
 use paper::{Counted, Place};
@@ -17,7 +17,7 @@ pub(crate) enum Grown {
 impl Grown {
     // What is answered of the tree.
     pub(crate) fn of_tree(self) -> Tried
-        ensures { result ≡ ofTree self }
+        ensures { result ≡ of_tree self }
     {
         match self {
             Grown::Refused(number, place) => Tried::Answered(Counted::Refused(number, place)),
@@ -28,7 +28,7 @@ impl Grown {
 
     // What is answered of the parts.
     pub(crate) fn of_parts(self) -> Tried
-        ensures { result ≡ ofParts self }
+        ensures { result ≡ of_parts self }
     {
         match self {
             Grown::Refused(number, place) => Tried::Answered(Counted::Refused(number, place)),

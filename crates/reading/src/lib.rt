@@ -1,7 +1,7 @@
 // A text made into a typed tree: the stages that the calls on texts have in common.
 //
 // `read_tree` cuts a text of at most 4,096 bytes into tokens and these into a tree, or gives the first refusal from 5 to 10 that document 01
-// gives the text. The tokens stand on a tape of its own. The tree stands in `nodes`; the definition `treeAt` (crate trees) says which it is,
+// gives the text. The tokens stand on a tape of its own. The tree stands in `nodes`; the definition `tree_at` (crate trees) says which it is,
 // and it is the one that the definition `tree` reads.
 //
 // `restrict` takes a key list too. It gives the first refusal that document 01 gives the two (1; 2; 3 and 4; 5 to 10; 11 to 14), or
@@ -11,9 +11,9 @@
 // `restrict_parts` gives the same refusals, or how many parts the text has. They are found while the tokens still stand on the tape, and
 // stored in rows (crate parts); the trees at their roots can be judged one by one. A reader that is lent no rows looks for no parts.
 ghost use Rattle.std.specs.Prelude.{◌*◌, ◌≤◌, length};
-ghost use Rattle.paper.specs.Tokens.{mostText};
+ghost use Rattle.paper.specs.Tokens.{most_text};
 ghost use Rattle.parts.specs.Found.{Taped, Noded, Finds};
-ghost use Rattle.reading.specs.Grown.{Room, Brief, ShortRoom, RoomFor, CutOn, CutFits, CountedOn, Told, Settled, Settles, ofTree, Grows, RowRoom, Sows};
+ghost use Rattle.reading.specs.Grown.{Room, Brief, ShortRoom, RoomFor, CutOn, CutFits, CountedOn, Told, Settled, Settles, of_tree, Grows, RowRoom, Sows};
 ghost use Rattle.reading.specs.Restricted.{Types, Restricts};
 ghost use Rattle.reading.specs.Parted.{Readies, RestrictsParts};
 ghost use Rattle.reading.specs.Tried.{TriesTree, Tries, TriesParts};
@@ -74,7 +74,7 @@ fn find_parts(tape: &[u32], count: usize, nodes: &[u32], root: usize, rows: &mut
 fn plant(text: &[u8], tape: &[u32], count: usize, nodes: &mut [u32], rows: &mut [u32]) -> Grown
     requires counted_on { CountedOn text.now tape.now count }
     requires count_in_bounds { count * 8 ≤ length nodes.old }
-    ensures settled { Settled (ofTree result) × Told (Grows text.now nodes.new) (ofTree result) }
+    ensures settled { Settled (of_tree result) × Told (Grows text.now nodes.new) (of_tree result) }
     ensures sows { Sows text.now nodes.new rows.new result }
 {
     let parsed = grammar::parse(text, tape, count, nodes);
@@ -91,7 +91,7 @@ fn plant(text: &[u8], tape: &[u32], count: usize, nodes: &mut [u32], rows: &mut 
 fn grow(text: &[u8], tape: &[u32], tokenized: Cut, nodes: &mut [u32], rows: &mut [u32]) -> Grown
     requires cut_on { CutOn text.now tape.now tokenized }
     requires cut_fits { CutFits nodes.old tokenized }
-    ensures settled { (Room text.now tape.now → Settled (ofTree result)) × Told (Grows text.now nodes.new) (ofTree result) }
+    ensures settled { (Room text.now tape.now → Settled (of_tree result)) × Told (Grows text.now nodes.new) (of_tree result) }
     ensures sows { Sows text.now nodes.new rows.new result }
 {
     match tokenized {
@@ -107,7 +107,7 @@ fn grow(text: &[u8], tape: &[u32], tokenized: Cut, nodes: &mut [u32], rows: &mut
 fn read_brief(text: &[u8], nodes: &mut [u32], rows: &mut [u32]) -> Grown
     requires brief { Brief text.now }
     requires room { Room text.now nodes.old }
-    ensures settled { Settled (ofTree result) × Told (Grows text.now nodes.new) (ofTree result) }
+    ensures settled { Settled (of_tree result) × Told (Grows text.now nodes.new) (of_tree result) }
     ensures sows { Sows text.now nodes.new rows.new result }
 {
     let mut tape = [0u32; Row::WORDS * BRIEF_TEXT];
@@ -116,9 +116,9 @@ fn read_brief(text: &[u8], nodes: &mut [u32], rows: &mut [u32]) -> Grown
 }
 
 fn read_short(text: &[u8], nodes: &mut [u32], rows: &mut [u32]) -> Grown
-    requires text_len_bound { length text.now ≤ mostText }
+    requires text_len_bound { length text.now ≤ most_text }
     requires short_room { ShortRoom nodes.old }
-    ensures told { Told (Grows text.now nodes.new) (ofTree result) }
+    ensures told { Told (Grows text.now nodes.new) (of_tree result) }
     ensures sows { Sows text.now nodes.new rows.new result }
 {
     let mut tape = [0u32; Row::WORDS * SHORT_TEXT];
@@ -127,9 +127,9 @@ fn read_short(text: &[u8], nodes: &mut [u32], rows: &mut [u32]) -> Grown
 }
 
 fn read_long(text: &[u8], nodes: &mut [u32], rows: &mut [u32]) -> Grown
-    requires text_len_bound { length text.now ≤ mostText }
+    requires text_len_bound { length text.now ≤ most_text }
     requires room { Room text.now nodes.old }
-    ensures settled { Settled (ofTree result) × Told (Grows text.now nodes.new) (ofTree result) }
+    ensures settled { Settled (of_tree result) × Told (Grows text.now nodes.new) (of_tree result) }
     ensures sows { Sows text.now nodes.new rows.new result }
 {
     let mut tape = [0u32; Row::WORDS * MOST_TOKENS];
@@ -138,9 +138,9 @@ fn read_long(text: &[u8], nodes: &mut [u32], rows: &mut [u32]) -> Grown
 }
 
 fn read_parts(text: &[u8], scratch: Scratch, nodes: &mut [u32], rows: &mut [u32]) -> Grown
-    requires text_len_bound { length text.now ≤ mostText }
+    requires text_len_bound { length text.now ≤ most_text }
     requires room_for { RoomFor scratch text.now nodes.old }
-    ensures settles { Settles scratch (ofTree result) × Told (Grows text.now nodes.new) (ofTree result) }
+    ensures settles { Settles scratch (of_tree result) × Told (Grows text.now nodes.new) (of_tree result) }
     ensures sows { Sows text.now nodes.new rows.new result }
 {
     if text.len() <= BRIEF_TEXT {
@@ -160,10 +160,10 @@ fn typed_root(
     nodes: &mut [u32],
     rows: &mut [u32],
 ) -> Grown
-    requires text_len_bound { length text.now ≤ mostText }
+    requires text_len_bound { length text.now ≤ most_text }
     requires list_len_bound { length list.now ≤ 2560 }
     requires room_for { RoomFor scratch text.now nodes.old }
-    ensures settles { Settles scratch (ofTree result) × Told (Types text.now list.now nodes.new) (ofTree result) }
+    ensures settles { Settles scratch (of_tree result) × Told (Types text.now list.now nodes.new) (of_tree result) }
     ensures readies { Readies text.now list.now nodes.new rows.new result }
 {
     let grown = read_parts(text, scratch, nodes, rows);
@@ -191,7 +191,7 @@ fn restrict_both(
     rows: &mut [u32],
 ) -> Grown
     requires { RoomFor scratch text.now nodes.old }
-    ensures settles { Settles scratch (ofTree result) × Told (Restricts text.now list.now nodes.new) (ofTree result) }
+    ensures settles { Settles scratch (of_tree result) × Told (Restricts text.now list.now nodes.new) (of_tree result) }
     ensures readies { Readies text.now list.now nodes.new rows.new result }
 {
     if MOST_TEXT < text.len() {
@@ -206,7 +206,7 @@ fn restrict_both(
 
 // The number of nodes, of which the last is the root; or a refusal.
 pub fn read_tree(text: &[u8], nodes: &mut [u32]) -> Counted
-    requires text_len_bound { length text.now ≤ mostText }
+    requires text_len_bound { length text.now ≤ most_text }
     requires room { Room text.now nodes.old }
     ensures { Grows text.now nodes.new result }
 {
@@ -240,7 +240,7 @@ pub fn restrict_parts(text: &[u8], list: &[u8], nodes: &mut [u32], rows: &mut [u
 
 // As `read_tree`, or over.
 pub fn try_tree(text: &[u8], nodes: &mut [u32]) -> Tried
-    requires text_len_bound { length text.now ≤ mostText }
+    requires text_len_bound { length text.now ≤ most_text }
     requires short_room { ShortRoom nodes.old }
     ensures { TriesTree text.now nodes.new result }
 {

@@ -1,9 +1,9 @@
 // How far the count of a file has come.
 ghost use Rattle.std.specs.Prelude.{◌≡◌, List, ◌++◌, ℕ, ◌+◌, ◌≤◌};
-ghost use Rattle.paper.specs.Counting.{wholeIn, cut_in, mostEntries};
-ghost use Rattle.keys.specs.Says.{keysIn};
+ghost use Rattle.paper.specs.Counting.{whole_in, cut_in, most_entries};
+ghost use Rattle.keys.specs.Says.{keys_in};
 ghost use Rattle.reading.specs.Parted.{PassedParts};
-ghost use Rattle.report.specs.Reached.{ruleOf, Reaches, Begun};
+ghost use Rattle.report.specs.Reached.{rule_of, Reaches, Begun};
 
 use counting::Totals;
 
@@ -39,12 +39,12 @@ pub(crate) fn add_held(
     before: Course,
 ) -> Course
     requires begun { Begun list.now nodes.now rows.now n before counts.old }
-    requires held_bound { before.whole + wholeIn (keysIn list.now) held.now ≤ mostEntries }
-    ensures whole_value { (result.whole ≡ before.whole + wholeIn (keysIn list.now) held.now) × (result.cut ≡ cut_in (keysIn list.now) held.now) }
+    requires held_bound { before.whole + whole_in (keys_in list.now) held.now ≤ most_entries }
+    ensures whole_value { (result.whole ≡ before.whole + whole_in (keys_in list.now) held.now) × (result.cut ≡ cut_in (keys_in list.now) held.now) }
     ensures by_index { (text : List ℕ) (p : PassedParts text list.now nodes.now rows.now n) (base s : List ℕ)
-        → cut_in (keysIn list.now) s ≡ 0
-        → Reaches (ruleOf text list.now nodes.now rows.now n p) base s before counts.old
-        → Reaches (ruleOf text list.now nodes.now rows.now n p) base (s ++ held.now) result counts.new }
+        → cut_in (keys_in list.now) s ≡ 0
+        → Reaches (rule_of text list.now nodes.now rows.now n p) base s before counts.old
+        → Reaches (rule_of text list.now nodes.now rows.now n p) base (s ++ held.now) result counts.new }
 {
     let size = keys::entry_size(list);
     let totals = counting::tally(list, nodes, rows, n, held, counts);

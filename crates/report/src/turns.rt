@@ -1,7 +1,7 @@
 // A file, counted as much at a time as a part of a buffer holds.
 ghost use Rattle.std.specs.Prelude.{◌≡◌, List, ℕ, ◌≤◌, length};
 ghost use Rattle.paper.specs.Counting.{cut_in};
-ghost use Rattle.keys.specs.Says.{keysIn};
+ghost use Rattle.keys.specs.Says.{keys_in};
 ghost use Rattle.reading.specs.Parted.{PassedParts};
 ghost use Rattle.report.specs.Reports.{Reports};
 
@@ -26,7 +26,7 @@ pub(crate) fn count_turns(
     counts: &mut [u64],
 ) -> Counting
     requires by_index { (text : List ℕ) × PassedParts text list.now nodes.now rows.now n }
-    requires part_value { cut_in (keysIn list.now) part.old ≡ 0 }
+    requires part_value { cut_in (keys_in list.now) part.old ≡ 0 }
     requires n_in_bounds { n ≤ length counts.old }
     ensures { (file : List ℕ) × ((text : List ℕ) → PassedParts text list.now nodes.now rows.now n
         → Reports text list.now file result counts.old counts.new) }

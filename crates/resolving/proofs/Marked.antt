@@ -6,73 +6,73 @@ use mathlib.Core.Path.{◌≡◌, refl, sym, ◌∙◌, ap}
 use mathlib.Core.Bool.{Bool}
 use mathlib.Core.List.{List}
 use lib.ListN.{length}
-use Rattle.paper.specs.Tokens.{bytes, sameBytes}
+use Rattle.paper.specs.Tokens.{bytes, same_bytes}
 use Rattle.paper.specs.Keys.{Key, find}
-use Rattle.paper.specs.Types.{fieldNamed}
+use Rattle.paper.specs.Types.{field_named}
 use Rattle.paper.specs.Code.{bit}
 use Rattle.number.specs.declared.base.Base.{Base}
 use Rattle.trees.specs.declared.node.Span.{Span}
 use Rattle.trees.specs.declared.node.Leaf.TheVariants as L
 use Rattle.trees.specs.declared.node.Leaf.TheVariants.{Truth, Number}
 use Rattle.trees.specs.declared.marks.Operand.TheVariants.{Attribute}
-use Rattle.trees.specs.Nodes.{leafAt}
+use Rattle.trees.specs.Nodes.{leaf_at}
 use Rattle.trees.specs.Standing.{spelling}
-use Rattle.trees.specs.Marks.{operandOf, operand_at, operandOn, marking, keyMark, fieldMark, Names}
-use Rattle.trees.proofs.Marking.{key_back, field_back, priority-back, kept, same_place, same-leaf, same-node, marked, unmarked}
+use Rattle.trees.specs.Marks.{operand_of, operand_at, operand_on, marking, key_mark, field_mark, Names}
+use Rattle.trees.proofs.Marking.{key_back, field_back, priority_back, kept, same_place, same_leaf, same_node, marked, unmarked}
 use Rattle.resolving.specs.Resolved.{Keeps, ResolvesAt, Resolves}
 
 module _ (ks : List Key) (text nodes : List ℕ) (i : ℕ) where
-  keeps-all : Keeps nodes nodes
-  keeps-all = record { size = refl; nodes = λ j. refl; leaves = λ j. refl; places = λ j. refl }
+  keeps_all : Keeps nodes nodes
+  keeps_all = record { size = refl; nodes = λ j. refl; leaves = λ j. refl; places = λ j. refl }
 
   -- a leaf without a name needs no mark
 
-  without-name : operand_at nodes i ≡ operandOn ks text (leafAt nodes i) → ResolvesAt ks text nodes nodes i
-  without-name e = record { keeps = keeps-all; here = e; elsewhere = λ j d. refl }
+  without_name : operand_at nodes i ≡ operand_on ks text (leaf_at nodes i) → ResolvesAt ks text nodes nodes i
+  without_name e = record { keeps = keeps_all; here = e; elsewhere = λ j d. refl }
 
-  pub truth-resolved : (b : Bool) → leafAt nodes i ≡ Truth b → ResolvesAt ks text nodes nodes i
+  pub truth_resolved : (b : Bool) → leaf_at nodes i ≡ Truth b → ResolvesAt ks text nodes nodes i
   unfolding operand_at
-  truth-resolved b l = without-name (rw l)
+  truth_resolved b l = without_name (rw l)
 
-  pub number-resolved : (base : Base) (x y z w : ℕ) → leafAt nodes i ≡ Number base x y z w → ResolvesAt ks text nodes nodes i
+  pub number_resolved : (base : Base) (x y z w : ℕ) → leaf_at nodes i ≡ Number base x y z w → ResolvesAt ks text nodes nodes i
   unfolding operand_at
-  number-resolved base x y z w l = without-name (rw l)
+  number_resolved base x y z w l = without_name (rw l)
 
   -- one with a name has the marks that are written
 
-  with-name : (key name : ℕ) → Names (leafAt nodes i) → i * 8 + 8 ≤ length nodes → operandOf (leafAt nodes i) key name ≡ operandOn ks text (leafAt nodes i)
+  with_name : (key name : ℕ) → Names (leaf_at nodes i) → i * 8 + 8 ≤ length nodes → operand_of (leaf_at nodes i) key name ≡ operand_on ks text (leaf_at nodes i)
       → ResolvesAt ks text nodes (marking nodes i key name) i
-  with-name key name named room e =
+  with_name key name named room e =
       record {
         keeps =
             record {
               size = kept nodes i key name;
-              nodes = same-node nodes i key name named;
-              leaves = same-leaf nodes i key name named;
+              nodes = same_node nodes i key name named;
+              leaves = same_leaf nodes i key name named;
               places = same_place nodes i key name;
             };
-        here = marked nodes i key name named room ∙ e ∙ ap (operandOn ks text) (sym (same-leaf nodes i key name named i));
+        here = marked nodes i key name named room ∙ e ∙ ap (operand_on ks text) (sym (same_leaf nodes i key name named i));
         elsewhere = unmarked nodes i key name;
       }
 
   module _ (room : i * 8 + 8 ≤ length nodes) where
-    pub key-resolved : (w : Span) (key : ℕ) → leafAt nodes i ≡ L.Key w → key ≡ keyMark (find ks (spelling text w))
+    pub key_resolved : (w : Span) (key : ℕ) → leaf_at nodes i ≡ L.Key w → key ≡ key_mark (find ks (spelling text w))
         → ResolvesAt ks text nodes (marking nodes i key 0) i
-    key-resolved w key l e = with-name key 0 (rw l tt) room (rw (l, e) (key_back (find ks (spelling text w))))
+    key_resolved w key l e = with_name key 0 (rw l tt) room (rw (l, e) (key_back (find ks (spelling text w))))
 
-    pub field-resolved : (w f : Span) (key name : ℕ) → leafAt nodes i ≡ L.Field w f → key ≡ keyMark (find ks (spelling text w))
-        → name ≡ fieldMark (fieldNamed (spelling text f)) → ResolvesAt ks text nodes (marking nodes i key name) i
-    field-resolved w f key name l e g =
-        with-name key name (rw l tt) room (rw (l, e, g) (field_back (find ks (spelling text w)) (fieldNamed (spelling text f))))
+    pub field_resolved : (w f : Span) (key name : ℕ) → leaf_at nodes i ≡ L.Field w f → key ≡ key_mark (find ks (spelling text w))
+        → name ≡ field_mark (field_named (spelling text f)) → ResolvesAt ks text nodes (marking nodes i key name) i
+    field_resolved w f key name l e g =
+        with_name key name (rw l tt) room (rw (l, e, g) (field_back (find ks (spelling text w)) (field_named (spelling text f))))
 
-    pub attribute-resolved : (f : Span) (name : ℕ) → leafAt nodes i ≡ L.Attribute f → name ≡ bit (sameBytes (spelling text f) (bytes "priority"))
+    pub attribute_resolved : (f : Span) (name : ℕ) → leaf_at nodes i ≡ L.Attribute f → name ≡ bit (same_bytes (spelling text f) (bytes "priority"))
         → ResolvesAt ks text nodes (marking nodes i 0 name) i
-    attribute-resolved f name l e =
-        with-name 0 name (rw l tt) room (rw (l, e) (ap Attribute (priority-back (sameBytes (spelling text f) (bytes "priority")))))
+    attribute_resolved f name l e =
+        with_name 0 name (rw l tt) room (rw (l, e) (ap Attribute (priority_back (same_bytes (spelling text f) (bytes "priority")))))
 
 module _ (ks : List Key) (text before : List ℕ) where
-  pub none-resolved : Resolves ks text before before 0
-  none-resolved = record { keeps = keeps-all ks text before 0; marked = λ i h. absurd (omega arith) }
+  pub none_resolved : Resolves ks text before before 0
+  none_resolved = record { keeps = keeps_all ks text before 0; marked = λ i h. absurd (omega arith) }
 
   pub one_more : (nodes after : List ℕ) (i : ℕ) → Resolves ks text before nodes i → ResolvesAt ks text nodes after i → Resolves ks text before after (i + 1)
   one_more nodes after i r n =
@@ -87,9 +87,9 @@ module _ (ks : List Key) (text before : List ℕ) where
         marked = λ j h. go j h;
       }
     where
-      go : (j : ℕ) → j < i + 1 → operand_at after j ≡ operandOn ks text (leafAt after j)
+      go : (j : ℕ) → j < i + 1 → operand_at after j ≡ operand_on ks text (leaf_at after j)
       go j h =
           elim (dec_lt j i) [
-            | yes l ↦ n.elsewhere j (λ d. omega arith) ∙ r.marked j l ∙ ap (operandOn ks text) (sym (n.keeps.leaves j))
+            | yes l ↦ n.elsewhere j (λ d. omega arith) ∙ r.marked j l ∙ ap (operand_on ks text) (sym (n.keeps.leaves j))
             | no l ↦ let same : j ≡ i = omega arith in rw same n.here
           ]

@@ -3,13 +3,13 @@
 // What is found is marked in the node of the name (crate trees). A name of nothing has its mark too, so that a text is refused at its
 // first such name by the type check, in the order of document 01, and not here.
 ghost use Rattle.std.specs.Prelude.{◌≡◌, ◌+◌, ◌*◌, ◌≤◌, length};
-ghost use Rattle.paper.specs.Tokens.{bytes, sameBytes};
+ghost use Rattle.paper.specs.Tokens.{bytes, same_bytes};
 ghost use Rattle.paper.specs.Keys.{find};
-ghost use Rattle.paper.specs.Types.{fieldNamed};
+ghost use Rattle.paper.specs.Types.{field_named};
 ghost use Rattle.paper.specs.Code.{bit};
-ghost use Rattle.keys.specs.Says.{keysIn};
+ghost use Rattle.keys.specs.Says.{keys_in};
 ghost use Rattle.trees.specs.Standing.{spelling};
-ghost use Rattle.trees.specs.Marks.{keyMark, fieldMark};
+ghost use Rattle.trees.specs.Marks.{key_mark, field_mark};
 ghost use Rattle.resolving.specs.Resolved.{ResolvesAt, Resolves};
 
 use keys::Found;
@@ -19,7 +19,7 @@ use values::fields::Named;
 
 fn key_mark(text: &[u8], list: &[u8], w: Span) -> u32
     requires { length list.now ≤ 2560 }
-    ensures { result ≡ keyMark (find (keysIn list.now) (spelling text.now w)) }
+    ensures { result ≡ key_mark (find (keys_in list.now) (spelling text.now w)) }
 {
     let found = keys::find_key(list, trees::spelled(text, w));
     let Found::At(k) = found else {
@@ -29,7 +29,7 @@ fn key_mark(text: &[u8], list: &[u8], w: Span) -> u32
 }
 
 fn field_mark(text: &[u8], f: Span) -> u32
-    ensures { result ≡ fieldMark (fieldNamed (spelling text.now f)) }
+    ensures { result ≡ field_mark (field_named (spelling text.now f)) }
 {
     let field = fields::field_named(trees::spelled(text, f));
     let Named::Field(n) = field else {
@@ -39,7 +39,7 @@ fn field_mark(text: &[u8], f: Span) -> u32
 }
 
 fn priority_mark(text: &[u8], f: Span) -> u32
-    ensures { result ≡ bit (sameBytes (spelling text.now f) (bytes "priority")) }
+    ensures { result ≡ bit (same_bytes (spelling text.now f) (bytes "priority")) }
 {
     if fields::is_priority(trees::spelled(text, f)) {
         return 1;
@@ -49,7 +49,7 @@ fn priority_mark(text: &[u8], f: Span) -> u32
 
 fn resolve_node(text: &[u8], list: &[u8], nodes: &mut [u32], i: usize)
     requires { (length list.now ≤ 2560) × (i * 8 + 8 ≤ length nodes.old) }
-    ensures { ResolvesAt (keysIn list.now) text.now nodes.old nodes.new i }
+    ensures { ResolvesAt (keys_in list.now) text.now nodes.old nodes.new i }
 {
     let leaf = Leaf::read(nodes, i);
     match leaf {
@@ -74,7 +74,7 @@ fn resolve_node(text: &[u8], list: &[u8], nodes: &mut [u32], i: usize)
 // Marks the names of the first `count` nodes. No list that passes its check has more bytes, so an index is a mark.
 pub fn resolve(text: &[u8], list: &[u8], nodes: &mut [u32], count: usize)
     requires { (length list.now ≤ 2560) × (count * 8 ≤ length nodes.old) }
-    ensures { Resolves (keysIn list.now) text.now nodes.old nodes.new count }
+    ensures { Resolves (keys_in list.now) text.now nodes.old nodes.new count }
 {
     let mut i = 0;
     while i < count {

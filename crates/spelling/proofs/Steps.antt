@@ -10,8 +10,8 @@ use lib.Dec.{eqb}
 use lib.ListN.{length, get_or, take, drop, length-drop, drop_of_length-le}
 use lib.Seq.{take_all, take-suc, drop-cons}
 use borrow.Author.Tests.{eq-eqb, ne_eqb, not-true, not-false}
-use Rattle.paper.specs.Tokens.{sameBytes}
-use Rattle.paper.specs.Keys.{allZero}
+use Rattle.paper.specs.Tokens.{same_bytes}
+use Rattle.paper.specs.Keys.{all_zero}
 
 -- after `if !test`
 pub refuted : {r t : Bool} → r ≡ t → not r ≡ true → t ≡ false
@@ -38,46 +38,46 @@ to_end s i = take_all (length s - i) (drop i s) (omega (arith, length-drop i s))
 
 -- bytes gathered by "or" are 0 exactly where each of them is
 
-none-set : (a b : ℕ) → eqb (bit_or a b) 0 ≡ (eqb a 0 && eqb b 0)
-none-set zero b = refl
-none-set (suc a) b =
+none_set : (a b : ℕ) → eqb (bit_or a b) 0 ≡ (eqb a 0 && eqb b 0)
+none_set zero b = refl
+none_set (suc a) b =
     rw (ne_eqb (suc a) 0 (λ e. omega arith)) (ne_eqb (bit_or (suc a) b) 0 (λ e. omega (arith, or_add_and (suc a) b, and_le_r (suc a) b)))
 
-zeros-and : (s : List ℕ) (b : ℕ) → allZero (s ++ (b ∷ [])) ≡ (allZero s && eqb b 0)
-zeros-and [] b = go (eqb b 0)
+zeros_and : (s : List ℕ) (b : ℕ) → all_zero (s ++ (b ∷ [])) ≡ (all_zero s && eqb b 0)
+zeros_and [] b = go (eqb b 0)
   where
     go : (t : Bool) → cond t true false ≡ t
     go true = refl
     go false = refl
-zeros-and (x ∷ s) b = rw (zeros-and s b) (go (eqb x 0))
+zeros_and (x ∷ s) b = rw (zeros_and s b) (go (eqb x 0))
   where
-    go : (t : Bool) → cond t (allZero s && eqb b 0) false ≡ (cond t (allZero s) false && eqb b 0)
+    go : (t : Bool) → cond t (all_zero s && eqb b 0) false ≡ (cond t (all_zero s) false && eqb b 0)
     go true = refl
     go false = refl
 
 -- where `any` is 0 exactly where the first i bytes are zeros, it is so of one byte more
-pub gathers : (s : List ℕ) (i any : ℕ) → i < length s → eqb any 0 ≡ allZero (take i s)
-    → eqb (bit_or any (get_or s i 0)) 0 ≡ allZero (take (i + 1) s)
-gathers s i any h so_far = none-set any (get_or s i 0) ∙ rw (so_far, ← zeros-and, add-one, take-suc s i 0 h)
+pub gathers : (s : List ℕ) (i any : ℕ) → i < length s → eqb any 0 ≡ all_zero (take i s)
+    → eqb (bit_or any (get_or s i 0)) 0 ≡ all_zero (take (i + 1) s)
+gathers s i any h so_far = none_set any (get_or s i 0) ∙ rw (so_far, ← zeros_and, add-one, take-suc s i 0 h)
 
 fails : (b : Bool) → cond b false false ≡ false
 fails true = refl
 fails false = refl
 
-pub other_length : (a b : List ℕ) → (length a ≡ length b → ⊥) → sameBytes a b ≡ false
+pub other_length : (a b : List ℕ) → (length a ≡ length b → ⊥) → same_bytes a b ≡ false
 other_length [] [] h = absurd (h refl)
 other_length [] (y ∷ b) h = refl
 other_length (x ∷ a) [] h = refl
 other_length (x ∷ a) (y ∷ b) h = rw (other_length a b (λ e. h (ap suc e))) (fails (eqb x y))
 
 module _ (a b : List ℕ) (i : ℕ) where
-  pub same-on : i < length a → i < length b → get_or a i 0 ≡ get_or b i 0
-      → sameBytes (drop i a) (drop i b) ≡ sameBytes (drop (i + 1) a) (drop (i + 1) b)
-  same-on g h e = rw (cut a i g, cut b i h, eq-eqb _ _ e)
+  pub same_on : i < length a → i < length b → get_or a i 0 ≡ get_or b i 0
+      → same_bytes (drop i a) (drop i b) ≡ same_bytes (drop (i + 1) a) (drop (i + 1) b)
+  same_on g h e = rw (cut a i g, cut b i h, eq-eqb _ _ e)
 
   pub same_stop : i < length a → i < length b → (get_or a i 0 ≡ get_or b i 0 → ⊥)
-      → sameBytes (drop i a) (drop i b) ≡ false
+      → same_bytes (drop i a) (drop i b) ≡ false
   same_stop g h e = rw (cut a i g, cut b i h, ne_eqb _ _ e)
 
-  pub same_end : length a ≤ i → length b ≤ i → sameBytes (drop i a) (drop i b) ≡ true
+  pub same_end : length a ≤ i → length b ≤ i → same_bytes (drop i a) (drop i b) ≡ true
   same_end g h = rw (drop_of_length-le a g, drop_of_length-le b h)

@@ -10,5 +10,5 @@ pub and_both : (a b : Bool) → (a && b) ≡ true → (a ≡ true) × (b ≡ tru
 and_both true b e = (refl, e)
 and_both false b e = absurd (false≢true e)
 
-pub within-from : (low high b : ℕ) → within low high b ≡ true → low ≤ b
-within-from low high b e = leb-true low b (and_both (leb low b) (leb b high) e).0
+pub within_from : (low high b : ℕ) → within low high b ≡ true → low ≤ b
+within_from low high b e = leb-true low b (and_both (leb low b) (leb b high) e).0

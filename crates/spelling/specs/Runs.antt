@@ -1,19 +1,19 @@
 -- Runs of bytes, by the tests of the paper's definitions.
 use Rattle.std.specs.Prelude.{ℕ, ◌+◌, ◌≤◌, ◌≡◌, Bool, not, ◌||◌, List, length, drop, eqb, ltb}
-use Rattle.paper.specs.Tokens.{isIdByte, is, digitOf, span}
+use Rattle.paper.specs.Tokens.{is_id_byte, is, digit_of, span}
 use Rattle.spelling.specs.declared.runs.Run.{Run}
 use Rattle.spelling.specs.declared.runs.Run.TheVariants.{Name, Line, Quoted, Digits}
 
-abbrev pub inRun : Run → ℕ → Bool
-inRun Name = isIdByte
-inRun Line = λ b. not (eqb b 10)
-inRun Quoted = λ b. not (is "'" b || eqb b 10)
-inRun (Digits base) = λ b. ltb (digitOf b) base
+abbrev pub in_run : Run → ℕ → Bool
+in_run Name = is_id_byte
+in_run Line = λ b. not (eqb b 10)
+in_run Quoted = λ b. not (is "'" b || eqb b 10)
+in_run (Digits base) = λ b. ltb (digit_of b) base
 
 -- how many bytes of a line are left at an offset, and how many are looked through together for its end
 
-abbrev pub lineMore : List ℕ → ℕ → ℕ
-lineMore text at = span (inRun Line) (drop at text)
+abbrev pub line_more : List ℕ → ℕ → ℕ
+line_more text at = span (in_run Line) (drop at text)
 
 abbrev pub stride : ℕ
 stride = 16

@@ -2,8 +2,8 @@
 ghost use Rattle.std.specs.Prelude.{◌≡◌, ◌+◌, ◌≤◌, length};
 ghost use Rattle.std.proofs.lemmas.List.Edits.{sets};
 ghost use Rattle.paper.specs.Tokens as paper;
-ghost use Rattle.paper.specs.Tokens.{sameBytes, isDigit, isBlank, digitOf};
-ghost use Rattle.paper.specs.Keys.{allZero};
+ghost use Rattle.paper.specs.Tokens.{same_bytes, is_digit, is_blank, digit_of};
+ghost use Rattle.paper.specs.Keys.{all_zero};
 
 // The bases of the digits in addresses.
 pub const DECIMAL: u8 = 10;
@@ -22,7 +22,7 @@ pub fn within(low: u8, high: u8, byte: u8) -> bool
 
 // Whether two slices hold the same bytes. The lengths come first: no byte is read that one of the two does not have.
 pub fn same_bytes(a: &[u8], b: &[u8]) -> bool
-    ensures { result ≡ sameBytes a.now b.now }
+    ensures { result ≡ same_bytes a.now b.now }
 {
     if a.len() != b.len() {
         return false;
@@ -40,7 +40,7 @@ pub fn same_bytes(a: &[u8], b: &[u8]) -> bool
 // Whether every byte is zero. All of them are looked at, whatever the first ones are: with no way out of the loop the compiler takes
 // many bytes at a time.
 pub fn all_zero(s: &[u8]) -> bool
-    ensures { result ≡ allZero s.now }
+    ensures { result ≡ all_zero s.now }
 {
     let mut any: u8 = 0;
     let mut i = 0;
@@ -65,14 +65,14 @@ pub fn copy(s: &[u8], at: usize, out: &mut [u8])
 
 // Whether a byte is a decimal digit.
 pub fn is_digit(byte: u8) -> bool
-    ensures { result ≡ isDigit byte }
+    ensures { result ≡ is_digit byte }
 {
     within(b'0', b'9', byte)
 }
 
 // Whether a byte is a blank: space, tab, CR or LF.
 pub fn is_blank(byte: u8) -> bool
-    ensures { result ≡ isBlank byte }
+    ensures { result ≡ is_blank byte }
 {
     if byte == b' ' {
         return true;
@@ -88,7 +88,7 @@ pub fn is_blank(byte: u8) -> bool
 
 // What a digit counts, in either case of a letter; 16, the digit of no base, for any other byte.
 pub fn digit_of(byte: u8) -> u8
-    ensures { result ≡ digitOf byte }
+    ensures { result ≡ digit_of byte }
 {
     if is_digit(byte) {
         return byte - b'0';

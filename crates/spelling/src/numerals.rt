@@ -1,8 +1,8 @@
 // Numerals: (0[dD])? [0-9]+, 0[bB] [0-1]+, 0[oO] [0-7]+, 0[xX] [0-9a-fA-F]+.
 ghost use Rattle.std.specs.Prelude.{◌≡◌, map, ◌<◌, ◌≤◌};
-ghost use Rattle.paper.specs.Numbers.{inBase};
-ghost use Rattle.paper.specs.Tokens.{radixOf, notationOf, digitOf, spelling};
-ghost use Rattle.spelling.specs.Numerals.{notationMeant, announced, Announces, Counts, Spells, writtenIn};
+ghost use Rattle.paper.specs.Numbers.{in_base};
+ghost use Rattle.paper.specs.Tokens.{radix_of, notation_of, digit_of, spelling};
+ghost use Rattle.spelling.specs.Numerals.{notation_meant, announced, Announces, Counts, Spells, written_in};
 
 use crate::runs::Run;
 use crate::{bytes, runs};
@@ -40,7 +40,7 @@ pub enum Announced {
 impl Notation {
     // How many digits it has.
     fn radix(self) -> u32
-        ensures is { result ≡ radixOf (notationMeant self) }
+        ensures is { result ≡ radix_of (notation_meant self) }
         ensures two { 2 ≤ result }
         ensures few { result ≤ 16 }
     {
@@ -53,7 +53,7 @@ impl Notation {
 
 // The notation that a letter announces after a first 0.
 fn notation_of(letter: u8) -> Announced
-    ensures { announced result ≡ notationOf letter }
+    ensures { announced result ≡ notation_of letter }
 {
     match letter {
         b'd' | b'D' => Announced::Digits(Notation::Based(Base::Decimal)),
@@ -79,7 +79,7 @@ fn notation_announced(run: &[u8]) -> Announced
 // What digits count, as far as it fits.
 fn count(digits: &[u8], base: u32) -> Extended
     requires { 0 < base }
-    ensures { Counts (inBase base (map digitOf digits.now)) result }
+    ensures { Counts (in_base base (map digit_of digits.now)) result }
 {
     let mut number = Magnitude::zero();
     let mut i = 0;
@@ -109,7 +109,7 @@ fn without_number(sort: Fit, notation: Notation) -> Numeral
 }
 
 fn in_notation(digits: &[u8], notation: Notation) -> Numeral
-    ensures { Spells (writtenIn (notationMeant notation) digits.now) result }
+    ensures { Spells (written_in (notation_meant notation) digits.now) result }
 {
     let radix = notation.radix();
     let end = runs::run_end(digits, 0, Run::Digits(radix as u8));

@@ -1,7 +1,7 @@
 // Runs: bytes of one sort that stand together.
 ghost use Rattle.std.specs.Prelude.{◌≡◌, ◌+◌, ◌≤◌, leb, length, drop};
 ghost use Rattle.paper.specs.Tokens.{span};
-ghost use Rattle.spelling.specs.Runs.{inRun, EndsAt, lineMore, stride};
+ghost use Rattle.spelling.specs.Runs.{in_run, EndsAt, line_more, stride};
 
 use crate::{bytes, word};
 
@@ -18,7 +18,7 @@ pub enum Run {
 }
 
 fn goes_on(run: Run, byte: u8) -> bool
-    ensures { result ≡ inRun run byte }
+    ensures { result ≡ in_run run byte }
 {
     match run {
         Run::Name => word::is_id_byte(byte),
@@ -36,7 +36,7 @@ fn goes_on(run: Run, byte: u8) -> bool
 // Where the run ends that starts at an offset.
 pub fn run_end(text: &[u8], at: usize, run: Run) -> usize
     requires { at ≤ length text.now }
-    ensures { EndsAt text.now at (span (inRun run) (drop at text.now)) result }
+    ensures { EndsAt text.now at (span (in_run run) (drop at text.now)) result }
 {
     let mut i = at;
     while i < text.len() {
@@ -54,7 +54,7 @@ const STRIDE: usize = 16;
 // Whether a line goes on through so many bytes. No byte of them ends the loop, so that the compiler takes them all at once.
 fn goes_through(text: &[u8], at: usize) -> bool
     requires { at + stride ≤ length text.now }
-    ensures { result ≡ leb stride (lineMore text.now at) }
+    ensures { result ≡ leb stride (line_more text.now at) }
 {
     let mut ended = 0u8;
     let mut k = 0;
@@ -70,7 +70,7 @@ fn goes_through(text: &[u8], at: usize) -> bool
 // Where the line ends that goes on at an offset.
 pub fn line_end(text: &[u8], at: usize) -> usize
     requires { at ≤ length text.now }
-    ensures { EndsAt text.now at (lineMore text.now at) result }
+    ensures { EndsAt text.now at (line_more text.now at) result }
 {
     let mut i = at;
     while i + STRIDE <= text.len() {

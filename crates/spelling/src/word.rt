@@ -1,13 +1,13 @@
 // Words, id ('.' id)*, of which a key's name is one.
 ghost use Rattle.std.specs.Prelude.{◌≡◌, ◌<◌, length, drop};
-ghost use Rattle.paper.specs.Tokens.{isIdStart, isIdByte, wordMore, is_key};
-ghost use Rattle.spelling.specs.Words.{goesOn};
+ghost use Rattle.paper.specs.Tokens.{is_id_start, is_id_byte, word_more, is_key};
+ghost use Rattle.spelling.specs.Words.{goes_on};
 
 use crate::bytes;
 
 // Whether a byte may begin an id: a letter or an underscore.
 pub fn is_id_start(byte: u8) -> bool
-    ensures { result ≡ isIdStart byte }
+    ensures { result ≡ is_id_start byte }
 {
     if bytes::within(b'a', b'z', byte) {
         return true;
@@ -20,7 +20,7 @@ pub fn is_id_start(byte: u8) -> bool
 
 // Whether a byte may stand in an id: a letter, a digit or an underscore.
 pub(crate) fn is_id_byte(byte: u8) -> bool
-    ensures { result ≡ isIdByte byte }
+    ensures { result ≡ is_id_byte byte }
 {
     if is_id_start(byte) {
         return true;
@@ -30,7 +30,7 @@ pub(crate) fn is_id_byte(byte: u8) -> bool
 
 fn goes_on(s: &[u8], i: usize) -> bool
     requires { i < length s.now }
-    ensures { result ≡ goesOn s.now i }
+    ensures { result ≡ goes_on s.now i }
 {
     if is_id_byte(s[i]) {
         return true;
@@ -46,7 +46,7 @@ fn goes_on(s: &[u8], i: usize) -> bool
 
 // How many bytes from an offset on belong to a word that began before it.
 pub fn word_more(s: &[u8], at: usize) -> usize
-    ensures { result ≡ wordMore (drop at s.now) }
+    ensures { result ≡ word_more (drop at s.now) }
 {
     let mut i = at;
     while i < s.len() {

@@ -2,8 +2,8 @@
 use Rattle.std.specs.Prelude.{◌≡◌, ℕ, ◌+◌, ◌-◌, ◌%◌, ◌<◌, ◌≤◌, min, List, length, take}
 
 -- as many entries of a size as are whole, at the start of some bytes
-abbrev pub wholeOf : ℕ → List ℕ → List ℕ
-wholeOf size s = take (length s - length s % size) s
+abbrev pub whole_of : ℕ → List ℕ → List ℕ
+whole_of size s = take (length s - length s % size) s
 
 -- an entry at an offset ends after its size, or with the bytes that there are; it is never empty
 pub record EndsIn (at size end r : ℕ) : Type 0 where

@@ -1,6 +1,6 @@
 // Entries that stand end to end in a file, through one buffer: judged one by one as they come, or run by blocks as many at a time as it holds.
 ghost use Rattle.std.specs.Prelude.{◌≡◌, ◌+◌, ◌<◌, ◌≤◌, length};
-ghost use Rattle.streaming.specs.Tallies.{total, mostCounted};
+ghost use Rattle.streaming.specs.Tallies.{total, most_counted};
 
 use crate::ran::run_held;
 use crate::sizes::entry_end;
@@ -29,7 +29,7 @@ fn told(explains: bool, text: &[u8], list: &[u8], entry: &[u8]) -> Explanation {
 
 // An entry has at least one byte, so there are no more entries than bytes.
 fn judge_held(explains: bool, text: &[u8], list: &[u8], entries: &[u8], before: Tally) -> Tally
-    requires { total before + length entries.now < mostCounted }
+    requires { total before + length entries.now < most_counted }
     ensures { total result ≤ total before + length entries.now }
 {
     let size = entry_size(list);
@@ -47,7 +47,7 @@ fn judge_held(explains: bool, text: &[u8], list: &[u8], entries: &[u8], before: 
 
 // The entries that are held, by what was asked for.
 fn judge_part(way: Way, rule: &[u8], list: &[u8], entries: &[u8], before: Totals) -> Totals
-    requires { total before.tally + length entries.now < mostCounted }
+    requires { total before.tally + length entries.now < most_counted }
     ensures { total result.tally ≤ total before.tally + length entries.now }
 {
     let tally = before.tally;
@@ -67,7 +67,7 @@ fn judge_part(way: Way, rule: &[u8], list: &[u8], entries: &[u8], before: Totals
 // Judges what a file has left, as much at a time as the part holds. A file has fewer than 2^63 bytes, so the turns are enough.
 fn judge_turns(way: Way, rule: &[u8], list: &[u8], fd: i32, part: &mut [u8]) -> Totals
     requires { length part.old ≤ 65536 }
-    ensures { total result.tally ≤ mostCounted }
+    ensures { total result.tally ≤ most_counted }
 {
     let mut totals = Totals::none();
     let mut turns: usize = 1 << 47;
@@ -85,7 +85,7 @@ fn judge_turns(way: Way, rule: &[u8], list: &[u8], fd: i32, part: &mut [u8]) -> 
 
 // The last line: how many entries there are, and for blocks in how many steps.
 fn say_end(way: Way, totals: Totals)
-    requires { total totals.tally ≤ mostCounted }
+    requires { total totals.tally ≤ most_counted }
 {
     match way {
         Way::Run => say_ran(totals),

@@ -1,12 +1,12 @@
 // Entries by blocks, all that are held at a time: a line for each, and the steps of all.
 ghost use Rattle.std.specs.Prelude.{◌≡◌, ◌+◌, ◌<◌, ◌≤◌, length};
-ghost use Rattle.paper.specs.Answers.{judgementSays};
+ghost use Rattle.paper.specs.Answers.{judgement_says};
 ghost use Rattle.paper.specs.Numbers.{byte_at};
-ghost use Rattle.paper.specs.Promised.{judgementOfRun};
-ghost use Rattle.paper.specs.TranslationCorrect.{verdictOf};
-ghost use Rattle.paper.specs.Calls.{runAnswer};
-ghost use Rattle.paper.specs.RunAll.{runningAllSays};
-ghost use Rattle.streaming.specs.Tallies.{total, mostCounted, verdictBy, stepsOf, StepsAdded};
+ghost use Rattle.paper.specs.Promised.{judgement_of_run};
+ghost use Rattle.paper.specs.TranslationCorrect.{verdict_of};
+ghost use Rattle.paper.specs.Calls.{run_answer};
+ghost use Rattle.paper.specs.RunAll.{running_all_says};
+ghost use Rattle.streaming.specs.Tallies.{total, most_counted, verdict_by, steps_of, StepsAdded};
 
 use crate::sizes::{entry_end, whole_of};
 use crate::tally::{Tally, Totals};
@@ -17,7 +17,7 @@ use wording::broken::say_judgement;
 
 // The judgement of a run, its steps aside.
 fn judged_by(running: Running) -> Judgement
-    ensures { result ≡ judgementOfRun running }
+    ensures { result ≡ judgement_of_run running }
 {
     match running {
         Running::Accepted(_) => Judgement::Accepted,
@@ -35,7 +35,7 @@ fn byte_of(answers: &[u8], k: usize) -> u8
 
 // An entry by its byte. A byte has no place, so one that tells no verdict is that of an entry which is run alone.
 fn judgement_of(list: &[u8], blocks: &[u8], entry: &[u8], byte: u8) -> Judgement
-    ensures { judgementSays result ≡ verdictBy byte (verdictOf (runAnswer list.now blocks.now entry.now)) }
+    ensures { judgement_says result ≡ verdict_by byte (verdict_of (run_answer list.now blocks.now entry.now)) }
 {
     match byte {
         ACCEPTED => Judgement::Accepted,
@@ -46,7 +46,7 @@ fn judgement_of(list: &[u8], blocks: &[u8], entry: &[u8], byte: u8) -> Judgement
 
 // Says of each entry what its byte tells. A last one that is cut has none. An entry has at least one byte, so there are no more entries than bytes.
 fn tell_each(list: &[u8], blocks: &[u8], entries: &[u8], answers: &[u8], before: Tally) -> Tally
-    requires { total before + length entries.now < mostCounted }
+    requires { total before + length entries.now < most_counted }
     ensures { total result ≤ total before + length entries.now }
 {
     let size = entry_size(list);
@@ -65,7 +65,7 @@ fn tell_each(list: &[u8], blocks: &[u8], entries: &[u8], answers: &[u8], before:
 }
 
 fn steps_of(running: RunningAll) -> u64
-    ensures { result ≡ stepsOf (runningAllSays running) }
+    ensures { result ≡ steps_of (running_all_says running) }
 {
     match running {
         RunningAll::Ran(_, steps) => steps,
@@ -76,7 +76,7 @@ fn steps_of(running: RunningAll) -> u64
 // Runs the entries that are held. The blocks have loaded, only whole entries are run, and there are more bytes for answers than entries, so that
 // nothing is refused.
 pub(crate) fn run_held(list: &[u8], blocks: &[u8], entries: &[u8], before: Totals) -> Totals
-    requires { total before.tally + length entries.now < mostCounted }
+    requires { total before.tally + length entries.now < most_counted }
     ensures tally_bound { total result.tally ≤ total before.tally + length entries.now }
     ensures steps_added { StepsAdded list.now blocks.now entries.now before.steps result.steps }
 {

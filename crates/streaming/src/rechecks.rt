@@ -1,7 +1,7 @@
 // Entries that stand end to end in two files, each new one rechecked against the old one at its place. Both files stream, through a buffer
 // each. The earlier answer of an old entry is what judging it says.
 ghost use Rattle.std.specs.Prelude.{◌≡◌, ◌+◌, ◌<◌, ◌≤◌, length};
-ghost use Rattle.streaming.specs.Tallies.{total, mostCounted, answer_in, reusedBy};
+ghost use Rattle.streaming.specs.Tallies.{total, most_counted, answer_in, reused_by};
 
 use crate::sizes::entry_end;
 use crate::tally::{Tally, say_tally};
@@ -44,7 +44,7 @@ fn answer_in(rechecked: Rechecking) -> Judgement
 }
 
 fn reused_by(rechecked: Rechecking) -> usize
-    ensures { (result ≡ reusedBy rechecked) × (result ≤ 1) }
+    ensures { (result ≡ reused_by rechecked) × (result ≤ 1) }
 {
     match rechecked {
         Rechecking::Reused(_) => 1,
@@ -74,7 +74,7 @@ fn recheck_held(
     before: Counts,
 ) -> Counts
     requires got_in_bounds { (got ≤ length old.now) × (got ≤ length new.now) }
-    requires got_bound { total before.tally + got < mostCounted }
+    requires got_bound { total before.tally + got < most_counted }
     requires reused_bound { before.reused ≤ total before.tally }
     ensures tally_bound { total result.tally ≤ total before.tally + got }
     ensures reused_bound_2 { result.reused ≤ total result.tally }
@@ -101,7 +101,7 @@ fn recheck_held(
 // the turns are enough.
 fn recheck_turns(text: &[u8], list: &[u8], files: Files, old: &mut [u8], new: &mut [u8]) -> Course
     requires { (length old.old ≡ length new.old) × (length new.old ≤ 65536) }
-    ensures tally_bound { total result.counts.tally ≤ mostCounted }
+    ensures tally_bound { total result.counts.tally ≤ most_counted }
     ensures reused_bound { result.counts.reused ≤ total result.counts.tally }
 {
     let mut counts = Counts {
@@ -133,7 +133,7 @@ fn recheck_turns(text: &[u8], list: &[u8], files: Files, old: &mut [u8], new: &m
 }
 
 fn say_counts(counts: Counts)
-    requires tally_bound { total counts.tally ≤ mostCounted }
+    requires tally_bound { total counts.tally ≤ most_counted }
     requires reused_bound { counts.reused ≤ total counts.tally }
 {
     let tally = counts.tally;
@@ -156,7 +156,7 @@ fn say_longer(longer: &[u8], other: &[u8]) {
 
 // Where a file of which the last turn got no more than of the other is not at its end, it could not be read.
 fn finish(course: Course, files: Files, old: &[u8], new: &[u8])
-    requires tally_bound { total course.counts.tally ≤ mostCounted }
+    requires tally_bound { total course.counts.tally ≤ most_counted }
     requires reused_bound { course.counts.reused ≤ total course.counts.tally }
 {
     if course.old <= course.new {

@@ -1,6 +1,6 @@
 // How many entries were given each answer, and in how many steps.
 ghost use Rattle.std.specs.Prelude.{◌≡◌, ◌+◌, ◌<◌, ◌≤◌};
-ghost use Rattle.streaming.specs.Tallies.{total, counted, mostCounted};
+ghost use Rattle.streaming.specs.Tallies.{total, counted, most_counted};
 
 use lines::say;
 use paper::Judgement;
@@ -28,7 +28,7 @@ impl Tally {
 
     // With one entry more, by its judgement.
     pub(crate) fn count(mut self, judgement: Judgement) -> Tally
-        requires { total self < mostCounted }
+        requires { total self < most_counted }
         ensures value { result ≡ counted judgement self }
         ensures result_value { total result ≡ total self + 1 }
     {
@@ -42,7 +42,7 @@ impl Tally {
 
     // How many entries there are in all.
     pub(crate) fn entries(self) -> usize
-        requires { total self ≤ mostCounted }
+        requires { total self ≤ most_counted }
         ensures { result ≡ total self }
     {
         self.accepted + self.violated + self.refused
@@ -69,7 +69,7 @@ impl Totals {
 }
 
 fn say_totals(tally: Tally)
-    requires { total tally ≤ mostCounted }
+    requires { total tally ≤ most_counted }
 {
     say_count(b"# entry: ", b"# entries: ", tally.entries());
     say_three(
@@ -82,7 +82,7 @@ fn say_totals(tally: Tally)
 
 // The last line of a file: how many entries there are, and how many were given each answer.
 pub(crate) fn say_tally(tally: Tally)
-    requires { total tally ≤ mostCounted }
+    requires { total tally ≤ most_counted }
 {
     say_totals(tally);
     say(b"\n")
@@ -90,7 +90,7 @@ pub(crate) fn say_tally(tally: Tally)
 
 // The same line with the steps of all entries.
 pub(crate) fn say_ran(totals: Totals)
-    requires { total totals.tally ≤ mostCounted }
+    requires { total totals.tally ≤ most_counted }
 {
     say_totals(totals.tally);
     say_count(b", in # step\n", b", in # steps\n", totals.steps as usize)

@@ -1,8 +1,8 @@
 // Whether two entries are the same in all that a text names.
 ghost use Rattle.std.specs.Prelude.{◌≡◌, Bool, ◌&&◌, ℕ, length};
-ghost use Rattle.paper.specs.Named.{setOf};
-ghost use Rattle.paper.specs.Rechecking.{sameFrom, samePriority};
-ghost use Rattle.keys.specs.Says.{keysIn};
+ghost use Rattle.paper.specs.Named.{set_of};
+ghost use Rattle.paper.specs.Rechecking.{same_from, same_priority};
+ghost use Rattle.keys.specs.Says.{keys_in};
 ghost use Rattle.operands.specs.Conforming.{Conforming};
 ghost use Rattle.summarizing.specs.Sums.{Sums};
 
@@ -13,7 +13,7 @@ use keys::{Entry, KeyRecord};
 fn same_records(list: &[u8], old: &[u8], new: &[u8], named: u32) -> bool
     requires conforming { Conforming list.now old.now }
     requires conforming_2 { Conforming list.now new.now }
-    ensures { (p : ℕ → Bool) → named ≡ setOf p → result ≡ sameFrom p old.now new.now 0 (length (keysIn list.now)) }
+    ensures { (p : ℕ → Bool) → named ≡ set_of p → result ≡ same_from p old.now new.now 0 (length (keys_in list.now)) }
 {
     let n = list.len() / KeyRecord::SIZE;
     let mut rest = named;
@@ -35,7 +35,7 @@ pub fn same_named(list: &[u8], old: &[u8], new: &[u8], summary: Summary) -> bool
     requires conforming { Conforming list.now old.now }
     requires conforming_2 { Conforming list.now new.now }
     ensures { (p : ℕ → Bool) (m : Bool) → Sums p m summary
-        → result ≡ (sameFrom p old.now new.now 0 (length (keysIn list.now)) && samePriority m old.now new.now) }
+        → result ≡ (same_from p old.now new.now 0 (length (keys_in list.now)) && same_priority m old.now new.now) }
 {
     if !same_records(list, old, new, summary.keys) {
         return false;

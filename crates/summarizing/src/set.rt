@@ -1,7 +1,7 @@
 // A set of keys in 32 bits, and a mark.
 ghost use Rattle.std.specs.Prelude.{◌≡◌, Bool, false, true, ◌||◌, ℕ, eqb};
 ghost use Rattle.std.specs.Int.Count.{ones};
-ghost use Rattle.paper.specs.Named.{setOf, count_of};
+ghost use Rattle.paper.specs.Named.{set_of, count_of};
 ghost use Rattle.summarizing.specs.Sums.{Sums};
 
 use keys::KeyRecord;
@@ -66,7 +66,7 @@ impl Summary {
 // How many keys a set has. The processor counts them.
 pub fn count_keys(keys: u32) -> u32
     ensures counted { result ≡ ones keys }
-    ensures named { (p : ℕ → Bool) → keys ≡ setOf p → result ≡ count_of p }
+    ensures named { (p : ℕ → Bool) → keys ≡ set_of p → result ≡ count_of p }
 {
     u32::count_ones(keys)
 }

@@ -1,11 +1,11 @@
 // The walk: operands left and right, and what either names.
 ghost use Rattle.std.specs.Prelude.{List, ℕ, ◌+◌, ◌*◌, ◌≤◌, length};
 ghost use Rattle.paper.specs.Named.{names, marked};
-ghost use Rattle.keys.specs.Says.{keysIn};
-ghost use Rattle.trees.specs.Standing.{treeAt};
+ghost use Rattle.keys.specs.Says.{keys_in};
+ghost use Rattle.trees.specs.Standing.{tree_at};
 ghost use Rattle.trees.specs.Marks.{operand_at};
 ghost use Rattle.typing.specs.Known.{Known};
-ghost use Rattle.summarizing.specs.Sums.{Sums, operandNames, operandMarked};
+ghost use Rattle.summarizing.specs.Sums.{Sums, operand_names, operand_marked};
 
 use crate::set::Summary;
 use trees::{Node, Operand};
@@ -13,7 +13,7 @@ use trees::{Node, Operand};
 // Of a node with no operand, by its marks. A name of nothing, which no typed tree has, names no key.
 fn leaf_summary(nodes: &[u32], i: usize) -> Summary
     requires { i * 8 + 8 ≤ length nodes.now }
-    ensures { Sums (operandNames (operand_at nodes.now i)) (operandMarked (operand_at nodes.now i)) result }
+    ensures { Sums (operand_names (operand_at nodes.now i)) (operand_marked (operand_at nodes.now i)) result }
 {
     let operand = Operand::read(nodes, i);
     match operand {
@@ -31,7 +31,7 @@ fn leaf_summary(nodes: &[u32], i: usize) -> Summary
 pub fn summary_at(nodes: &[u32], at: usize) -> Summary
     requires { at * 8 + 8 ≤ length nodes.now }
     ensures { (list text : List ℕ) → Known list nodes.now at text
-        → Sums (names (keysIn list) (treeAt text nodes.now at)) (marked (treeAt text nodes.now at)) result }
+        → Sums (names (keys_in list) (tree_at text nodes.now at)) (marked (tree_at text nodes.now at)) result }
 {
     let n = Node::read(nodes, at);
     match n {

@@ -19,8 +19,8 @@ part_slice from to l h =
     sym (slice-more from (to - from) l) ∙ ap (λ t. slice from t l) e
 
 -- a part is its first byte and what follows
-pub part-first : (s : List ℕ) (at n end : ℕ) → at < length s → end ≡ at + 1 + n
+pub part_first : (s : List ℕ) (at n end : ℕ) → at < length s → end ≡ at + 1 + n
     → take (end - at) (drop at s) ≡ get_or s at 0 ∷ take n (drop (at + 1) s)
-part-first s at n end h e =
+part_first s at n end h e =
     let m : end - at ≡ suc n = omega arith in
     rw (m, cut s at h)

@@ -6,59 +6,59 @@ use mathlib.Core.List.{List, [], ◌∷◌}
 use native.Mathlib.Omega.{arith}
 use lib.Dec.{eqb}
 use lib.ListN.{length, get_or, take, drop, length-drop}
-use Rattle.paper.specs.Tokens.{is, starts, isBlank, isIdStart, isDigit, isIdByte, wordMore, span, Numeral, spelling, isNumeral, numeralValue, numeralScan, Scan, scan, scanComment, scanString, scanWord, scanNumeral, scanSign, blank, token, word, Literal, plain}
+use Rattle.paper.specs.Tokens.{is, starts, is_blank, is_id_start, is_digit, is_id_byte, word_more, span, Numeral, spelling, is_numeral, numeral_value, numeral_scan, Scan, scan, scan_comment, scan_string, scan_word, scan_numeral, scan_sign, blank, token, word, Literal, plain}
 use Rattle.paper.specs.Tokens as P
-use Rattle.spelling.specs.Numerals.{notationMeant, SpeltAs}
+use Rattle.spelling.specs.Numerals.{notation_meant, SpeltAs}
 use Rattle.spelling.specs.Runs.{EndsAt}
 use Rattle.spelling.specs.declared.numerals.Fit.{Fit}
 use Rattle.spelling.specs.declared.numerals.Fit.TheVariants as S
 use Rattle.spelling.specs.declared.numerals.Notation.{Notation}
 use Rattle.spelling.specs.declared.numerals.Notation.TheVariants.{Based, Octal}
-use Rattle.tokens.specs.Scanned.{Stands, fits_as, literalFor, tooLargeAs}
+use Rattle.tokens.specs.Scanned.{Stands, fits_as, literal_for, too_large_as}
 use Rattle.tokens.specs.declared.found.Lexeme.{Lexeme}
 use Rattle.tokens.specs.declared.found.Lexeme.TheVariants.{Blank, Token, NoToken}
-use Rattle.tokens.proofs.Parts.{part_slice, part-first}
+use Rattle.tokens.proofs.Parts.{part_slice, part_first}
 
 -- by its class
 
 module _ (b : ℕ) (s : List ℕ) where
-  pub as-blank : isBlank b ≡ true → scan b s ≡ blank 0
+  pub as_blank : is_blank b ≡ true → scan b s ≡ blank 0
   unfolding scan
-  as-blank e = rw e
+  as_blank e = rw e
 
-  module _ (blank-not : isBlank b ≡ false) where
-    pub as-comment : eqb b 47 ≡ true → scan b s ≡ scanComment s
+  module _ (blank_not : is_blank b ≡ false) where
+    pub as_comment : eqb b 47 ≡ true → scan b s ≡ scan_comment s
     unfolding scan
-    as-comment e = rw (blank-not, e)
+    as_comment e = rw (blank_not, e)
 
-    module _ (slash-not : eqb b 47 ≡ false) where
-      pub as-string : eqb b 39 ≡ true → scan b s ≡ scanString s
+    module _ (slash_not : eqb b 47 ≡ false) where
+      pub as_string : eqb b 39 ≡ true → scan b s ≡ scan_string s
       unfolding scan
-      as-string e = rw (blank-not, slash-not, e)
+      as_string e = rw (blank_not, slash_not, e)
 
-      module _ (quote-not : eqb b 39 ≡ false) where
-        pub as-word : isIdStart b ≡ true → scan b s ≡ scanWord b s
+      module _ (quote_not : eqb b 39 ≡ false) where
+        pub as_word : is_id_start b ≡ true → scan b s ≡ scan_word b s
         unfolding scan
-        as-word e = rw (blank-not, slash-not, quote-not, e)
+        as_word e = rw (blank_not, slash_not, quote_not, e)
 
-        pub as-numeral : isIdStart b ≡ false → isDigit b ≡ true → scan b s ≡ scanNumeral b s
+        pub as_numeral : is_id_start b ≡ false → is_digit b ≡ true → scan b s ≡ scan_numeral b s
         unfolding scan
-        as-numeral e f = rw (blank-not, slash-not, quote-not, e, f)
+        as_numeral e f = rw (blank_not, slash_not, quote_not, e, f)
 
-        pub as-sign : isIdStart b ≡ false → isDigit b ≡ false → scan b s ≡ scanSign b s
+        pub as_sign : is_id_start b ≡ false → is_digit b ≡ false → scan b s ≡ scan_sign b s
         unfolding scan
-        as-sign e f = rw (blank-not, slash-not, quote-not, e, f)
+        as_sign e f = rw (blank_not, slash_not, quote_not, e, f)
 
-pub stands-as : {s : List ℕ} {at : ℕ} {m n : Literal} {x y : Scan} {f g : Lexeme} → f ≡ g → m ≡ n → x ≡ y → Stands s at n y g → Stands s at m x f
-stands-as e p q h = rw (e, p, q) h
+pub stands_as : {s : List ℕ} {at : ℕ} {m n : Literal} {x y : Scan} {f g : Lexeme} → f ≡ g → m ≡ n → x ≡ y → Stands s at n y g → Stands s at m x f
+stands_as e p q h = rw (e, p, q) h
 
 -- words and numerals
 
-pub more-fits : (s : List ℕ) → wordMore s ≤ length s
-more-fits [] = omega arith
-more-fits (b ∷ s) = go (isIdByte b || is "." b && starts isIdStart s) (more-fits s)
+pub more_fits : (s : List ℕ) → word_more s ≤ length s
+more_fits [] = omega arith
+more_fits (b ∷ s) = go (is_id_byte b || is "." b && starts is_id_start s) (more_fits s)
   where
-    go : (t : Bool) → wordMore s ≤ length s → cond t (suc (wordMore s)) 0 ≤ suc (length s)
+    go : (t : Bool) → word_more s ≤ length s → cond t (suc (word_more s)) 0 ≤ suc (length s)
     go true h = omega arith
     go false h = omega arith
 
@@ -68,58 +68,58 @@ module _ (s : List ℕ) (at : ℕ) (h : at < length s) where
       let e : at + 1 - (at + 1) ≡ 0 = omega arith in
       record { says = ap blank e; ends = omega arith }
 
-  pub word-inside : at + 1 + wordMore (drop (at + 1) s) ≤ length s
-  word-inside = omega (arith, more-fits (drop (at + 1) s), length-drop (at + 1) s)
+  pub word_inside : at + 1 + word_more (drop (at + 1) s) ≤ length s
+  word_inside = omega (arith, more_fits (drop (at + 1) s), length-drop (at + 1) s)
 
-  pub word_stands : Stands s at (plain 0) (scanWord (get_or s at 0) (drop (at + 1) s)) (Token 0 (at + 1 + wordMore (drop (at + 1) s)))
+  pub word_stands : Stands s at (plain 0) (scan_word (get_or s at 0) (drop (at + 1) s)) (Token 0 (at + 1 + word_more (drop (at + 1) s)))
   word_stands =
-      let n = wordMore (drop (at + 1) s) in
+      let n = word_more (drop (at + 1) s) in
       let m : at + 1 + n - (at + 1) ≡ n = omega arith in
-      let p = sym (part_slice at (at + 1 + n) s (omega arith)) ∙ part-first s at n (at + 1 + n) h refl in
-      record { says = ap₂ (λ l i. token (word l) i) p m; ends = omega (arith, word-inside) }
+      let p = sym (part_slice at (at + 1 + n) s (omega arith)) ∙ part_first s at n (at + 1 + n) h refl in
+      record { says = ap₂ (λ l i. token (word l) i) p m; ends = omega (arith, word_inside) }
 
 -- the run at an offset, and the numeral that it spells
 
-abbrev runMore : List ℕ → ℕ → ℕ
-runMore s at = span isIdByte (drop (at + 1) s)
+abbrev run_more : List ℕ → ℕ → ℕ
+run_more s at = span is_id_byte (drop (at + 1) s)
 
 abbrev spelt : List ℕ → ℕ → Numeral
-spelt s at = spelling (get_or s at 0 ∷ take (runMore s at) (drop (at + 1) s))
+spelt s at = spelling (get_or s at 0 ∷ take (run_more s at) (drop (at + 1) s))
 
-module _ (s : List ℕ) (at end : ℕ) (h : at < length s) (f : EndsAt s (at + 1) (runMore s at) end) (w : Notation) (v : ℕ) where
-  on-the-run : (sort : Fit) → SpeltAs (spelling (take (end - at) (drop at s))) (notationMeant w) v sort → SpeltAs (spelt s at) (notationMeant w) v sort
-  on-the-run sort e = subst (λ l. SpeltAs (spelling l) (notationMeant w) v sort) (part-first s at (runMore s at) end h f.far) e
+module _ (s : List ℕ) (at end : ℕ) (h : at < length s) (f : EndsAt s (at + 1) (run_more s at) end) (w : Notation) (v : ℕ) where
+  on_the_run : (sort : Fit) → SpeltAs (spelling (take (end - at) (drop at s))) (notation_meant w) v sort → SpeltAs (spelt s at) (notation_meant w) v sort
+  on_the_run sort e = subst (λ l. SpeltAs (spelling l) (notation_meant w) v sort) (part_first s at (run_more s at) end h f.far) e
 
-  run-taken : end - (at + 1) ≡ runMore s at
-  run-taken = omega arith
+  run_taken : end - (at + 1) ≡ run_more s at
+  run_taken = omega arith
 
-  scanned-in : {x : P.Notation} → isNumeral (spelt s at) ≡ true → x ≡ (spelt s at).notation
-      → numeralScan x (numeralValue (spelt s at)) (runMore s at) ≡ scanNumeral (get_or s at 0) (drop (at + 1) s)
-  scanned-in e n = ap (λ x. numeralScan x (numeralValue (spelt s at)) (runMore s at)) n ∙ rw e
+  scanned_in : {x : P.Notation} → is_numeral (spelt s at) ≡ true → x ≡ (spelt s at).notation
+      → numeral_scan x (numeral_value (spelt s at)) (run_more s at) ≡ scan_numeral (get_or s at 0) (drop (at + 1) s)
+  scanned_in e n = ap (λ x. numeral_scan x (numeral_value (spelt s at)) (run_more s at)) n ∙ rw e
 
-  pub numeral-fits : SpeltAs (spelling (take (end - at) (drop at s))) (notationMeant w) v S.Fits
-      → Stands s at (literalFor (notationMeant w) v) (scanNumeral (get_or s at 0) (drop (at + 1) s)) (fits_as w end)
-  numeral-fits e = go w (on-the-run S.Fits e)
+  pub numeral_fits : SpeltAs (spelling (take (end - at) (drop at s))) (notation_meant w) v S.Fits
+      → Stands s at (literal_for (notation_meant w) v) (scan_numeral (get_or s at 0) (drop (at + 1) s)) (fits_as w end)
+  numeral_fits e = go w (on_the_run S.Fits e)
     where
-      go : (w : Notation) → SpeltAs (spelt s at) (notationMeant w) v S.Fits
-          → Stands s at (literalFor (notationMeant w) v) (scanNumeral (get_or s at 0) (drop (at + 1) s)) (fits_as w end)
-      go (Based base) g = record { says = rw (g.3, run-taken) (rw g.1 at (scanned-in g.0 g.2)); ends = omega arith }
+      go : (w : Notation) → SpeltAs (spelt s at) (notation_meant w) v S.Fits
+          → Stands s at (literal_for (notation_meant w) v) (scan_numeral (get_or s at 0) (drop (at + 1) s)) (fits_as w end)
+      go (Based base) g = record { says = rw (g.3, run_taken) (rw g.1 at (scanned_in g.0 g.2)); ends = omega arith }
       go Octal g =
           record {
-            says = record { is = rw (g.3, run-taken) (scanned-in g.0 g.2); fits = rw g.3 g.1 };
+            says = record { is = rw (g.3, run_taken) (scanned_in g.0 g.2); fits = rw g.3 g.1 };
             ends = omega arith;
           }
 
-  pub numeral-large : SpeltAs (spelling (take (end - at) (drop at s))) (notationMeant w) v S.TooLarge
-      → Stands s at (plain 0) (scanNumeral (get_or s at 0) (drop (at + 1) s)) (tooLargeAs w)
-  numeral-large e = go w (on-the-run S.TooLarge e)
+  pub numeral_large : SpeltAs (spelling (take (end - at) (drop at s))) (notation_meant w) v S.TooLarge
+      → Stands s at (plain 0) (scan_numeral (get_or s at 0) (drop (at + 1) s)) (too_large_as w)
+  numeral_large e = go w (on_the_run S.TooLarge e)
     where
-      go : (w : Notation) → SpeltAs (spelt s at) (notationMeant w) v S.TooLarge
-          → Stands s at (plain 0) (scanNumeral (get_or s at 0) (drop (at + 1) s)) (tooLargeAs w)
-      go (Based base) g = record { says = rw g.1 at (scanned-in g.0 g.2); ends = tt }
+      go : (w : Notation) → SpeltAs (spelt s at) (notation_meant w) v S.TooLarge
+          → Stands s at (plain 0) (scan_numeral (get_or s at 0) (drop (at + 1) s)) (too_large_as w)
+      go (Based base) g = record { says = rw g.1 at (scanned_in g.0 g.2); ends = tt }
       go Octal g =
-          record { says = record { number = numeralValue (spelt s at); more = runMore s at; is = scanned-in g.0 g.2; large = g.1 }; ends = tt }
+          record { says = record { number = numeral_value (spelt s at); more = run_more s at; is = scanned_in g.0 g.2; large = g.1 }; ends = tt }
 
-  pub numeral-none : SpeltAs (spelling (take (end - at) (drop at s))) (notationMeant w) v S.NoNumeral
-      → Stands s at (plain 0) (scanNumeral (get_or s at 0) (drop (at + 1) s)) NoToken
-  numeral-none e = record { says = rw (on-the-run S.NoNumeral e); ends = tt }
+  pub numeral_none : SpeltAs (spelling (take (end - at) (drop at s))) (notation_meant w) v S.NoNumeral
+      → Stands s at (plain 0) (scan_numeral (get_or s at 0) (drop (at + 1) s)) NoToken
+  numeral_none e = record { says = rw (on_the_run S.NoNumeral e); ends = tt }

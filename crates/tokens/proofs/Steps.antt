@@ -6,74 +6,74 @@ use native.Mathlib.Nat.{add-zero}
 use native.Mathlib.Omega.{arith}
 use lib.ListN.{length, get_or, drop, drop_of_length-le}
 use lib.Seq.{drop-drop, append_snoc}
-use Rattle.paper.specs.Answers.{Answer, ok, refused, ◌>>=◌, inText}
-use Rattle.paper.specs.Tokens.{Token, Tok, Scanner, blank, token, octalNumeral, noToken, tooLarge, onward, tokensBy}
+use Rattle.paper.specs.Answers.{Answer, ok, refused, ◌>>=◌, InText}
+use Rattle.paper.specs.Tokens.{Token, Tok, Scanner, blank, token, octal_numeral, no_token, tooLarge, onward, tokens_by}
 use Rattle.spelling.proofs.Spans.{cut}
 
 module _ (look : Scanner) where
-  passed : (n at room : ℕ) (s : List ℕ) → tokensBy look n at room s ≡ tokensBy look 0 (at + n) room (drop n s)
-  unfolding tokensBy
+  passed : (n at room : ℕ) (s : List ℕ) → tokens_by look n at room s ≡ tokens_by look 0 (at + n) room (drop n s)
+  unfolding tokens_by
   passed zero at room s = rw add-zero
   passed (suc n) at room [] = refl
   passed (suc n) at room (b ∷ s) =
       let e : suc at + n ≡ at + suc n = omega arith in
-      passed n (suc at) room s ∙ ap (λ i. tokensBy look 0 i room (drop n s)) e
+      passed n (suc at) room s ∙ ap (λ i. tokens_by look 0 i room (drop n s)) e
 
   -- what is left of a text after a number of bytes more
   abbrev pub left : List ℕ → ℕ → ℕ → ℕ → Answer (List Token)
-  left s at n room = tokensBy look 0 (at + 1 + n) room (drop (at + 1 + n) s)
+  left s at n room = tokens_by look 0 (at + 1 + n) room (drop (at + 1 + n) s)
 
-  pub tokens-at : (s : List ℕ) (at room : ℕ) → at < length s
-      → tokensBy look 0 at room (drop at s) ≡ onward (look (get_or s at 0) (drop (at + 1) s)) at room (left s at)
-  unfolding tokensBy
-  tokens-at s at room h =
+  pub tokens_at : (s : List ℕ) (at room : ℕ) → at < length s
+      → tokens_by look 0 at room (drop at s) ≡ onward (look (get_or s at 0) (drop (at + 1) s)) at room (left s at)
+  unfolding tokens_by
+  tokens_at s at room h =
       let e : suc at ≡ at + 1 = omega arith in
       rw (cut s at h)
       (ap (onward (look (get_or s at 0) (drop (at + 1) s)) at room)
-      (fun_ext λ n. fun_ext λ r. ap (λ i. tokensBy look n i r (drop (at + 1) s)) e ∙ passed n (at + 1) r (drop (at + 1) s) ∙ ap (tokensBy look 0 (at + 1 + n) r) (drop-drop n (at + 1) s)))
+      (fun_ext λ n. fun_ext λ r. ap (λ i. tokens_by look n i r (drop (at + 1) s)) e ∙ passed n (at + 1) r (drop (at + 1) s) ∙ ap (tokens_by look 0 (at + 1 + n) r) (drop-drop n (at + 1) s)))
 
-  pub end_step : (s : List ℕ) (at room : ℕ) → length s ≤ at → tokensBy look 0 at room (drop at s) ≡ ok []
-  unfolding tokensBy
+  pub end_step : (s : List ℕ) (at room : ℕ) → length s ≤ at → tokens_by look 0 at room (drop at s) ≡ ok []
+  unfolding tokens_by
   end_step s at room h = rw (drop_of_length-le s h)
 
 module _ (look : Scanner) (s : List ℕ) (at room : ℕ) (h : at < length s) where
-  onto : (end : ℕ) → at < end → left look s at (end - (at + 1)) room ≡ tokensBy look 0 end room (drop end s)
+  onto : (end : ℕ) → at < end → left look s at (end - (at + 1)) room ≡ tokens_by look 0 end room (drop end s)
   onto end l =
       let e : at + 1 + (end - (at + 1)) ≡ end = omega arith in
-      ap (λ i. tokensBy look 0 i room (drop i s)) e
+      ap (λ i. tokens_by look 0 i room (drop i s)) e
 
   pub blank_step : (end : ℕ) → at < end → look (get_or s at 0) (drop (at + 1) s) ≡ blank (end - (at + 1))
-      → tokensBy look 0 at room (drop at s) ≡ tokensBy look 0 end room (drop end s)
-  blank_step end l e = tokens-at look s at room h ∙ rw e (onto end l)
+      → tokens_by look 0 at room (drop at s) ≡ tokens_by look 0 end room (drop end s)
+  blank_step end l e = tokens_at look s at room h ∙ rw e (onto end l)
 
-  pub token-step : (t : Tok) (end : ℕ) → at < end → look (get_or s at 0) (drop (at + 1) s) ≡ token t (end - (at + 1))
-      → tokensBy look 0 at (suc room) (drop at s)
-      ≡ (tokensBy look 0 end room (drop end s) >>= λ ts. ok (record { at = at; tok = t } ∷ ts))
-  token-step t end l e = tokens-at look s at (suc room) h ∙ rw (e, onto end l)
+  pub token_step : (t : Tok) (end : ℕ) → at < end → look (get_or s at 0) (drop (at + 1) s) ≡ token t (end - (at + 1))
+      → tokens_by look 0 at (suc room) (drop at s)
+      ≡ (tokens_by look 0 end room (drop end s) >>= λ ts. ok (record { at = at; tok = t } ∷ ts))
+  token_step t end l e = tokens_at look s at (suc room) h ∙ rw (e, onto end l)
 
-  pub full-step : (t : Tok) (n : ℕ) → look (get_or s at 0) (drop (at + 1) s) ≡ token t n
-      → tokensBy look 0 at 0 (drop at s) ≡ refused 7 inText at
-  full-step t n e = tokens-at look s at 0 h ∙ rw e
+  pub full_step : (t : Tok) (n : ℕ) → look (get_or s at 0) (drop (at + 1) s) ≡ token t n
+      → tokens_by look 0 at 0 (drop at s) ≡ refused 7 InText at
+  full_step t n e = tokens_at look s at 0 h ∙ rw e
 
-  pub octal-full-step : (v n : ℕ) → look (get_or s at 0) (drop (at + 1) s) ≡ octalNumeral v n
-      → tokensBy look 0 at 0 (drop at s) ≡ refused 7 inText at
-  octal-full-step v n e = tokens-at look s at 0 h ∙ rw e
+  pub octal_full_step : (v n : ℕ) → look (get_or s at 0) (drop (at + 1) s) ≡ octal_numeral v n
+      → tokens_by look 0 at 0 (drop at s) ≡ refused 7 InText at
+  octal_full_step v n e = tokens_at look s at 0 h ∙ rw e
 
-  pub octal-step : (v n : ℕ) → look (get_or s at 0) (drop (at + 1) s) ≡ octalNumeral v n
-      → tokensBy look 0 at (suc room) (drop at s) ≡ refused 22 inText at
-  octal-step v n e = tokens-at look s at (suc room) h ∙ rw e
+  pub octal_step : (v n : ℕ) → look (get_or s at 0) (drop (at + 1) s) ≡ octal_numeral v n
+      → tokens_by look 0 at (suc room) (drop at s) ≡ refused 22 InText at
+  octal_step v n e = tokens_at look s at (suc room) h ∙ rw e
 
-  pub no_step : look (get_or s at 0) (drop (at + 1) s) ≡ noToken → tokensBy look 0 at room (drop at s) ≡ refused 5 inText at
-  no_step e = tokens-at look s at room h ∙ rw e
+  pub no_step : look (get_or s at 0) (drop (at + 1) s) ≡ no_token → tokens_by look 0 at room (drop at s) ≡ refused 5 InText at
+  no_step e = tokens_at look s at room h ∙ rw e
 
-  pub large-step : look (get_or s at 0) (drop (at + 1) s) ≡ tooLarge → tokensBy look 0 at room (drop at s) ≡ refused 6 inText at
-  large-step e = tokens-at look s at room h ∙ rw e
+  pub large_step : look (get_or s at 0) (drop (at + 1) s) ≡ tooLarge → tokens_by look 0 at room (drop at s) ≡ refused 6 InText at
+  large_step e = tokens_at look s at room h ∙ rw e
 
 -- tokens after others
 abbrev pub following : List Token → Answer (List Token) → Answer (List Token)
 following ts a = a >>= λ us. ok (ts ++ us)
 
-pub following-one : (ts : List Token) (t : Token) (a : Answer (List Token))
+pub following_one : (ts : List Token) (t : Token) (a : Answer (List Token))
     → following ts (a >>= λ us. ok (t ∷ us)) ≡ following (ts ++ (t ∷ [])) a
-following-one ts t (ok us) = ap ok (sym (append_snoc ts t us))
-following-one ts t (refused k i at) = refl
+following_one ts t (ok us) = ap ok (sym (append_snoc ts t us))
+following_one ts t (refused k i at) = refl

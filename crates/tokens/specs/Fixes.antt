@@ -3,27 +3,27 @@ use Rattle.std.specs.Prelude.{ℕ, ◌+◌, ◌≡◌, cond, List, ◌++◌, len
 use Rattle.std.proofs.lemmas.List.Edits.{sets}
 use Rattle.paper.specs.declared.Counted.{Counted}
 use Rattle.paper.specs.declared.Counted.TheVariants.{Count, Refused}
-use Rattle.paper.specs.Answers.{ok, ◌>>=◌, countedSays}
-use Rattle.paper.specs.Tokens.{bytes, mostTokens}
-use Rattle.paper.specs.Print.{numeralIn}
-use Rattle.paper.specs.Fixing.{oldTokens, fixed}
+use Rattle.paper.specs.Answers.{ok, ◌>>=◌, counted_says}
+use Rattle.paper.specs.Tokens.{bytes, most_tokens}
+use Rattle.paper.specs.Print.{numeral_in}
+use Rattle.paper.specs.Fixing.{old_tokens, fixed}
 use Rattle.tokens.specs.declared.found.Lexeme.{Lexeme}
 use Rattle.tokens.specs.declared.found.Lexeme.TheVariants as F
 use Rattle.tokens.specs.declared.fixing.Step.{Step}
 use Rattle.tokens.specs.declared.fixing.Step.TheVariants as S
 
 -- how it goes on after n tokens, by what is found
-abbrev pub stepFor : Lexeme → ℕ → Step
-stepFor (F.Blank end) n = S.Copied end n
-stepFor (F.Token kind end) n = cond (eqb n mostTokens) (S.Refused 7) (S.Copied end (n + 1))
-stepFor (F.Octal end) n = cond (eqb n mostTokens) (S.Refused 7) (S.InHex end (n + 1))
-stepFor F.OctalTooLarge n = S.Refused 6
-stepFor F.NoToken n = S.Refused 5
-stepFor F.TooLarge n = S.Refused 6
+abbrev pub step_for : Lexeme → ℕ → Step
+step_for (F.Blank end) n = S.Copied end n
+step_for (F.Token kind end) n = cond (eqb n most_tokens) (S.Refused 7) (S.Copied end (n + 1))
+step_for (F.Octal end) n = cond (eqb n most_tokens) (S.Refused 7) (S.InHex end (n + 1))
+step_for F.OctalTooLarge n = S.Refused 6
+step_for F.NoToken n = S.Refused 5
+step_for F.TooLarge n = S.Refused 6
 
 -- what it writes for an octal numeral
-abbrev pub hexNumeral : ℕ → List ℕ
-hexNumeral v = bytes "0x" ++ numeralIn 16 v
+abbrev pub hex_numeral : ℕ → List ℕ
+hex_numeral v = bytes "0x" ++ numeral_in 16 v
 
 -- s was written at an offset, and r is the offset after it
 pub record Put (before : List ℕ) (at : ℕ) (s after : List ℕ) (r : ℕ) : Type 0 where
@@ -36,5 +36,5 @@ StandsFirst s out (Count n) = take n out ≡ s
 StandsFirst s out (Refused k p) = Unit {0}
 
 pub record Fixes (text out : List ℕ) (r : Counted) : Type 0 where
-  pub says : countedSays r ≡ (oldTokens text >>= λ _. ok (length (fixed text)))
+  pub says : counted_says r ≡ (old_tokens text >>= λ _. ok (length (fixed text)))
   pub holds : StandsFirst (fixed text) out r

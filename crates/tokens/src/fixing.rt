@@ -1,9 +1,9 @@
 // The pass for texts on file: each octal numeral is written in hex, and every other byte as it stands. It goes by the old rules, under which an
 // octal numeral is a token as any other.
 ghost use Rattle.std.specs.Prelude.{◌≡◌, ◌+◌, ◌≤◌, length, drop};
-ghost use Rattle.paper.specs.Tokens.{mostTokens};
+ghost use Rattle.paper.specs.Tokens.{most_tokens};
 ghost use Rattle.number.specs.Values.{value};
-ghost use Rattle.tokens.specs.Fixes.{stepFor, hexNumeral, Put, Fixes};
+ghost use Rattle.tokens.specs.Fixes.{step_for, hex_numeral, Put, Fixes};
 
 use crate::found::Lexeme;
 use crate::{MOST_TOKENS, scan};
@@ -24,8 +24,8 @@ const HEX: u32 = 16;
 
 // A numeral that is too large is refused as such even where there is no room for a token.
 fn by_old_rules(found: Lexeme, n: usize) -> Step
-    requires { n ≤ mostTokens }
-    ensures { result ≡ stepFor found n }
+    requires { n ≤ most_tokens }
+    ensures { result ≡ step_for found n }
 {
     match found {
         Lexeme::Blank(end) => Step::Copied(end, n),
@@ -64,8 +64,8 @@ fn put_rest(s: &[u8], first: usize, at: usize, out: &mut [u8]) -> usize
 }
 
 fn put_hex(number: Magnitude, at: usize, out: &mut [u8]) -> usize
-    requires { at + length (hexNumeral (value number)) ≤ length out.old }
-    ensures { Put out.old at (hexNumeral (value number)) out.new result }
+    requires { at + length (hex_numeral (value number)) ≤ length out.old }
+    ensures { Put out.old at (hex_numeral (value number)) out.new result }
 {
     let announced = put(b"0x", at, out);
     let digits = number.digits_in(HEX);

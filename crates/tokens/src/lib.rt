@@ -4,9 +4,9 @@
 // that the documents say; or it tells that the tape is too small. `rows` owns the layout of a token's eight words and reads them; specs/Tape.antt reads the tape
 // back as the paper's tokens. `fixing` writes a text anew without its octal numerals.
 ghost use Rattle.std.specs.Prelude.{◌≡◌, ◌≤◌, length};
-ghost use Rattle.paper.specs.Tokens.{mostText};
-ghost use Rattle.tokens.specs.Tape.{tapeOf};
-ghost use Rattle.tokens.specs.Tokenized.{CutSays, Placed, octalRefusal, rowRefusal};
+ghost use Rattle.paper.specs.Tokens.{most_text};
+ghost use Rattle.tokens.specs.Tape.{tape_of};
+ghost use Rattle.tokens.specs.Tokenized.{CutSays, Placed, octal_refusal, row_refusal};
 
 use crate::found::Lexeme;
 use crate::rows::Row;
@@ -38,7 +38,7 @@ pub enum Cut {
 
 // An octal numeral after n tokens: one more than there is room for is told as such.
 fn octal_refused(n: usize, at: usize) -> Cut
-    ensures { result ≡ octalRefusal n at }
+    ensures { result ≡ octal_refusal n at }
 {
     if n == MOST_TOKENS {
         return Cut::Refused(refused::TOKENS_MANY, Place::Text(at));
@@ -48,7 +48,7 @@ fn octal_refused(n: usize, at: usize) -> Cut
 
 // A token after n for which there is no row.
 fn no_row(n: usize, at: usize) -> Cut
-    ensures { result ≡ rowRefusal n at }
+    ensures { result ≡ row_refusal n at }
 {
     if n == MOST_TOKENS {
         return Cut::Refused(refused::TOKENS_MANY, Place::Text(at));
@@ -59,9 +59,9 @@ fn no_row(n: usize, at: usize) -> Cut
 // Cuts a text into tokens and stores each in its row, as far as the tape has rows. The limit comes first: a tape with a row for each token that
 // a text may have is never too small.
 pub fn tokenize(text: &[u8], tape: &mut [u32]) -> Cut
-    requires { length text.now ≤ mostText }
-    ensures says { CutSays (tapeOf text.now tape.new) result }
-    ensures placed { Placed (tapeOf text.now tape.new) result }
+    requires { length text.now ≤ most_text }
+    ensures says { CutSays (tape_of text.now tape.new) result }
+    ensures placed { Placed (tape_of text.now tape.new) result }
 {
     let room = rows::room(tape.len());
     let mut n = 0;

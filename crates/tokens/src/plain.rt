@@ -1,7 +1,7 @@
 // Words and signs, which need no scan, whose answer goes through memory.
 ghost use Rattle.std.specs.Prelude.{◌≡◌, ◌+◌, ◌≤◌, ◌<◌, length, get_or, drop};
 ghost use Rattle.paper.specs.Tokens.{plain};
-ghost use Rattle.tokens.specs.Scanned.{Stands, lengthIn, plainEnd, plainScan, plainFound};
+ghost use Rattle.tokens.specs.Scanned.{Stands, length_in, plain_end, plain_scan, plain_found};
 
 use crate::signs::LENGTHS;
 use crate::{kinds, signs};
@@ -13,7 +13,7 @@ const WORD: u32 = LENGTHS * kinds::WORD + 1;
 // The code of the word or the sign at an offset, 0 where neither stands.
 pub(crate) fn code_at(text: &[u8], at: usize) -> u32
     requires { at < length text.now }
-    ensures { Stands text.now at (plain 0) (plainScan (get_or text.now at 0) (drop (at + 1) text.now)) (plainFound text.now at result) }
+    ensures { Stands text.now at (plain 0) (plain_scan (get_or text.now at 0) (drop (at + 1) text.now)) (plain_found text.now at result) }
 {
     if word::is_id_start(text[at]) {
         return WORD;
@@ -23,8 +23,8 @@ pub(crate) fn code_at(text: &[u8], at: usize) -> u32
 
 // Where it ends.
 pub(crate) fn end_of(text: &[u8], at: usize, code: u32) -> usize
-    requires { at + lengthIn code ≤ length text.now }
-    ensures { result ≡ plainEnd text.now at code }
+    requires { at + length_in code ≤ length text.now }
+    ensures { result ≡ plain_end text.now at code }
 {
     let next = at + (code % LENGTHS) as usize;
     if code / LENGTHS == kinds::WORD {

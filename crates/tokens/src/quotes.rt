@@ -1,6 +1,6 @@
 // Strings and comments.
 ghost use Rattle.std.specs.Prelude.{◌+◌, ◌<◌, length, drop};
-ghost use Rattle.paper.specs.Tokens.{scanString, scanComment, plain};
+ghost use Rattle.paper.specs.Tokens.{scan_string, scan_comment, plain};
 ghost use Rattle.tokens.specs.Scanned.{Stands};
 
 use crate::found::Lexeme;
@@ -11,7 +11,7 @@ use spelling::runs::Run;
 // After a quote: bytes other than quote and LF, and a quote.
 pub(crate) fn string(text: &[u8], at: usize) -> Lexeme
     requires { at < length text.now }
-    ensures { Stands text.now at (plain 0) (scanString (drop (at + 1) text.now)) result }
+    ensures { Stands text.now at (plain 0) (scan_string (drop (at + 1) text.now)) result }
 {
     let end = runs::run_end(text, at + 1, Run::Quoted);
     if text.len() <= end {
@@ -26,7 +26,7 @@ pub(crate) fn string(text: &[u8], at: usize) -> Lexeme
 // After a slash: another one, and what is left of the line.
 pub(crate) fn comment(text: &[u8], at: usize) -> Lexeme
     requires { at < length text.now }
-    ensures { Stands text.now at (plain 0) (scanComment (drop (at + 1) text.now)) result }
+    ensures { Stands text.now at (plain 0) (scan_comment (drop (at + 1) text.now)) result }
 {
     let next = at + 1;
     if text.len() <= next {

@@ -4,8 +4,8 @@
 // specs/Tape.antt has the definition.
 ghost use Rattle.std.specs.Prelude.{◌≡◌, ◌^◌, ◌<◌};
 ghost use Rattle.std.proofs.lemmas.List.Edits.{sets};
-ghost use Rattle.number.specs.Bases.{literalMeant};
-ghost use Rattle.tokens.specs.Tape.{Has, RoomFor, row_at, kindAt, start_at, end_at, literalAt, row_of, PutPlain};
+ghost use Rattle.number.specs.Bases.{literal_meant};
+ghost use Rattle.tokens.specs.Tape.{Has, RoomFor, row_at, kind_at, start_at, end_at, literal_at, row_of, PutPlain};
 
 use crate::MOST_TOKENS;
 use number::{Base, Literal, Magnitude};
@@ -37,7 +37,7 @@ pub(crate) fn room(words: usize) -> usize
 // The kind of the token of an index.
 pub fn kind_at(tape: &[u32], token: usize) -> u32
     requires { Has tape.now token }
-    ensures { result ≡ kindAt tape.now token }
+    ensures { result ≡ kind_at tape.now token }
 {
     tape[token * Row::WORDS]
 }
@@ -61,7 +61,7 @@ pub fn end_at(tape: &[u32], token: usize) -> u32
 // A numeral's number, and its base.
 pub fn literal_at(tape: &[u32], token: usize) -> Literal
     requires { Has tape.now token }
-    ensures { literalMeant result ≡ literalAt tape.now token }
+    ensures { literal_meant result ≡ literal_at tape.now token }
 {
     let at = token * Row::WORDS;
     Literal {

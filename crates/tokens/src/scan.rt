@@ -2,9 +2,9 @@
 ghost use Rattle.std.specs.Prelude.{◌≡◌, ◌+◌, ◌<◌, length, get_or, drop};
 ghost use Rattle.paper.specs.Tokens as paper;
 ghost use Rattle.number.specs.Values.{value};
-ghost use Rattle.number.specs.Bases.{literalMeant};
-ghost use Rattle.spelling.specs.Numerals.{notationMeant};
-ghost use Rattle.tokens.specs.Scanned.{Stands, fits_as, literalFor, tooLargeAs};
+ghost use Rattle.number.specs.Bases.{literal_meant};
+ghost use Rattle.spelling.specs.Numerals.{notation_meant};
+ghost use Rattle.tokens.specs.Scanned.{Stands, fits_as, literal_for, too_large_as};
 
 use crate::found::Lexeme;
 use crate::{kinds, quotes, signs};
@@ -21,7 +21,7 @@ pub struct Scanned {
 }
 
 fn unnumbered(found: Lexeme) -> Scanned
-    ensures { (result.found ≡ found) × (literalMeant result.literal ≡ paper.plain 0) }
+    ensures { (result.found ≡ found) × (literal_meant result.literal ≡ paper.plain 0) }
 {
     Scanned {
         found: found,
@@ -31,7 +31,7 @@ fn unnumbered(found: Lexeme) -> Scanned
 
 fn word(text: &[u8], at: usize) -> Lexeme
     requires { at < length text.now }
-    ensures { Stands text.now at (paper.plain 0) (paper.scanWord (get_or text.now at 0) (drop (at + 1) text.now)) result }
+    ensures { Stands text.now at (paper.plain 0) (paper.scan_word (get_or text.now at 0) (drop (at + 1) text.now)) result }
 {
     let next = at + 1;
     Lexeme::Token(kinds::WORD, next + spelling::word::word_more(text, next))
@@ -39,7 +39,7 @@ fn word(text: &[u8], at: usize) -> Lexeme
 
 // A numeral whose number fits, up to an offset.
 fn fitting(notation: Notation, number: Magnitude, end: usize) -> Scanned
-    ensures { (result.found ≡ fits_as notation end) × (literalMeant result.literal ≡ literalFor (notationMeant notation) (value number)) }
+    ensures { (result.found ≡ fits_as notation end) × (literal_meant result.literal ≡ literal_for (notation_meant notation) (value number)) }
 {
     match notation {
         Notation::Based(base) => Scanned {
@@ -60,7 +60,7 @@ fn fitting(notation: Notation, number: Magnitude, end: usize) -> Scanned
 }
 
 fn too_large(notation: Notation) -> Lexeme
-    ensures { result ≡ tooLargeAs notation }
+    ensures { result ≡ too_large_as notation }
 {
     match notation {
         Notation::Based(_) => Lexeme::TooLarge,
@@ -70,7 +70,7 @@ fn too_large(notation: Notation) -> Lexeme
 
 fn numeral(text: &[u8], at: usize) -> Scanned
     requires { at < length text.now }
-    ensures { Stands text.now at (literalMeant result.literal) (paper.scanNumeral (get_or text.now at 0) (drop (at + 1) text.now)) result.found }
+    ensures { Stands text.now at (literal_meant result.literal) (paper.scan_numeral (get_or text.now at 0) (drop (at + 1) text.now)) result.found }
 {
     let end = runs::run_end(text, at + 1, Run::Name);
     let read = numerals::read_numeral(&text[at..end]);
@@ -87,7 +87,7 @@ fn numeral(text: &[u8], at: usize) -> Scanned
 // What stands at an offset.
 pub(crate) fn scan(text: &[u8], at: usize) -> Scanned
     requires { at < length text.now }
-    ensures { Stands text.now at (literalMeant result.literal) (paper.scan (get_or text.now at 0) (drop (at + 1) text.now)) result.found }
+    ensures { Stands text.now at (literal_meant result.literal) (paper.scan (get_or text.now at 0) (drop (at + 1) text.now)) result.found }
 {
     let byte = text[at];
     if bytes::is_blank(byte) {

@@ -4,8 +4,8 @@
 // The signs that begin with a byte are one number too: the second byte of the one that takes two, PAIR times its code, and ALONE times the code of
 // the byte by itself. Where no sign takes two, the second byte is 0, and the codes are the same.
 ghost use Rattle.std.specs.Prelude.{◌≡◌, ◌+◌, ◌<◌, length, get_or, drop};
-ghost use Rattle.paper.specs.Tokens.{scanSign, plain};
-ghost use Rattle.tokens.specs.Scanned.{Stands, Begins, Coded, signFound};
+ghost use Rattle.paper.specs.Tokens.{scan_sign, plain};
+ghost use Rattle.tokens.specs.Scanned.{Stands, Begins, Coded, sign_found};
 
 use crate::found::Lexeme;
 use crate::kinds;
@@ -81,7 +81,7 @@ fn byte_or_zero(text: &[u8], at: usize) -> u8
 // The code of the longest sign at an offset.
 pub(crate) fn sign_code(text: &[u8], at: usize) -> u32
     requires { at < length text.now }
-    ensures stands { Stands text.now at (plain 0) (scanSign (get_or text.now at 0) (drop (at + 1) text.now)) (signFound at result) }
+    ensures stands { Stands text.now at (plain 0) (scan_sign (get_or text.now at 0) (drop (at + 1) text.now)) (sign_found at result) }
     ensures coded { Coded result 2 }
 {
     let signs = signs_from(text[at]);
@@ -94,7 +94,7 @@ pub(crate) fn sign_code(text: &[u8], at: usize) -> u32
 // The longest sign at an offset.
 pub(crate) fn sign(text: &[u8], at: usize) -> Lexeme
     requires { at < length text.now }
-    ensures { Stands text.now at (plain 0) (scanSign (get_or text.now at 0) (drop (at + 1) text.now)) result }
+    ensures { Stands text.now at (plain 0) (scan_sign (get_or text.now at 0) (drop (at + 1) text.now)) result }
 {
     let code = sign_code(text, at);
     if code == 0 {

@@ -2,12 +2,12 @@
 use Prim.Native.Nat.{ℕ, zero, suc, ◌<◌}
 use native.Mathlib.Omega.{arith}
 use mathlib.Core.Path.{◌≡◌, refl}
-use Rattle.paper.specs.Code.{field_of, fieldNo}
+use Rattle.paper.specs.Code.{field_of, field_no}
 
-pub field-number : (f : ℕ) → f < 5 → fieldNo (field_of f) ≡ f
-field-number zero h = refl
-field-number (suc zero) h = refl
-field-number (suc (suc zero)) h = refl
-field-number (suc (suc (suc zero))) h = refl
-field-number (suc (suc (suc (suc zero)))) h = refl
-field-number (suc (suc (suc (suc (suc f))))) h = absurd (omega arith)
+pub field_number : (f : ℕ) → f < 5 → field_no (field_of f) ≡ f
+field_number zero h = refl
+field_number (suc zero) h = refl
+field_number (suc (suc zero)) h = refl
+field_number (suc (suc (suc zero))) h = refl
+field_number (suc (suc (suc (suc zero)))) h = refl
+field_number (suc (suc (suc (suc (suc f))))) h = absurd (omega arith)

@@ -4,13 +4,13 @@ use Rattle.trees.specs.declared.node.Node.{Node}
 use Rattle.trees.specs.declared.node.Node.TheVariants.{Without, Before, Between}
 use Rattle.trees.specs.declared.node.Comparison.{Comparison}
 use Rattle.trees.specs.declared.node.Operator.TheVariants.{Compares}
-use Rattle.trees.specs.Nodes.{nodeAt}
+use Rattle.trees.specs.Nodes.{node_at}
 
 -- the node is a comparison, and its left operand stands there
 abbrev pub ComparesAt : List ℕ → ℕ → ℕ → Type 0
-ComparesAt nodes at left = (c : Comparison) × (Between (Compares c) left ≡ nodeAt nodes at)
+ComparesAt nodes at left = (c : Comparison) × (Between (Compares c) left ≡ node_at nodes at)
 
-abbrev pub isLeaf : Node → Bool
-isLeaf Without = true
-isLeaf (Before o) = false
-isLeaf (Between o left) = false
+abbrev pub is_leaf : Node → Bool
+is_leaf Without = true
+is_leaf (Before o) = false
+is_leaf (Between o left) = false

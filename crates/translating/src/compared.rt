@@ -1,10 +1,10 @@
 // A comparison of two leaves, which almost every comparison is: both are written where they stand, without a walk.
 ghost use Rattle.std.specs.Prelude.{◌≡◌, true, ◌&&◌, List, ℕ, ◌+◌, ◌*◌, ◌-◌, ◌≤◌, length};
 ghost use Rattle.paper.specs.Translating.{code_of};
-ghost use Rattle.keys.specs.Says.{keysIn};
-ghost use Rattle.trees.specs.Nodes.{nodeAt};
-ghost use Rattle.trees.specs.Standing.{treeAt};
-ghost use Rattle.translating.specs.Compared.{ComparesAt, isLeaf};
+ghost use Rattle.keys.specs.Says.{keys_in};
+ghost use Rattle.trees.specs.Nodes.{node_at};
+ghost use Rattle.trees.specs.Standing.{tree_at};
+ghost use Rattle.translating.specs.Compared.{ComparesAt, is_leaf};
 ghost use Rattle.translating.specs.Writing.{Writes, Wrote};
 
 use crate::{change, own};
@@ -12,7 +12,7 @@ use trees::Node;
 
 fn is_leaf(nodes: &[u32], at: usize) -> bool
     requires { at * 8 + 8 ≤ length nodes.now }
-    ensures { result ≡ isLeaf (nodeAt nodes.now at) }
+    ensures { result ≡ is_leaf (node_at nodes.now at) }
 {
     let n = Node::read(nodes, at);
     match n {
@@ -24,7 +24,7 @@ fn is_leaf(nodes: &[u32], at: usize) -> bool
 
 pub(crate) fn both_leaves(nodes: &[u32], left: usize, right: usize) -> bool
     requires { (left * 8 + 8 ≤ length nodes.now) × (right * 8 + 8 ≤ length nodes.now) }
-    ensures { result ≡ (isLeaf (nodeAt nodes.now left) && isLeaf (nodeAt nodes.now right)) }
+    ensures { result ≡ (is_leaf (node_at nodes.now left) && is_leaf (node_at nodes.now right)) }
 {
     if is_leaf(nodes, left) {
         return is_leaf(nodes, right);
@@ -42,10 +42,10 @@ pub(crate) fn write_compared(
     code: &mut [u8],
 ) -> usize
     requires compares_at { ComparesAt nodes.now at left }
-    requires at_value { (isLeaf (nodeAt nodes.now left) && isLeaf (nodeAt nodes.now (at - 1))) ≡ true }
+    requires at_value { (is_leaf (node_at nodes.now left) && is_leaf (node_at nodes.now (at - 1))) ≡ true }
     requires at_in_bounds { (at * 8 + 8 ≤ length nodes.now) × ((text : List ℕ) × Writes list.now nodes.now code.old at i text) }
     ensures { (text : List ℕ) → Writes list.now nodes.now code.old at i text
-        → Wrote code.old i (code_of (keysIn list.now) (treeAt text nodes.now at)) code.new result }
+        → Wrote code.old i (code_of (keys_in list.now) (tree_at text nodes.now at)) code.new result }
 {
     let changes = change::changes_at(list, nodes, left, at - 1);
     let change_left = changes.left;

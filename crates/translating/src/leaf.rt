@@ -2,7 +2,7 @@
 ghost use Rattle.std.specs.Prelude.{◌+◌, ◌*◌, ◌≤◌, length};
 ghost use Rattle.trees.specs.Marks.{operand_at};
 ghost use Rattle.translating.specs.Writing.{Room, Wrote};
-ghost use Rattle.translating.specs.Own.{operandCode};
+ghost use Rattle.translating.specs.Own.{operand_code};
 
 use crate::put;
 use number::Magnitude;
@@ -11,8 +11,8 @@ use trees::Operand;
 
 // By its marks. A name of nothing, which no typed tree has, writes nothing.
 pub(crate) fn write_leaf(nodes: &[u32], at: usize, i: usize, code: &mut [u8]) -> usize
-    requires { (at * 8 + 8 ≤ length nodes.now) × Room code.old i (operandCode (operand_at nodes.now at)) }
-    ensures { Wrote code.old i (operandCode (operand_at nodes.now at)) code.new result }
+    requires { (at * 8 + 8 ≤ length nodes.now) × Room code.old i (operand_code (operand_at nodes.now at)) }
+    ensures { Wrote code.old i (operand_code (operand_at nodes.now at)) code.new result }
 {
     let operand = Operand::read(nodes, at);
     match operand {

@@ -3,9 +3,9 @@ ghost use Rattle.std.specs.Prelude.{◌≡◌};
 ghost use Rattle.paper.specs.Meaning.{connective};
 ghost use Rattle.paper.specs.Code.{parts_of, connects, skip};
 ghost use Rattle.paper.specs.Translating.{operation};
-ghost use Rattle.trees.specs.Standing.{prefixMeant, joinMeant};
+ghost use Rattle.trees.specs.Standing.{prefix_meant, join_meant};
 ghost use Rattle.translating.specs.Own as spec;
-ghost use Rattle.translating.specs.Writing.{partsMeant};
+ghost use Rattle.translating.specs.Writing.{parts_meant};
 
 use crate::put;
 use crate::put::Parts;
@@ -13,7 +13,7 @@ use paper::operations;
 use trees::{Join, Operator, Prefix};
 
 pub(crate) fn prefix_parts(o: Prefix) -> Parts
-    ensures { partsMeant result ≡ parts_of (operation (prefixMeant o)) }
+    ensures { parts_meant result ≡ parts_of (operation (prefix_meant o)) }
 {
     match o {
         Prefix::Not => put::plain(operations::NOT, 0, 0),
@@ -23,7 +23,7 @@ pub(crate) fn prefix_parts(o: Prefix) -> Parts
 
 // ";" and "&&" both give "and".
 fn join_parts(o: Join) -> Parts
-    ensures { partsMeant result ≡ parts_of (connects (connective (joinMeant o))) }
+    ensures { parts_meant result ≡ parts_of (connects (connective (join_meant o))) }
 {
     match o {
         Join::Sequel => put::plain(operations::AND, 0, 0),
@@ -35,7 +35,7 @@ fn join_parts(o: Join) -> Parts
 
 // "and" is settled by a left operand that is false, "or" by one that is true, "implies" by one that is false, and is then true.
 pub(crate) fn skip_parts(o: Join, over: usize) -> Parts
-    ensures { partsMeant result ≡ parts_of (skip (spec.settled (connective (joinMeant o)) over)) }
+    ensures { parts_meant result ≡ parts_of (skip (spec.settled (connective (join_meant o)) over)) }
 {
     match o {
         Join::Sequel => put::skip(false, false, over),
@@ -46,7 +46,7 @@ pub(crate) fn skip_parts(o: Join, over: usize) -> Parts
 }
 
 pub(crate) fn operator_parts(o: Operator) -> Parts
-    ensures { partsMeant result ≡ parts_of (spec.operator o) }
+    ensures { parts_meant result ≡ parts_of (spec.operator o) }
 {
     match o {
         Operator::Joins(j) => join_parts(j),

@@ -1,14 +1,14 @@
 // The skip of a join, which stands directly after the left operand's code.
 ghost use Rattle.std.specs.Prelude.{◌+◌, ◌*◌, ◌≤◌, length};
 ghost use Rattle.translating.specs.Writing.{Room, Wrote};
-ghost use Rattle.translating.specs.Own.{operatorSkips, skipsAt};
+ghost use Rattle.translating.specs.Own.{operator_skips, skips_at};
 
 use crate::{operator, put};
 use trees::{Node, Operator};
 
 fn write_operator_skip(o: Operator, over: usize, i: usize, code: &mut [u8]) -> usize
-    requires { Room code.old i (operatorSkips o over) }
-    ensures { Wrote code.old i (operatorSkips o over) code.new result }
+    requires { Room code.old i (operator_skips o over) }
+    ensures { Wrote code.old i (operator_skips o over) code.new result }
 {
     match o {
         Operator::Joins(j) => put::write(operator::skip_parts(j, over), i, code),
@@ -18,8 +18,8 @@ fn write_operator_skip(o: Operator, over: usize, i: usize, code: &mut [u8]) -> u
 
 // Writes it, over so many instructions, as instruction number `i`, and gives the number after it. Of a node that is no join nothing is written.
 pub(crate) fn write_skip(nodes: &[u32], at: usize, over: usize, i: usize, code: &mut [u8]) -> usize
-    requires { (at * 8 + 8 ≤ length nodes.now) × Room code.old i (skipsAt nodes.now at over) }
-    ensures { Wrote code.old i (skipsAt nodes.now at over) code.new result }
+    requires { (at * 8 + 8 ≤ length nodes.now) × Room code.old i (skips_at nodes.now at over) }
+    ensures { Wrote code.old i (skips_at nodes.now at over) code.new result }
 {
     let n = Node::read(nodes, at);
     match n {

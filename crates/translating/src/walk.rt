@@ -2,8 +2,8 @@
 // after the left operand, whose place is left free until it is known how far the skip reaches.
 ghost use Rattle.std.specs.Prelude.{List, ℕ, ◌+◌, ◌*◌, ◌≤◌, length};
 ghost use Rattle.paper.specs.Translating.{code_of};
-ghost use Rattle.keys.specs.Says.{keysIn};
-ghost use Rattle.trees.specs.Standing.{treeAt};
+ghost use Rattle.keys.specs.Says.{keys_in};
+ghost use Rattle.trees.specs.Standing.{tree_at};
 ghost use Rattle.translating.specs.Compared.{ComparesAt};
 ghost use Rattle.translating.specs.Writing.{Writes, Wrote};
 
@@ -16,7 +16,7 @@ use trees::{Node, Operator};
 pub fn write_code(list: &[u8], nodes: &[u32], at: usize, i: usize, code: &mut [u8]) -> usize
     requires { (at * 8 + 8 ≤ length nodes.now) × ((text : List ℕ) × Writes list.now nodes.now code.old at i text) }
     ensures { (text : List ℕ) → Writes list.now nodes.now code.old at i text
-        → Wrote code.old i (code_of (keysIn list.now) (treeAt text nodes.now at)) code.new result }
+        → Wrote code.old i (code_of (keys_in list.now) (tree_at text nodes.now at)) code.new result }
 {
     let n = Node::read(nodes, at);
     let Node::Between(o, left) = n else {
@@ -33,7 +33,7 @@ pub fn write_code(list: &[u8], nodes: &[u32], at: usize, i: usize, code: &mut [u
 fn write_tree(list: &[u8], nodes: &[u32], at: usize, i: usize, code: &mut [u8]) -> usize
     requires { (at * 8 + 8 ≤ length nodes.now) × ((text : List ℕ) × Writes list.now nodes.now code.old at i text) }
     ensures { (text : List ℕ) → Writes list.now nodes.now code.old at i text
-        → Wrote code.old i (code_of (keysIn list.now) (treeAt text nodes.now at)) code.new result }
+        → Wrote code.old i (code_of (keys_in list.now) (tree_at text nodes.now at)) code.new result }
 {
     let n = Node::read(nodes, at);
     match n {
@@ -69,7 +69,7 @@ fn write_comparison(
     requires compares_at { ComparesAt nodes.now at left }
     requires at_in_bounds { (at * 8 + 8 ≤ length nodes.now) × ((text : List ℕ) × Writes list.now nodes.now code.old at i text) }
     ensures { (text : List ℕ) → Writes list.now nodes.now code.old at i text
-        → Wrote code.old i (code_of (keysIn list.now) (treeAt text nodes.now at)) code.new result }
+        → Wrote code.old i (code_of (keys_in list.now) (tree_at text nodes.now at)) code.new result }
 {
     if compared::both_leaves(nodes, left, at - 1) {
         return compared::write_compared(list, nodes, at, left, i, code);

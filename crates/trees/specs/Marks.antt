@@ -3,40 +3,40 @@
 -- priority; 0 stands for a name of nothing.
 use Rattle.std.specs.Prelude.{ℕ, ◌+◌, ◌*◌, ◌-◌, ◌<◌, ◌≡◌, cond, List, get_or, set, eqb, ltb}
 use Rattle.std.proofs.Math.Option.{Option, none, some}
-use Rattle.paper.specs.Tokens.{bytes, sameBytes}
+use Rattle.paper.specs.Tokens.{bytes, same_bytes}
 use Rattle.paper.specs.Keys as P
 use Rattle.paper.specs.Keys.{find}
 use Rattle.paper.specs.Types as T
-use Rattle.paper.specs.Types.{fieldNamed}
-use Rattle.paper.specs.Code.{fieldNo}
+use Rattle.paper.specs.Types.{field_named}
+use Rattle.paper.specs.Code.{field_no}
 use Rattle.trees.specs.declared.node.Leaf.{Leaf}
 use Rattle.trees.specs.declared.node.Leaf.TheVariants as L
 use Rattle.trees.specs.declared.marks.Operand.{Operand}
 use Rattle.trees.specs.declared.marks.Operand.TheVariants.{Truth, Number, Key, Field, Attribute, UnknownKey, UnknownField}
-use Rattle.trees.specs.Nodes.{leafAt}
+use Rattle.trees.specs.Nodes.{leaf_at}
 use Rattle.trees.specs.Standing.{spelling}
 
 -- what marks are read as
 
-abbrev pub keyMarked : ℕ → Operand
-keyMarked key = cond (eqb key 0) UnknownKey (Key (key - 1))
+abbrev pub key_marked : ℕ → Operand
+key_marked key = cond (eqb key 0) UnknownKey (Key (key - 1))
 
-abbrev pub fieldMarked : ℕ → ℕ → Operand
-fieldMarked key name =
+abbrev pub field_marked : ℕ → ℕ → Operand
+field_marked key name =
     cond (eqb key 0) UnknownKey
     (cond (eqb name 0) UnknownField
     (cond (ltb 5 name) UnknownField (Field (key - 1) (name - 1))))
 
-abbrev pub operandOf : Leaf → ℕ → ℕ → Operand
-operandOf (L.Truth b) key name = Truth b
-operandOf (L.Number base a b c d) key name = Number a b c d
-operandOf (L.Key w) key name = keyMarked key
-operandOf (L.Field w f) key name = fieldMarked key name
-operandOf (L.Attribute f) key name = Attribute (eqb name 1)
+abbrev pub operand_of : Leaf → ℕ → ℕ → Operand
+operand_of (L.Truth b) key name = Truth b
+operand_of (L.Number base a b c d) key name = Number a b c d
+operand_of (L.Key w) key name = key_marked key
+operand_of (L.Field w f) key name = field_marked key name
+operand_of (L.Attribute f) key name = Attribute (eqb name 1)
 
 unfoldable pub operand_at : List ℕ → ℕ → Operand
-unfolding leafAt
-operand_at nodes i = operandOf (leafAt nodes i) (get_or nodes (i * 8 + 2) 0) (get_or nodes (i * 8 + 7) 0)
+unfolding leaf_at
+operand_at nodes i = operand_of (leaf_at nodes i) (get_or nodes (i * 8 + 2) 0) (get_or nodes (i * 8 + 7) 0)
 
 -- the place of the name after "::"
 abbrev pub name_at : List ℕ → ℕ → ℕ
@@ -44,38 +44,38 @@ name_at nodes i = get_or nodes (i * 8 + 5) 0
 
 -- what names are by a list of keys
 
-abbrev pub keyFound : Option ℕ → Operand
-keyFound none = UnknownKey
-keyFound (some k) = Key k
+abbrev pub key_found : Option ℕ → Operand
+key_found none = UnknownKey
+key_found (some k) = Key k
 
-abbrev pub fieldFound : Option ℕ → Option T.Field → Operand
-fieldFound none f = UnknownKey
-fieldFound (some k) none = UnknownField
-fieldFound (some k) (some f) = Field k (fieldNo f)
+abbrev pub field_found : Option ℕ → Option T.Field → Operand
+field_found none f = UnknownKey
+field_found (some k) none = UnknownField
+field_found (some k) (some f) = Field k (field_no f)
 
-abbrev pub operandOn : List P.Key → List ℕ → Leaf → Operand
-operandOn ks text (L.Truth b) = Truth b
-operandOn ks text (L.Number base a b c d) = Number a b c d
-operandOn ks text (L.Key w) = keyFound (find ks (spelling text w))
-operandOn ks text (L.Field w f) = fieldFound (find ks (spelling text w)) (fieldNamed (spelling text f))
-operandOn ks text (L.Attribute f) = Attribute (sameBytes (spelling text f) (bytes "priority"))
+abbrev pub operand_on : List P.Key → List ℕ → Leaf → Operand
+operand_on ks text (L.Truth b) = Truth b
+operand_on ks text (L.Number base a b c d) = Number a b c d
+operand_on ks text (L.Key w) = key_found (find ks (spelling text w))
+operand_on ks text (L.Field w f) = field_found (find ks (spelling text w)) (field_named (spelling text f))
+operand_on ks text (L.Attribute f) = Attribute (same_bytes (spelling text f) (bytes "priority"))
 
 -- the marks of every node below n are those of its names
 abbrev pub Marked : List P.Key → List ℕ → List ℕ → ℕ → Type 0
-Marked ks text nodes n = (i : ℕ) → i < n → operand_at nodes i ≡ operandOn ks text (leafAt nodes i)
+Marked ks text nodes n = (i : ℕ) → i < n → operand_at nodes i ≡ operand_on ks text (leaf_at nodes i)
 
 -- writing
 
 abbrev pub marking : List ℕ → ℕ → ℕ → ℕ → List ℕ
 marking nodes i key name = set (set nodes (i * 8 + 2) key) (i * 8 + 7) name
 
-abbrev pub keyMark : Option ℕ → ℕ
-keyMark none = 0
-keyMark (some k) = k + 1
+abbrev pub key_mark : Option ℕ → ℕ
+key_mark none = 0
+key_mark (some k) = k + 1
 
-abbrev pub fieldMark : Option T.Field → ℕ
-fieldMark none = 0
-fieldMark (some f) = fieldNo f + 1
+abbrev pub field_mark : Option T.Field → ℕ
+field_mark none = 0
+field_mark (some f) = field_no f + 1
 
 -- a leaf that has a name
 abbrev pub Names : Leaf → Type 0

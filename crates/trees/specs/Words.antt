@@ -6,54 +6,54 @@ use Rattle.paper.specs.Grammar.{Tree, truth, number, key, field, attribute, pref
 use Rattle.paper.specs.Code.{bit}
 use Rattle.trees.specs.declared.node.Operator.{Operator}
 use Rattle.trees.specs.declared.node.Operator.TheVariants.{Joins, Compares}
-use Rattle.trees.specs.Standing.{joinMeant, comparisonMeant}
+use Rattle.trees.specs.Standing.{join_meant, comparison_meant}
 
 -- the number of a node's kind: 0 truth, 1 number, 2 key, 3 field, 4 attribute, then the operators
-abbrev pub prefixNo : Prefix → ℕ
-prefixNo notSign = 5
-prefixNo minusSign = 6
+abbrev pub prefix_no : Prefix → ℕ
+prefix_no notSign = 5
+prefix_no minusSign = 6
 
-abbrev pub joinNo : Join → ℕ
-joinNo sequel = 7
-joinNo implies = 8
-joinNo or_else = 9
-joinNo andAlso = 10
+abbrev pub join_no : Join → ℕ
+join_no sequel = 7
+join_no implies = 8
+join_no or_else = 9
+join_no andAlso = 10
 
-abbrev pub comparisonNo : Comparison → ℕ
-comparisonNo equal = 11
-comparisonNo unequal = 12
-comparisonNo greater = 13
-comparisonNo at_least = 14
-comparisonNo less = 15
-comparisonNo at_most = 16
+abbrev pub comparison_no : Comparison → ℕ
+comparison_no equal = 11
+comparison_no unequal = 12
+comparison_no greater = 13
+comparison_no at_least = 14
+comparison_no less = 15
+comparison_no at_most = 16
 
-abbrev pub operatorNo : Operator → ℕ
-operatorNo (Joins o) = joinNo (joinMeant o)
-operatorNo (Compares c) = comparisonNo (comparisonMeant c)
+abbrev pub operator_no : Operator → ℕ
+operator_no (Joins o) = join_no (join_meant o)
+operator_no (Compares c) = comparison_no (comparison_meant c)
 
 abbrev pub limb : ℕ → ℕ → ℕ
 limb n k = n / 2 ^ (32 * k) % 2 ^ 32
 
-abbrev pub leafWords : ℕ → ℕ → ℕ → ℕ → ℕ → ℕ → List ℕ
-leafWords kind at a b c d = kind ∷ at ∷ 0 ∷ a ∷ b ∷ c ∷ d ∷ 0 ∷ []
+abbrev pub leaf_words : ℕ → ℕ → ℕ → ℕ → ℕ → ℕ → List ℕ
+leaf_words kind at a b c d = kind ∷ at ∷ 0 ∷ a ∷ b ∷ c ∷ d ∷ 0 ∷ []
 
 -- a number's base stands where an operator has its left operand
-abbrev pub numberWords : ℕ → ℕ → ℕ → ℕ → ℕ → ℕ → List ℕ
-numberWords at base a b c d = 1 ∷ at ∷ base ∷ a ∷ b ∷ c ∷ d ∷ 0 ∷ []
+abbrev pub number_words : ℕ → ℕ → ℕ → ℕ → ℕ → ℕ → List ℕ
+number_words at base a b c d = 1 ∷ at ∷ base ∷ a ∷ b ∷ c ∷ d ∷ 0 ∷ []
 
-abbrev pub operatorWords : ℕ → ℕ → ℕ → List ℕ
-operatorWords kind at left = kind ∷ at ∷ left ∷ 0 ∷ 0 ∷ 0 ∷ 0 ∷ 0 ∷ []
+abbrev pub operator_words : ℕ → ℕ → ℕ → List ℕ
+operator_words kind at left = kind ∷ at ∷ left ∷ 0 ∷ 0 ∷ 0 ∷ 0 ∷ 0 ∷ []
 
 -- the words of a tree whose first node has the number b
 abbrev pub words : ℕ → Tree → List ℕ
-words b (truth at t) = leafWords 0 at (bit t) 0 0 0
-words b (number at n) = numberWords at (radix n.base) (limb n.value 0) (limb n.value 1) (limb n.value 2) (limb n.value 3)
-words b (key at w) = leafWords 2 at at (at + length w) 0 0
-words b (field at w to f) = leafWords 3 at at (at + length w) to (to + length f)
-words b (attribute at to f) = leafWords 4 at 0 0 to (to + length f)
-words b (prefixed at o t) = words b t ++ operatorWords (prefixNo o) at 0
-words b (joined at o l r) = words b l ++ words (b + nodes l) r ++ operatorWords (joinNo o) at (b + nodes l - 1)
-words b (compared at c l r) = words b l ++ words (b + nodes l) r ++ operatorWords (comparisonNo c) at (b + nodes l - 1)
+words b (truth at t) = leaf_words 0 at (bit t) 0 0 0
+words b (number at n) = number_words at (radix n.base) (limb n.value 0) (limb n.value 1) (limb n.value 2) (limb n.value 3)
+words b (key at w) = leaf_words 2 at at (at + length w) 0 0
+words b (field at w to f) = leaf_words 3 at at (at + length w) to (to + length f)
+words b (attribute at to f) = leaf_words 4 at 0 0 to (to + length f)
+words b (prefixed at o t) = words b t ++ operator_words (prefix_no o) at 0
+words b (joined at o l r) = words b l ++ words (b + nodes l) r ++ operator_words (join_no o) at (b + nodes l - 1)
+words b (compared at c l r) = words b l ++ words (b + nodes l) r ++ operator_words (comparison_no c) at (b + nodes l - 1)
 
 -- a tree's words stand in the slice, its first node at number b
 abbrev pub Stands : List ℕ → ℕ → Tree → Type 0

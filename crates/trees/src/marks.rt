@@ -1,7 +1,7 @@
 // The marks of names. A leaf's names are looked up once, and what they name is marked in two words that such a leaf has free: the third,
 // where an operator has its left operand and a number its base, and the last. So the walks read no text.
 ghost use Rattle.std.specs.Prelude.{◌≡◌, ◌+◌, ◌*◌, ◌≤◌, length};
-ghost use Rattle.trees.specs.Marks.{operandOf, operand_at, keyMarked, fieldMarked, marking, name_at};
+ghost use Rattle.trees.specs.Marks.{operand_of, operand_at, key_marked, field_marked, marking, name_at};
 
 use crate::node;
 use crate::node::{Leaf, Node};
@@ -26,7 +26,7 @@ pub enum Operand {
 const MOST_FIELD: u32 = 5;
 
 fn key_marked(key: u32) -> Operand
-    ensures { result ≡ keyMarked key }
+    ensures { result ≡ key_marked key }
 {
     if key == 0 {
         return Operand::UnknownKey;
@@ -35,7 +35,7 @@ fn key_marked(key: u32) -> Operand
 }
 
 fn field_marked(key: u32, name: u32) -> Operand
-    ensures { result ≡ fieldMarked key name }
+    ensures { result ≡ field_marked key name }
 {
     if key == 0 {
         return Operand::UnknownKey;
@@ -50,7 +50,7 @@ fn field_marked(key: u32, name: u32) -> Operand
 }
 
 fn operand_of(leaf: Leaf, key: u32, name: u32) -> Operand
-    ensures { result ≡ operandOf leaf key name }
+    ensures { result ≡ operand_of leaf key name }
 {
     match leaf {
         Leaf::Truth(b) => Operand::Truth(b),

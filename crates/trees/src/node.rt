@@ -1,8 +1,8 @@
 // A node, as an enum.
 ghost use Rattle.std.specs.Prelude.{◌≡◌, cond, ◌+◌, ◌*◌, ◌≤◌, eqb, ltb, length};
 ghost use Rattle.paper.specs.Code as C;
-ghost use Rattle.trees.specs.Standing.{comparisonMeant};
-ghost use Rattle.trees.specs.Nodes.{leafOf, leafAt, node_of, nodeAt, placeAt, prefix_of, join_of, comparisonOf, operatorOf};
+ghost use Rattle.trees.specs.Standing.{comparison_meant};
+ghost use Rattle.trees.specs.Nodes.{leaf_of, leaf_at, node_of, node_at, place_at, prefix_of, join_of, comparison_of, operator_of};
 
 use crate::kinds;
 use number::Base;
@@ -34,8 +34,8 @@ pub enum Comparison {
 impl Comparison {
     // The paper's number.
     pub fn number(self) -> u8
-        ensures numbered { result ≡ C.comparisonNo (comparisonMeant self) }
-        ensures meant { C.comparisonOf result ≡ comparisonMeant self }
+        ensures numbered { result ≡ C.comparison_no (comparison_meant self) }
+        ensures meant { C.comparison_of result ≡ comparison_meant self }
     {
         match self {
             Comparison::Equal => 0,
@@ -116,7 +116,7 @@ fn join_of(kind: u32) -> Join
 }
 
 fn comparison_of(kind: u32) -> Comparison
-    ensures { result ≡ comparisonOf kind }
+    ensures { result ≡ comparison_of kind }
 {
     match kind {
         kinds::EQUAL => Comparison::Equal,
@@ -130,7 +130,7 @@ fn comparison_of(kind: u32) -> Comparison
 
 // An operator whose operands do not stand below it, which no text makes, is read as false.
 fn operator_of(kind: u32, i: usize, left: usize) -> Node
-    ensures { result ≡ operatorOf kind i left }
+    ensures { result ≡ operator_of kind i left }
 {
     if kind < kinds::SEQUEL {
         if i == 0 {
@@ -149,7 +149,7 @@ fn operator_of(kind: u32, i: usize, left: usize) -> Node
 
 // The leaf of a node; of a node that is none, false.
 fn leaf_of(kind: u32, base: u32, a: u32, b: u32, c: u32, d: u32) -> Leaf
-    ensures { result ≡ leafOf kind base a b c d }
+    ensures { result ≡ leaf_of kind base a b c d }
 {
     match kind {
         kinds::TRUTH => Leaf::Truth(a == 1),
@@ -165,7 +165,7 @@ impl Leaf {
     // What a leaf holds. A node that is no leaf of a text reads as `false`.
     pub fn read(nodes: &[u32], i: usize) -> Leaf
         requires { i * 8 + 8 ≤ length nodes.now }
-        ensures { result ≡ leafAt nodes.now i }
+        ensures { result ≡ leaf_at nodes.now i }
     {
         let at = i * Node::WORDS;
         leaf_of(
@@ -194,7 +194,7 @@ impl Node {
     // What a walk must know of a node to go on: its operator, and where its left operand stands.
     pub fn read(nodes: &[u32], i: usize) -> Node
         requires { i * 8 + 8 ≤ length nodes.now }
-        ensures { result ≡ nodeAt nodes.now i }
+        ensures { result ≡ node_at nodes.now i }
     {
         let at = i * Node::WORDS;
         let left = wide(nodes[at + 2]);
@@ -205,7 +205,7 @@ impl Node {
 // The place of a node: an operator's, or that of a leaf's first byte.
 pub fn place_at(nodes: &[u32], i: usize) -> usize
     requires { i * 8 + 8 ≤ length nodes.now }
-    ensures { result ≡ placeAt nodes.now i }
+    ensures { result ≡ place_at nodes.now i }
 {
     wide(nodes[i * Node::WORDS + 1])
 }

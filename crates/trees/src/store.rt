@@ -3,9 +3,9 @@ ghost use Rattle.std.specs.Prelude.{◌≡◌, [], ◌∷◌, ◌+◌, ◌*◌, 
 ghost use Rattle.std.proofs.lemmas.List.Edits.{sets};
 ghost use Rattle.paper.specs.Code as C;
 ghost use Rattle.paper.specs.Grammar as G;
-ghost use Rattle.number.specs.Bases.{literalMeant};
-ghost use Rattle.trees.specs.Standing.{prefixMeant, joinMeant, comparisonMeant};
-ghost use Rattle.trees.specs.Words.{leafWords, operatorWords, words, prefixNo, joinNo, comparisonNo, operatorNo};
+ghost use Rattle.number.specs.Bases.{literal_meant};
+ghost use Rattle.trees.specs.Standing.{prefix_meant, join_meant, comparison_meant};
+ghost use Rattle.trees.specs.Words.{leaf_words, operator_words, words, prefix_no, join_no, comparison_no, operator_no};
 
 use crate::kinds;
 use crate::node::{Comparison, Join, Node, Operator, Prefix};
@@ -67,7 +67,7 @@ pub fn put_truth(nodes: &mut [u32], node: usize, place: u32, truth: bool)
 // Stores the node of a number: its base stands where an operator has its left operand, then its limbs.
 pub fn put_number(nodes: &mut [u32], node: usize, place: u32, literal: Literal)
     requires { node * 8 + 8 ≤ length nodes.old }
-    ensures { nodes.new ≡ sets nodes.old (node * 8) (words node (G.number place (literalMeant literal))) }
+    ensures { nodes.new ≡ sets nodes.old (node * 8) (words node (G.number place (literal_meant literal))) }
 {
     let base = literal.base;
     let number = literal.number;
@@ -86,7 +86,7 @@ pub fn put_number(nodes: &mut [u32], node: usize, place: u32, literal: Literal)
 // A key, whose name begins and ends at two offsets in the text.
 pub fn put_key(nodes: &mut [u32], node: usize, from: u32, to: u32)
     requires { node * 8 + 8 ≤ length nodes.old }
-    ensures { nodes.new ≡ sets nodes.old (node * 8) (leafWords 2 from from to 0 0) }
+    ensures { nodes.new ≡ sets nodes.old (node * 8) (leaf_words 2 from from to 0 0) }
 {
     let row = Row {
         kind: kinds::KEY,
@@ -103,7 +103,7 @@ pub fn put_key(nodes: &mut [u32], node: usize, from: u32, to: u32)
 // A key that stands in no text, whose name begins and ends at two offsets elsewhere.
 pub fn put_name(nodes: &mut [u32], node: usize, from: u32, to: u32)
     requires { node * 8 + 8 ≤ length nodes.old }
-    ensures { nodes.new ≡ sets nodes.old (node * 8) (leafWords 2 0 from to 0 0) }
+    ensures { nodes.new ≡ sets nodes.old (node * 8) (leaf_words 2 0 from to 0 0) }
 {
     let row = Row {
         kind: kinds::KEY,
@@ -120,7 +120,7 @@ pub fn put_name(nodes: &mut [u32], node: usize, from: u32, to: u32)
 // A field of a key: the offsets of the key's name, then those of the field's.
 pub fn put_field(nodes: &mut [u32], node: usize, from: u32, to: u32, start: u32, end: u32)
     requires { node * 8 + 8 ≤ length nodes.old }
-    ensures { nodes.new ≡ sets nodes.old (node * 8) (leafWords 3 from from to start end) }
+    ensures { nodes.new ≡ sets nodes.old (node * 8) (leaf_words 3 from from to start end) }
 {
     let row = Row {
         kind: kinds::FIELD,
@@ -137,7 +137,7 @@ pub fn put_field(nodes: &mut [u32], node: usize, from: u32, to: u32, start: u32,
 // An attribute: the place of its "::", and the offsets of its name.
 pub fn put_attribute(nodes: &mut [u32], node: usize, place: u32, from: u32, to: u32)
     requires { node * 8 + 8 ≤ length nodes.old }
-    ensures { nodes.new ≡ sets nodes.old (node * 8) (leafWords 4 place 0 0 from to) }
+    ensures { nodes.new ≡ sets nodes.old (node * 8) (leaf_words 4 place 0 0 from to) }
 {
     let row = Row {
         kind: kinds::ATTRIBUTE,
@@ -152,7 +152,7 @@ pub fn put_attribute(nodes: &mut [u32], node: usize, place: u32, from: u32, to: 
 }
 
 fn prefix_number(o: Prefix) -> u32
-    ensures { result ≡ prefixNo (prefixMeant o) }
+    ensures { result ≡ prefix_no (prefix_meant o) }
 {
     match o {
         Prefix::Not => kinds::NOT,
@@ -161,7 +161,7 @@ fn prefix_number(o: Prefix) -> u32
 }
 
 fn join_number(o: Join) -> u32
-    ensures { result ≡ joinNo (joinMeant o) }
+    ensures { result ≡ join_no (join_meant o) }
 {
     match o {
         Join::Sequel => kinds::SEQUEL,
@@ -172,7 +172,7 @@ fn join_number(o: Join) -> u32
 }
 
 fn comparison_number(c: Comparison) -> u32
-    ensures { result ≡ comparisonNo (comparisonMeant c) }
+    ensures { result ≡ comparison_no (comparison_meant c) }
 {
     match c {
         Comparison::Equal => kinds::EQUAL,
@@ -185,7 +185,7 @@ fn comparison_number(c: Comparison) -> u32
 }
 
 fn operator_number(o: Operator) -> u32
-    ensures { result ≡ operatorNo o }
+    ensures { result ≡ operator_no o }
 {
     match o {
         Operator::Joins(j) => join_number(j),
@@ -196,7 +196,7 @@ fn operator_number(o: Operator) -> u32
 // An operator before its operand, which is the node before it.
 pub fn put_prefix(nodes: &mut [u32], node: usize, place: u32, o: Prefix)
     requires { node * 8 + 8 ≤ length nodes.old }
-    ensures { nodes.new ≡ sets nodes.old (node * 8) (operatorWords (prefixNo (prefixMeant o)) place 0) }
+    ensures { nodes.new ≡ sets nodes.old (node * 8) (operator_words (prefix_no (prefix_meant o)) place 0) }
 {
     let row = Row {
         kind: prefix_number(o),
@@ -213,7 +213,7 @@ pub fn put_prefix(nodes: &mut [u32], node: usize, place: u32, o: Prefix)
 // An operator between its left operand, a node that is named, and its right one, the node before it.
 pub fn put_operator(nodes: &mut [u32], node: usize, place: u32, o: Operator, left: usize)
     requires { (node * 8 + 8 ≤ length nodes.old) × (left < 65536) }
-    ensures { nodes.new ≡ sets nodes.old (node * 8) (operatorWords (operatorNo o) place left) }
+    ensures { nodes.new ≡ sets nodes.old (node * 8) (operator_words (operator_no o) place left) }
 {
     let row = Row {
         kind: operator_number(o),

@@ -3,17 +3,17 @@ use mathlib.Core.Path.{refl}
 use Rattle.paper.specs.Addresses.{address}
 use Rattle.tried.specs.AddressExamples.{AddressExamples}
 
-pub addressExamples : AddressExamples
+pub address_examples : AddressExamples
 unfolding address
-addressExamples =
+address_examples =
     record {
       words = refl;
-      ipv4-strings = refl;
-      mac-strings = refl;
-      ipv6-whole = refl;
-      ipv6-with-gap = refl;
-      ipv4-digits = refl;
-      mac-digits = refl;
-      ipv6-digits = refl;
-      ipv6-digits-by-a-gap = refl;
+      ipv4_strings = refl;
+      mac_strings = refl;
+      ipv6_whole = refl;
+      ipv6_with_gap = refl;
+      ipv4_digits = refl;
+      mac_digits = refl;
+      ipv6_digits = refl;
+      ipv6_digits_by_a_gap = refl;
     }

@@ -1,46 +1,46 @@
 -- Each example of a number that keeps or loses bits is computed from the definitions.
 use mathlib.Core.Path.{refl}
-use Rattle.paper.specs.Blocks.{blocksOf}
-use Rattle.paper.specs.Calls.{readAnswer, checkAnswer, judgeAnswer, translateAnswer, translateBuffer, loadAnswer, runAnswer}
-use Rattle.paper.specs.Explained.{explainAnswer}
-use Rattle.paper.specs.Named.{summaryAnswer}
-use Rattle.paper.specs.Rechecking.{recheckAnswer}
+use Rattle.paper.specs.Blocks.{blocks_of}
+use Rattle.paper.specs.Calls.{read_answer, check_answer, judge_answer, translate_answer, translate_buffer, load_answer, run_answer}
+use Rattle.paper.specs.Explained.{explain_answer}
+use Rattle.paper.specs.Named.{summary_answer}
+use Rattle.paper.specs.Rechecking.{recheck_answer}
 use Rattle.tried.specs.BitsExamples.{AtWidths, Sides, ByCalls, OldBlock, BitsExamples}
 
-at-widths : AtWidths
-unfolding checkAnswer
-at-widths =
+at_widths : AtWidths
+unfolding check_answer
+at_widths =
     record {
       one = refl;
       eight = refl;
       all_but_one = refl;
       all = refl;
-      narrow-address = refl;
-      ipv4-less-one = refl;
+      narrow_address = refl;
+      ipv4_less_one = refl;
       ipv4 = refl;
-      mac-less-one = refl;
+      mac_less_one = refl;
       mac = refl;
-      ipv6-less-one = refl;
+      ipv6_less_one = refl;
       ipv6 = refl;
     }
 
 on_sides : Sides
-unfolding checkAnswer
+unfolding check_answer
 on_sides =
     record {
-      keys-pass = refl;
-      keys-refuse = refl;
-      left-of-keys = refl;
-      fields-pass = refl;
-      fields-refuse = refl;
-      orders-pass = refl;
-      orders-refuse = refl;
-      exact-orders = refl;
+      keys_pass = refl;
+      keys_refuse = refl;
+      left_of_keys = refl;
+      fields_pass = refl;
+      fields_refuse = refl;
+      orders_pass = refl;
+      orders_refuse = refl;
+      exact_orders = refl;
     }
 
-by-calls : ByCalls
-unfolding readAnswer checkAnswer judgeAnswer translateAnswer translateBuffer explainAnswer summaryAnswer recheckAnswer
-by-calls =
+by_calls : ByCalls
+unfolding read_answer check_answer judge_answer translate_answer translate_buffer explain_answer summary_answer recheck_answer
+by_calls =
     record {
       reads = refl;
       checks = refl;
@@ -53,21 +53,21 @@ by-calls =
       listed = refl;
     }
 
-old-block : OldBlock
-unfolding translateBuffer loadAnswer runAnswer blocksOf
-old-block = record { loads = refl; runs = refl; of-the-rest = refl }
+old_block : OldBlock
+unfolding translate_buffer load_answer run_answer blocks_of
+old_block = record { loads = refl; runs = refl; of_the_rest = refl }
 
-pub bitsExamples : BitsExamples
-unfolding checkAnswer judgeAnswer
-bitsExamples =
+pub bits_examples : BitsExamples
+unfolding check_answer judge_answer
+bits_examples =
     record {
-      at-widths = at-widths;
+      at_widths = at_widths;
       on_sides = on_sides;
       at_places = refl;
       of_others = refl;
       in_order = refl;
-      not-judged = refl;
-      on-the-marked-entry = refl;
-      by-calls = by-calls;
-      of-old-block = old-block;
+      not_judged = refl;
+      on_the_marked_entry = refl;
+      by_calls = by_calls;
+      of_old_block = old_block;
     }

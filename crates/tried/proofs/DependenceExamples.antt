@@ -1,19 +1,19 @@
 -- Each example of what an entry may depend on is computed from the definitions.
 use mathlib.Core.Path.{refl}
 use Rattle.paper.specs.Print.{print}
-use Rattle.paper.specs.Calls.{tree, judgeAnswer, translateBuffer, runAnswer}
-use Rattle.paper.specs.Explained.{explainAnswer}
-use Rattle.paper.specs.Named.{summaryAnswer}
+use Rattle.paper.specs.Calls.{tree, judge_answer, translate_buffer, run_answer}
+use Rattle.paper.specs.Explained.{explain_answer}
+use Rattle.paper.specs.Named.{summary_answer}
 use Rattle.tried.specs.DependenceExamples.{DependenceExamples}
 
-pub dependenceExamples : DependenceExamples
-unfolding tree print judgeAnswer translateBuffer runAnswer explainAnswer summaryAnswer
-dependenceExamples =
+pub dependence_examples : DependenceExamples
+unfolding tree print judge_answer translate_buffer run_answer explain_answer summary_answer
+dependence_examples =
     record {
-      each-sways = record { named-alone = refl; holds = refl; fails = refl };
-      priority-sways = record { named-alone = refl; judged = refl };
-      operands-named = refl;
-      others-do-not = record { judged = refl; explained = refl; ran = refl };
-      spelled-out-does-not = record { judged = refl; explained = refl; ran = refl };
-      refused-not-covered = refl;
+      each_sways = record { named_alone = refl; holds = refl; fails = refl };
+      priority_sways = record { named_alone = refl; judged = refl };
+      operands_named = refl;
+      others_do_not = record { judged = refl; explained = refl; ran = refl };
+      spelled_out_does_not = record { judged = refl; explained = refl; ran = refl };
+      refused_not_covered = refl;
     }

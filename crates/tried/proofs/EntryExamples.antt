@@ -4,22 +4,22 @@ use Rattle.paper.specs.Keys.{keys}
 use Rattle.paper.specs.Entry.{entry_of}
 use Rattle.tried.specs.EntryExamples.{EntryExamples}
 
-pub entryExamples : EntryExamples
+pub entry_examples : EntryExamples
 unfolding keys entry_of
-entryExamples =
+entry_examples =
     record {
       in_bytes = refl;
       marked = refl;
       at_places = refl;
-      with-absences = refl;
-      exact-of-8 = refl;
-      ternary-of-8 = refl;
-      lpm-of-8 = refl;
-      range-of-8 = refl;
-      optional-of-8 = refl;
-      exact-required = refl;
-      ternary-required = refl;
-      lpm-required = refl;
-      range-required = refl;
-      optional-required = refl;
+      with_absences = refl;
+      exact_of_8 = refl;
+      ternary_of_8 = refl;
+      lpm_of_8 = refl;
+      range_of_8 = refl;
+      optional_of_8 = refl;
+      exact_required_lem = refl;
+      ternary_required_lem = refl;
+      lpm_required_lem = refl;
+      range_required_lem = refl;
+      optional_required_lem = refl;
     }

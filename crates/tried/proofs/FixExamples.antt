@@ -1,24 +1,24 @@
 -- Each example of the pass is computed from the definitions.
 use mathlib.Core.Path.{refl}
-use Rattle.paper.specs.Fixing.{oldTokens, fixed, fixAnswer, fixBuffer}
+use Rattle.paper.specs.Fixing.{old_tokens, fixed, fix_answer, fix_buffer}
 use Rattle.tried.specs.FixExamples.{Lent, FixExamples}
 
 lent : Lent
-unfolding fixAnswer fixBuffer
+unfolding fix_answer fix_buffer
 lent =
     record {
       exact = refl;
-      exact-holds = refl;
+      exact_holds = refl;
       short = refl;
-      short-unchanged = refl;
-      later-stays = refl;
+      short_unchanged = refl;
+      later_stays = refl;
       none = refl;
       longest = refl;
       too_long = refl;
-      text-first = refl;
-      refused-unchanged = refl;
+      text_first = refl;
+      refused_unchanged = refl;
     }
 
-pub fixExamples : FixExamples
-unfolding oldTokens fixed
-fixExamples = record { texts = refl; at-limits = refl; lent = lent }
+pub fix_examples : FixExamples
+unfolding old_tokens fixed
+fix_examples = record { texts = refl; at_limits_lem = refl; lent = lent }

@@ -3,6 +3,6 @@ use mathlib.Core.Path.{refl}
 use Rattle.paper.specs.Keys.{keys}
 use Rattle.tried.specs.KeyExamples.{KeyExamples}
 
-pub keyExamples : KeyExamples
+pub key_examples : KeyExamples
 unfolding keys
-keyExamples = record { laid_out = refl; with-names = refl; at_places = refl; with-flags = refl; by_name = refl }
+key_examples = record { laid_out = refl; with_names = refl; at_places = refl; with_flags = refl; by_name = refl }

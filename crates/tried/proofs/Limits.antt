@@ -1,12 +1,12 @@
 -- Both sides of every limit are computed from the definitions.
 use mathlib.Core.Path.{refl}
 use Rattle.paper.specs.Keys.{keys}
-use Rattle.paper.specs.Loading.{typesAlong}
-use Rattle.paper.specs.Calls.{readAnswer, judgeAnswer, translateAnswer, loadAnswer}
+use Rattle.paper.specs.Loading.{types_along}
+use Rattle.paper.specs.Calls.{read_answer, judge_answer, translate_answer, load_answer}
 use Rattle.tried.specs.Limits.{Texts, Lists, Entries, Held, Sizes}
 
 pub texts : Texts
-unfolding readAnswer
+unfolding read_answer
 texts = refl
 
 pub lists : Lists
@@ -14,13 +14,13 @@ unfolding keys
 lists = refl
 
 pub entries : Entries
-unfolding judgeAnswer
-entries = record { priority = refl; one = refl; all = refl; range-of-one = refl; range-of-all = refl }
+unfolding judge_answer
+entries = record { priority = refl; one = refl; all = refl; range_of_one = refl; range_of_all = refl }
 
 pub held : Held
-unfolding typesAlong
+unfolding types_along
 held = record { most = refl; more = refl }
 
 pub sizes : Sizes
-unfolding translateAnswer loadAnswer
+unfolding translate_answer load_answer
 sizes = record { buffer = refl; blocks = refl }

@@ -1,8 +1,8 @@
 -- The sixteen marked judgements follow from the definitions.
 use mathlib.Core.Path.{refl}
-use Rattle.paper.specs.Calls.{judgeAnswer}
+use Rattle.paper.specs.Calls.{judge_answer}
 use Rattle.tried.specs.MarkedJudgements.{Marked}
 
 pub marked : Marked
-unfolding judgeAnswer
+unfolding judge_answer
 marked = refl

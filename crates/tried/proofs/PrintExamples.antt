@@ -1,27 +1,27 @@
 -- Each example of a print is computed from the definitions.
 use mathlib.Core.Path.{refl}
 use Rattle.paper.specs.Print.{print}
-use Rattle.paper.specs.Calls.{tree, printAnswer, printBuffer}
+use Rattle.paper.specs.Calls.{tree, print_answer, print_buffer}
 use Rattle.tried.specs.PrintExamples.{PrintExamples}
 
-pub printExamples : PrintExamples
-unfolding tree print printAnswer printBuffer
-printExamples =
+pub print_examples : PrintExamples
+unfolding tree print print_answer print_buffer
+print_examples =
     record {
-      of-leaves = refl;
-      of-bases = refl;
-      of-longest = refl;
-      of-operators = refl;
-      of-parentheses = refl;
-      at-limits = refl;
-      kept-before = refl;
-      kept-after = refl;
+      of_leaves = refl;
+      of_bases = refl;
+      of_longest = refl;
+      of_operators = refl;
+      of_parentheses = refl;
+      at_limits_lem = refl;
+      kept_before_lem = refl;
+      kept_after_lem = refl;
       kept_under = refl;
-      of-numerals = record { binary = refl; octal = refl; hex = refl; longest = refl; at_most = refl };
-      of-bare-trees = refl;
-      tokens-counted = refl;
-      levels-counted = refl;
-      of-answers = refl;
-      of-buffers = refl;
-      of-cases = refl;
+      of_numerals = record { binary = refl; octal = refl; hex = refl; longest = refl; at_most = refl };
+      of_bare_trees = refl;
+      tokens_counted = refl;
+      levels_counted = refl;
+      of_answers = refl;
+      of_buffers = refl;
+      of_cases = refl;
     }

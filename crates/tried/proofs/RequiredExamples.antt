@@ -1,23 +1,23 @@
 -- Each example of keys that must be present is computed from the definitions.
 use mathlib.Core.Path.{refl}
-use Rattle.paper.specs.Calls.{checkAnswer, judgeAnswer, translateAnswer, translateBuffer, loadAnswer, runAnswer}
-use Rattle.paper.specs.Explained.{explainAnswer}
-use Rattle.paper.specs.Named.{summaryAnswer}
-use Rattle.paper.specs.Rechecking.{recheckAnswer}
+use Rattle.paper.specs.Calls.{check_answer, judge_answer, translate_answer, translate_buffer, load_answer, run_answer}
+use Rattle.paper.specs.Explained.{explain_answer}
+use Rattle.paper.specs.Named.{summary_answer}
+use Rattle.paper.specs.Rechecking.{recheck_answer}
 use Rattle.tried.specs.RequiredExamples.{RequiredExamples}
 
-pub requiredExamples : RequiredExamples
-unfolding checkAnswer judgeAnswer translateAnswer translateBuffer loadAnswer runAnswer explainAnswer summaryAnswer recheckAnswer
-requiredExamples =
+pub required_examples : RequiredExamples
+unfolding check_answer judge_answer translate_answer translate_buffer load_answer run_answer explain_answer summary_answer recheck_answer
+required_examples =
     record {
-      of-judging = refl;
-      of-running = refl;
-      of-explaining = refl;
-      of-rechecking = refl;
-      of-rechecking-absent = refl;
-      of-checking = refl;
-      of-loading = refl;
-      of-translating = refl;
+      of_judging = refl;
+      of_running = refl;
+      of_explaining = refl;
+      of_rechecking = refl;
+      of_rechecking_absent = refl;
+      of_checking = refl;
+      of_loading = refl;
+      of_translating = refl;
       of_blocks = refl;
-      of-summaries = refl;
+      of_summaries = refl;
     }

@@ -1,18 +1,18 @@
 -- Each example of a table is computed from the definitions.
 use mathlib.Core.Path.{refl}
-use Rattle.paper.specs.Blocks.{blocksOf}
+use Rattle.paper.specs.Blocks.{blocks_of}
 use Rattle.paper.specs.Translating.{code_of}
-use Rattle.paper.specs.Calls.{restriction, runAnswer}
-use Rattle.paper.specs.RunAll.{ranAll, runAllAnswer, runAllBytes}
+use Rattle.paper.specs.Calls.{restriction, run_answer}
+use Rattle.paper.specs.RunAll.{ran_all, run_all_answer, run_all_bytes}
 use Rattle.tried.specs.RunAllExamples.{OwnExample, Runs, Told, Lengths, Answers, NoKeys, Steps, InOrder, Stretches, RunAllExamples}
 
 own : OwnExample
-unfolding ranAll runAllAnswer runAllBytes
-own = record { verdicts = refl; answer = refl; written = refl; later-stay = refl; promised = record { says = refl; holds = refl } }
+unfolding ran_all run_all_answer run_all_bytes
+own = record { verdicts = refl; answer = refl; written = refl; later_stay = refl; promised = record { says = refl; holds = refl } }
 
 runs : Runs
-unfolding runAnswer
-runs = record { accepted = refl; violated = refl; refused-record = refl; refused-priority = refl }
+unfolding run_answer
+runs = record { accepted = refl; violated = refl; refused_record = refl; refused_priority = refl }
 
 told : Told
 told =
@@ -24,60 +24,60 @@ told =
       no_steps = refl;
       summed = refl;
       judged = refl;
-      judged-violated = refl;
-      judged-refused = refl;
+      judged_violated = refl;
+      judged_refused = refl;
       answer = refl;
       refusal = refl;
     }
 
 lengths : Lengths
-unfolding ranAll runAllAnswer runAllBytes
+unfolding ran_all run_all_answer run_all_bytes
 lengths =
     record {
       none = refl;
-      none-answered = refl;
+      none_answered = refl;
       none_written = refl;
       one_byte = refl;
       short = refl;
       whole = refl;
       longer = refl;
-      four-over = refl;
+      four_over = refl;
       second_short = refl;
-      cut-unchanged = refl;
+      cut_unchanged = refl;
     }
 
 answers : Answers
-unfolding ranAll runAllAnswer runAllBytes
-answers = record { one_fewer = refl; fewer-unchanged = refl; none = refl; promised = record { says = refl; holds = refl } }
+unfolding ran_all run_all_answer run_all_bytes
+answers = record { one_fewer = refl; fewer_unchanged = refl; none = refl; promised = record { says = refl; holds = refl } }
 
 no_keys : NoKeys
-unfolding ranAll
+unfolding ran_all
 no_keys = record { two = refl; short = refl; longer = refl }
 
 steps : Steps
-unfolding restriction code_of blocksOf ranAll
+unfolding restriction code_of blocks_of ran_all
 steps = record { full = refl; passed_over = refl; all = refl }
 
 in_order : InOrder
-unfolding ranAll runAllAnswer runAllBytes
+unfolding ran_all run_all_answer run_all_bytes
 in_order =
     record {
-      list-first = refl;
-      records-before-blocks = refl;
-      sizes-before-blocks = refl;
-      blocks-before-code = refl;
-      code-before-length = refl;
-      length-before-answers = refl;
-      blocks-unchanged = refl;
+      list_first = refl;
+      records_before_blocks = refl;
+      sizes_before_blocks = refl;
+      blocks_before_code = refl;
+      code_before_length = refl;
+      length_before_answers = refl;
+      blocks_unchanged = refl;
       answered = refl;
     }
 
 stretches : Stretches
-unfolding ranAll
+unfolding ran_all
 stretches = record { first = refl; second = refl; early = refl; late = refl; both = refl; wrapped = refl }
 
-pub runAllExamples : RunAllExamples
-runAllExamples =
+pub run_all_examples : RunAllExamples
+run_all_examples =
     record {
       own = own;
       runs = runs;

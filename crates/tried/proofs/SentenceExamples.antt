@@ -9,7 +9,7 @@ use lib.Dec.{eqb}
 use Rattle.paper.specs.Tokens.{plain, bytes, Token, word, or_else, andAlso, less, notSign, minusSign, tokens}
 use Rattle.paper.specs.Addresses.{mac, address}
 use Rattle.paper.specs.Grammar.{Tree, key}
-use Rattle.paper.specs.Sentences.{Phrases, tokenAt, Joining, joining, Comparing, comparing, Once, none_of, one_of, Chain, first, further, Implication, Name, Prefixed, Whole, without, lenient, by-prefix, by-parenthesis, a-string}
+use Rattle.paper.specs.Sentences.{Phrases, token_at, Joining, joining, Comparing, comparing, Once, none_of, one_of, Chain, first, further, Implication, Name, Prefixed, Whole, without, lenient, by_prefix, by_parenthesis, a_string}
 use Rattle.paper.specs.Sentences as G
 use Rattle.tried.specs.SentenceExamples.{Derived, SentenceExamples}
 
@@ -34,57 +34,57 @@ alone s = without (first (up s))
 
 -- keys of one letter
 
-aKey : (at : ℕ) (w : S.String) → eqb (length (bytes w)) 4 ≡ false → eqb (length (bytes w)) 5 ≡ false
-    → Prefixed address 0 (key at (bytes w)) (tokenAt at (word (bytes w)) ∷ [])
+a_key : (at : ℕ) (w : S.String) → eqb (length (bytes w)) 4 ≡ false → eqb (length (bytes w)) 5 ≡ false
+    → Prefixed address 0 (key at (bytes w)) (token_at at (word (bytes w)) ∷ [])
 unfolding Prefixed
-aKey at w p q = G.a_key at (bytes w) (name (bytes w) p q)
+a_key at w p q = G.a_key at (bytes w) (name (bytes w) p q)
 
-a : (at : ℕ) → Prefixed address 0 (key at (bytes "a")) (tokenAt at (word (bytes "a")) ∷ [])
-a at = aKey at "a" refl refl
+a : (at : ℕ) → Prefixed address 0 (key at (bytes "a")) (token_at at (word (bytes "a")) ∷ [])
+a at = a_key at "a" refl refl
 
-b : (at : ℕ) → Prefixed address 0 (key at (bytes "b")) (tokenAt at (word (bytes "b")) ∷ [])
-b at = aKey at "b" refl refl
+b : (at : ℕ) → Prefixed address 0 (key at (bytes "b")) (token_at at (word (bytes "b")) ∷ [])
+b at = a_key at "b" refl refl
 
-c : (at : ℕ) → Prefixed address 0 (key at (bytes "c")) (tokenAt at (word (bytes "c")) ∷ [])
-c at = aKey at "c" refl refl
+c : (at : ℕ) → Prefixed address 0 (key at (bytes "c")) (token_at at (word (bytes "c")) ∷ [])
+c at = a_key at "c" refl refl
 
 derived : Derived
 unfolding tokens Prefixed address lenient
 derived =
     record {
-      a-true = (0, alone (G.a-true 0));
-      a-false = (0, alone (G.a-false 0));
-      a-numeral = (0, alone (G.a-numeral 1 (plain 12)));
-      an-address = (0, alone (G.an-address 0 (bytes "mac") mac 3 4 23 (bytes "00:00:00:00:00:05") 5 refl refl));
-      a_key = (0, alone (aKey 0 "a.b" refl refl));
-      a-field = (0, alone (G.a-field 0 (bytes "a") 1 3 (bytes "true") (name (bytes "a") refl refl) refl));
-      an-attribute = (0, alone (G.an-attribute 0 2 (bytes "b") refl));
-      a-not = (1, alone (G.a-prefixed 0 notSign (a 1)));
-      a-minus = (1, alone (G.a-prefixed 0 minusSign (a 1)));
-      a-parenthesis = (1, alone (G.a-parenthesis 0 4 (further (first (up (a 1))) (joining 2) (up (b 3)))));
-      a-comparison = (0, without (first (none_of (first (first (one_of (a 0) (comparing 1 less) (b 2)))))));
+      a_true = (0, alone (G.a_true 0));
+      a_false = (0, alone (G.a_false 0));
+      a_numeral = (0, alone (G.a_numeral 1 (plain 12)));
+      an_address = (0, alone (G.an_address 0 (bytes "mac") mac 3 4 23 (bytes "00:00:00:00:00:05") 5 refl refl));
+      a_key_lem = (0, alone (a_key 0 "a.b" refl refl));
+      a_field = (0, alone (G.a_field 0 (bytes "a") 1 3 (bytes "true") (name (bytes "a") refl refl) refl));
+      an_attribute = (0, alone (G.an_attribute 0 2 (bytes "b") refl));
+      a_not = (1, alone (G.a_prefixed 0 notSign (a 1)));
+      a_minus = (1, alone (G.a_prefixed 0 minusSign (a 1)));
+      a_parenthesis = (1, alone (G.a_parenthesis 0 4 (further (first (up (a 1))) (joining 2) (up (b 3)))));
+      a_comparison = (0, without (first (none_of (first (first (one_of (a 0) (comparing 1 less) (b 2)))))));
       ands =
           (0, without (first (none_of (first (further (further (and (a 0)) (joining 1) (none_of (b 3))) (joining 4) (none_of (c 6)))))));
       ors = (0, without (first (none_of (further (further (or (a 0)) (joining 1) (and (b 3))) (joining 4) (and (c 6))))));
-      one-implication = (0, without (first (one_of (or (a 0)) (joining 1) (or (b 3)))));
+      one_implication = (0, without (first (one_of (or (a 0)) (joining 1) (or (b 3)))));
       sequels = (0, without (further (further (first (up (a 0))) (joining 1) (up (b 2))) (joining 3) (up (c 4))));
       trailing = (0, G.trailing (first (up (a 0))) (joining 1));
-      valid = alone (G.a-true 0);
-      sentence = (0, alone (G.an-address 0 (bytes "mac") mac 3 4 7 (bytes "x") 0 refl refl));
-      bounded = alone (G.an-address 0 (bytes "mac") mac 3 4 7 (bytes "x") 0 refl refl);
+      valid = alone (G.a_true 0);
+      sentence = (0, alone (G.an_address 0 (bytes "mac") mac 3 4 7 (bytes "x") 0 refl refl));
+      bounded = alone (G.an_address 0 (bytes "mac") mac 3 4 7 (bytes "x") 0 refl refl);
     }
 
-pub sentenceExamples : SentenceExamples
+pub sentence_examples : SentenceExamples
 unfolding lenient address
-sentenceExamples =
+sentence_examples =
     record {
       derived = derived;
-      good-string-read = refl;
-      bad-string-read = refl;
-      not-opens = by-prefix 3 notSign;
-      minus-opens = by-prefix 3 minusSign;
-      parenthesis-opens = by-parenthesis 3;
-      string-is-one = a-string 3 (bytes "x");
-      at-a-token = refl;
-      at-the-end = refl;
+      good_string_read = refl;
+      bad_string_read = refl;
+      not_opens = by_prefix 3 notSign;
+      minus_opens = by_prefix 3 minusSign;
+      parenthesis_opens = by_parenthesis 3;
+      string_is_one = a_string 3 (bytes "x");
+      at_a_token = refl;
+      at_the_end = refl;
     }

@@ -4,9 +4,9 @@ use lib.Dec.{lit<, lit≤}
 use native.Mathlib.Omega.{arith}
 use Rattle.paper.specs.Keys.{keys}
 use Rattle.paper.specs.Entry.{entry_of}
-use Rattle.paper.specs.Blocks.{sumsOf}
-use Rattle.paper.specs.Loading.{typesAlong, runAlong}
-use Rattle.paper.specs.LoadedBlocksRun.{typesThrough, valuesThrough}
+use Rattle.paper.specs.Blocks.{sums_of}
+use Rattle.paper.specs.Loading.{types_along, run_along}
+use Rattle.paper.specs.LoadedBlocksRun.{types_through, values_through}
 use Rattle.tried.specs.SkipExamples.{Indices, SkipExamples}
 
 indices : Indices
@@ -19,21 +19,21 @@ indices =
       past = λ h. omega (arith, h.1);
     }
 
-pub skipExamples : SkipExamples
-unfolding keys entry_of sumsOf typesAlong runAlong typesThrough valuesThrough
-skipExamples =
+pub skip_examples : SkipExamples
+unfolding keys entry_of sums_of types_along run_along types_through values_through
+skip_examples =
     record {
       encoded = refl;
       decoded = refl;
       last = refl;
       farthest = refl;
-      in_blocks = record { before-the-last = refl; as-the-last = refl };
+      in_blocks = record { before_the_last = refl; as_the_last = refl };
       loaded = refl;
-      full-loads = refl;
-      runs-counted = refl;
-      runs-stepped = refl;
+      full_loads = refl;
+      runs_counted = refl;
+      runs_stepped = refl;
       before = refl;
       indices = indices;
-      types-walked = refl;
-      values-walked = refl;
+      types_walked_lem = refl;
+      values_walked_lem = refl;
     }

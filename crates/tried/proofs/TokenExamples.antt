@@ -11,21 +11,21 @@ classes =
       blanks = refl;
       alone = refl;
       in_a_word = refl;
-      in-an-id = refl;
-      after-zero = refl;
+      in_an_id = refl;
+      after_zero = refl;
       decimal = refl;
       binary = refl;
-      octal-after-zero = refl;
+      octal_after_zero = refl;
       octal = refl;
       hexadecimal = refl;
-      not-in-a-string = refl;
-      ends-a-comment = refl;
+      not_in_a_string = refl;
+      ends_a_comment = refl;
     }
 
 crowds : Crowded
 unfolding tokens
-crowds = record { in-room = refl; too_many = refl; too_large = refl }
+crowds = record { in_room = refl; too_many = refl; too_large = refl }
 
-pub tokenExamples : TokenExamples
+pub token_examples : TokenExamples
 unfolding tokens
-tokenExamples = record { classes = classes; two_bytes = refl; texts = refl; numbers = refl; crowded = crowds }
+token_examples = record { classes = classes; two_bytes = refl; texts = refl; numbers = refl; crowded = crowds }

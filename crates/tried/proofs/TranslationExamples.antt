@@ -1,31 +1,31 @@
 -- Each example of a translation is computed from the definitions.
 use mathlib.Core.Path.{refl}
 use Rattle.paper.specs.Entry.{entry_of}
-use Rattle.paper.specs.Translating.{code_of, conversions, stepsOf}
-use Rattle.paper.specs.Calls.{restriction, judgeAnswer, translateAnswer, translateBuffer, runAnswer}
-use Rattle.paper.specs.TranslationCorrect.{judgedInSteps}
+use Rattle.paper.specs.Translating.{code_of, conversions, steps_of}
+use Rattle.paper.specs.Calls.{restriction, judge_answer, translate_answer, translate_buffer, run_answer}
+use Rattle.paper.specs.TranslationCorrect.{judged_in_steps}
 use Rattle.tried.specs.TranslationExamples.{EveryInstruction, Refused, TranslationExamples}
 
 every : EveryInstruction
-unfolding translateAnswer translateBuffer runAnswer judgeAnswer
+unfolding translate_answer translate_buffer run_answer judge_answer
 every = record { written = refl; block = refl; runs = refl; judged = refl }
 
 refusals : Refused
-unfolding translateAnswer translateBuffer
-refusals = record { short = refl; short-unchanged = refl; one-of-two-blocks = refl; untyped = refl; untyped-unchanged = refl }
+unfolding translate_answer translate_buffer
+refusals = record { short = refl; short_unchanged = refl; one_of_two_blocks = refl; untyped = refl; untyped_unchanged = refl }
 
-pub translationExamples : TranslationExamples
-unfolding restriction entry_of code_of conversions stepsOf judgedInSteps
-translationExamples =
+pub translation_examples : TranslationExamples
+unfolding restriction entry_of code_of conversions steps_of judged_in_steps
+translation_examples =
     record {
-      of-nodes = refl;
-      of-conversions = refl;
+      of_nodes = refl;
+      of_conversions = refl;
       counted = refl;
-      joins-counted = refl;
-      steps-counted = refl;
-      judged-in-steps = refl;
-      held-counted = refl;
-      most-blocks = refl;
-      every-instruction = every;
+      joins_counted = refl;
+      steps_counted = refl;
+      judged_in_steps_lem = refl;
+      held_counted = refl;
+      most_blocks = refl;
+      every_instruction = every;
       refusals = refusals;
     }

@@ -5,86 +5,86 @@ use native.Mathlib.Omega.{arith}
 use mathlib.Core.Path.{◌≡◌, refl, sym, ap, ◌∙◌}
 use mathlib.Core.List.{List}
 use Rattle.paper.specs.declared.Checking.TheVariants as C
-use Rattle.paper.specs.Answers.{Answer, ok, refused, ◌>>=◌, inText, checkingSays}
+use Rattle.paper.specs.Answers.{Answer, ok, refused, ◌>>=◌, InText, checking_says}
 use Rattle.paper.specs.Tokens.{bytes}
-use Rattle.paper.specs.Calls.{checkAnswer}
-use Rattle.tried.specs.MarkedJudgements.{theKeys}
+use Rattle.paper.specs.Calls.{check_answer}
+use Rattle.tried.specs.MarkedJudgements.{the_keys}
 use Rattle.paper.specs.Promised.{Bytes}
-use Rattle.paper.specs.BitsKept.{ComparisonRule, ruleBefore, restrictionBy}
-use Rattle.tried.specs.WrongCheckers.{Checker, ChecksAllRight, ChecksAsPromised, TypesBy, ReducesStill, rightAlone, LooksRight, atOperator, PlacesAtOperator, aboveZero, TakesNoneBelowZero, WrongCheckersFail}
-use Rattle.paper.proofs.Stages.{never-ok}
-use Rattle.paper.proofs.Promised.{checking-same, one-checking}
-use Rattle.paper.proofs.ByteLists.{all-bytes}
-use Rattle.paper.proofs.DemandTwo.{checkable-answer, answer-checkable}
+use Rattle.paper.specs.BitsKept.{ComparisonRule, rule_before, restriction_by}
+use Rattle.tried.specs.WrongCheckers.{Checker, ChecksAllRight, ChecksAsPromised, TypesBy, ReducesStill, right_alone, LooksRight, at_operator, PlacesAtOperator, above_zero, TakesNoneBelowZero, WrongCheckersFail}
+use Rattle.paper.proofs.Stages.{never_ok}
+use Rattle.paper.proofs.Promised.{checking_same, one_checking}
+use Rattle.paper.proofs.ByteLists.{all_bytes_lem}
+use Rattle.paper.proofs.DemandTwo.{checkable_answer, answer_checkable}
 
-pub keys-bytes : Bytes theKeys
-keys-bytes = all-bytes theKeys refl
+pub keys_bytes : Bytes the_keys
+keys_bytes = all_bytes_lem the_keys refl
 
 -- what a rule answers for a text with these keys, and what is right
 
 abbrev says : ComparisonRule → List ℕ → Answer (Unit {0})
-says rule text = restrictionBy rule text theKeys >>= λ _. ok tt
+says rule text = restriction_by rule text the_keys >>= λ _. ok tt
 
 abbrev right : List ℕ → Answer (Unit {0})
-right text = checkAnswer text theKeys
+right text = check_answer text the_keys
 
 -- a checker that is right passes a text exactly when it should
 module _ (rule : ComparisonRule) (x : Checker) (types : TypesBy rule x) (good : ChecksAllRight x) (text : List ℕ) (t : Bytes text) where
-  passes-right : says rule text ≡ ok tt → right text ≡ ok tt
-  passes-right e =
-      checkable-answer text theKeys
-      ((good text theKeys t keys-bytes).0 (checking-same (x text theKeys) C.Passed (types text theKeys t keys-bytes ∙ e)))
+  passes_right : says rule text ≡ ok tt → right text ≡ ok tt
+  passes_right e =
+      checkable_answer text the_keys
+      ((good text the_keys t keys_bytes).0 (checking_same (x text the_keys) C.Passed (types text the_keys t keys_bytes ∙ e)))
 
-  right-passes : right text ≡ ok tt → says rule text ≡ ok tt
-  right-passes e =
-      sym (types text theKeys t keys-bytes) ∙ ap checkingSays ((good text theKeys t keys-bytes).1 (answer-checkable text theKeys e))
+  right_passes : right text ≡ ok tt → says rule text ≡ ok tt
+  right_passes e =
+      sym (types text the_keys t keys_bytes) ∙ ap checking_says ((good text the_keys t keys_bytes).1 (answer_checkable text the_keys e))
 
 -- the three texts
 
-three-lost : right (bytes "v == 3") ≡ refused 23 inText 5
-unfolding checkAnswer
-three-lost = refl
+three_lost : right (bytes "v == 3") ≡ refused 23 InText 5
+unfolding check_answer
+three_lost = refl
 
-three-lost-left : right (bytes "3 == v") ≡ refused 23 inText 0
-unfolding checkAnswer
-three-lost-left = refl
+three_lost_left : right (bytes "3 == v") ≡ refused 23 InText 0
+unfolding check_answer
+three_lost_left = refl
 
 one_kept : right (bytes "v == -1") ≡ ok tt
-unfolding checkAnswer
+unfolding check_answer
 one_kept = refl
 
 -- what the rules answer
 
-still-passes : says ruleBefore (bytes "v == 3") ≡ ok tt
-unfolding restrictionBy
-still-passes = refl
+still_passes : says rule_before (bytes "v == 3") ≡ ok tt
+unfolding restriction_by
+still_passes = refl
 
-left-passes : says rightAlone (bytes "3 == v") ≡ ok tt
-unfolding restrictionBy
-left-passes = refl
+left_passes : says right_alone (bytes "3 == v") ≡ ok tt
+unfolding restriction_by
+left_passes = refl
 
-operator-refuses : says atOperator (bytes "v == 3") ≡ refused 23 inText 2
-unfolding restrictionBy
-operator-refuses = refl
+operator_refuses : says at_operator (bytes "v == 3") ≡ refused 23 InText 2
+unfolding restriction_by
+operator_refuses = refl
 
-below-refuses : says aboveZero (bytes "v == -1") ≡ refused 23 inText 5
-unfolding restrictionBy
-below-refuses = refl
+below_refuses : says above_zero (bytes "v == -1") ≡ refused 23 InText 5
+unfolding restriction_by
+below_refuses = refl
 
-reducing-fails : (x : Checker) → ReducesStill x → ¬ ChecksAllRight x
-reducing-fails x types good =
+reducing_fails : (x : Checker) → ReducesStill x → ¬ ChecksAllRight x
+reducing_fails x types good =
     let text = bytes "v == 3" in
-    never-ok (sym three-lost ∙ passes-right ruleBefore x types good text (all-bytes text refl) still-passes)
+    never_ok (sym three_lost ∙ passes_right rule_before x types good text (all_bytes_lem text refl) still_passes)
 
-looking-right-fails : (x : Checker) → LooksRight x → ¬ ChecksAllRight x
-looking-right-fails x types good =
+looking_right_fails : (x : Checker) → LooksRight x → ¬ ChecksAllRight x
+looking_right_fails x types good =
     let text = bytes "3 == v" in
-    never-ok (sym three-lost-left ∙ passes-right rightAlone x types good text (all-bytes text refl) left-passes)
+    never_ok (sym three_lost_left ∙ passes_right right_alone x types good text (all_bytes_lem text refl) left_passes)
 
-above-zero-fails : (x : Checker) → TakesNoneBelowZero x → ¬ ChecksAllRight x
-above-zero-fails x types good =
+above_zero_fails : (x : Checker) → TakesNoneBelowZero x → ¬ ChecksAllRight x
+above_zero_fails x types good =
     let text = bytes "v == -1" in
-    never-ok (sym below-refuses ∙ right-passes aboveZero x types good text (all-bytes text refl) one_kept)
+    never_ok (sym below_refuses ∙ right_passes above_zero x types good text (all_bytes_lem text refl) one_kept)
 
 -- two refusals of one text have one place
 
@@ -92,24 +92,24 @@ abbrev place : Answer (Unit {0}) → ℕ
 place (ok _) = 0
 place (refused n i at) = at
 
-at-operator-fails : (x : Checker) → PlacesAtOperator x → ¬ ChecksAsPromised x
-at-operator-fails x types promised =
+at_operator_fails : (x : Checker) → PlacesAtOperator x → ¬ ChecksAsPromised x
+at_operator_fails x types promised =
     let text = bytes "v == 3" in
-    let t = all-bytes text refl in
-    let same = sym operator-refuses ∙ sym (types text theKeys t keys-bytes) ∙ promised text theKeys t keys-bytes ∙ three-lost in
+    let t = all_bytes_lem text refl in
+    let same = sym operator_refuses ∙ sym (types text the_keys t keys_bytes) ∙ promised text the_keys t keys_bytes ∙ three_lost in
     let z : ◌≡◌ {A = ℕ} 2 5 = ap place same in
     omega arith
 
-pub wrong-checkers-fail : WrongCheckersFail
-wrong-checkers-fail =
+pub wrong_checkers_fail : WrongCheckersFail
+wrong_checkers_fail =
     record {
-      reducing = reducing-fails;
-      looking-right = looking-right-fails;
-      at-operator = at-operator-fails;
-      above_zero = above-zero-fails;
+      reducing = reducing_fails;
+      looking_right = looking_right_fails;
+      at_operator_lem = at_operator_fails;
+      above_zero_lem = above_zero_fails;
     }
 
-pub checker-real : (rule : ComparisonRule) → (x : Checker) × TypesBy rule x
-checker-real rule =
-    let answer : List ℕ → List ℕ → Answer (Unit {0}) = λ text list. restrictionBy rule text list >>= λ _. ok tt in
-    (λ text list. (one-checking (answer text list)).result, λ text list _ _. (one-checking (answer text list)).satisfies)
+pub checker_real : (rule : ComparisonRule) → (x : Checker) × TypesBy rule x
+checker_real rule =
+    let answer : List ℕ → List ℕ → Answer (Unit {0}) = λ text list. restriction_by rule text list >>= λ _. ok tt in
+    (λ text list. (one_checking (answer text list)).result, λ text list _ _. (one_checking (answer text list)).satisfies)

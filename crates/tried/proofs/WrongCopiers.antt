@@ -7,41 +7,41 @@ use lib.ListN.{length}
 use denote.Ref.{Bor}
 use Rattle.paper.specs.declared.Explanation.{Explanation}
 use Rattle.paper.specs.declared.Explanation.TheVariants as X
-use Rattle.paper.specs.Pieces.{inText}
+use Rattle.paper.specs.Pieces.{InText}
 use Rattle.paper.specs.PiecesRight.{Shown, ShownPromised, CopyOf}
-use Rattle.paper.proofs.Promised.{explanation-same}
-use Rattle.paper.proofs.PiecesRight.{in_blocks, one-shown, copies-no-pieces}
+use Rattle.paper.proofs.Promised.{explanation_same}
+use Rattle.paper.proofs.PiecesRight.{in_blocks, one_shown, copies_no_pieces}
 use Rattle.tried.specs.WrongCopiers.{Hands, HandsPieces, HandsCopies, CopiesFail}
-use Rattle.tried.proofs.WrongExplainers.{low, twoFalse, two-shown, two-lendable}
+use Rattle.tried.proofs.WrongExplainers.{low, two_false, two_shown, two_lendable}
 
 -- the one that is right
 module _ (text list : Bor (List ℕ)) (entry : List ℕ) where
-  abbrev theShown : Shown
-  theShown = (one-shown.there-is text list entry).0
+  abbrev the_shown : Shown
+  the_shown = (one_shown.there_is text list entry).0
 
-  shown-promised : ShownPromised text list entry theShown
-  shown-promised = (one-shown.there-is text list entry).1
+  shown_promised : ShownPromised text list entry the_shown
+  shown_promised = (one_shown.there_is text list entry).1
 
 -- a reference to bytes, wherever they lie
 abbrev lent_at : List ℕ → Bor (List ℕ)
 lent_at s = record { ref_ptr = (0, 0); now = s }
 
 -- `false;false`, of which the first five bytes are shown
-two-piece : (r : Shown) → ShownPromised (lent_at twoFalse) (lent_at []) low r → ¬ (r.text.now ≡ [])
-two-piece r p none =
-    let why : r.why ≡ X.Part 1 0 0 5 = explanation-same r.why (X.Part 1 0 0 5) (p.says ∙ two-shown) in
-    let bytes = (subst (λ (w : Explanation). inText w (lent_at twoFalse) r.text) why p.in-text).bytes in
+two_piece : (r : Shown) → ShownPromised (lent_at two_false) (lent_at []) low r → ¬ (r.text.now ≡ [])
+two_piece r p none =
+    let why : r.why ≡ X.Part 1 0 0 5 = explanation_same r.why (X.Part 1 0 0 5) (p.says ∙ two_shown) in
+    let bytes = (subst (λ (w : Explanation). InText w (lent_at two_false) r.text) why p.in_text).bytes in
     let z : ◌≡◌ {A = ℕ} 0 5 = ap length (sym none ∙ bytes) in
     omega arith
 
-copies-fail : (x : Hands) → HandsCopies x → ¬ HandsPieces x
-copies-fail x copies hands =
-    let text = lent_at twoFalse in
+copies_fail : (x : Hands) → HandsCopies x → ¬ HandsPieces x
+copies_fail x copies hands =
+    let text = lent_at two_false in
     let list = lent_at [] in
-    let kept = shown-promised text list low in
-    let (why, of-text, of-list) = copies text list low two-lendable (theShown text list low) kept in
-    copies-no-pieces.of-text text list low (theShown text list low) (x text list low) kept (two-piece (theShown text list low) kept) of-text
-    (hands text list low two-lendable)
+    let kept = shown_promised text list low in
+    let (why, of_text, of_list) = copies text list low two_lendable (the_shown text list low) kept in
+    copies_no_pieces.of_text text list low (the_shown text list low) (x text list low) kept (two_piece (the_shown text list low) kept) of_text
+    (hands text list low two_lendable)
 
 -- one that has a block of its own
 abbrev moved : Bor (List ℕ) → Bor (List ℕ) → Bor (List ℕ) → Bor (List ℕ)
@@ -49,27 +49,27 @@ moved text list r = record { ref_ptr = (suc (text.ref_ptr.0 + list.ref_ptr.0), 0
 
 abbrev copier : Hands
 copier text list entry =
-    let r = theShown text list entry in
+    let r = the_shown text list entry in
     record { why = r.why; text = moved text list r.text; list = moved text list r.list }
 
 -- it is none of those that are lent
-moved-copies : (text list p r : Bor (List ℕ)) → p.now ≡ r.now → ¬ (suc (text.ref_ptr.0 + list.ref_ptr.0) ≡ r.ref_ptr.0) → CopyOf r (moved text list p)
-moved-copies text list p r same other = record { bytes = same; elsewhere = λ e. other (ap (λ (x : ℕ × ℕ). x.0) e) }
+moved_copies : (text list p r : Bor (List ℕ)) → p.now ≡ r.now → ¬ (suc (text.ref_ptr.0 + list.ref_ptr.0) ≡ r.ref_ptr.0) → CopyOf r (moved text list p)
+moved_copies text list p r same other = record { bytes = same; elsewhere = λ e. other (ap (λ (x : ℕ × ℕ). x.0) e) }
 
-copier-copies : HandsCopies copier
-copier-copies text list entry _ r p =
-    let kept = shown-promised text list entry in
-    let same = one-shown.no_second text list entry (theShown text list entry) r kept p in
-    let (in-text, in_List) = in_blocks text list entry r p in (
+copier_copies : HandsCopies copier
+copier_copies text list entry _ r p =
+    let kept = shown_promised text list entry in
+    let same = one_shown.no_second text list entry (the_shown text list entry) r kept p in
+    let (in_text, in_List) = in_blocks text list entry r p in (
       same.why,
-      moved-copies text list (theShown text list entry).text r.text same.text.bytes (λ e. omega (arith, e, in-text)),
-      moved-copies text list (theShown text list entry).list r.list same.list.bytes (λ e. omega (arith, e, in_List)),
+      moved_copies text list (the_shown text list entry).text r.text same.text.bytes (λ e. omega (arith, e, in_text)),
+      moved_copies text list (the_shown text list entry).list r.list same.list.bytes (λ e. omega (arith, e, in_List)),
     )
 
-pub pieces-not-copied : CopiesFail
-pieces-not-copied =
+pub pieces_not_copied : CopiesFail
+pieces_not_copied =
     record {
-      no_pieces = copies-no-pieces;
-      fails = copies-fail;
-      there-is = (copier, copier-copies);
+      no_pieces = copies_no_pieces;
+      fails = copies_fail;
+      there_is = (copier, copier_copies);
     }

@@ -9,10 +9,10 @@ use Rattle.paper.specs.declared.Counting.TheVariants as C
 use Rattle.paper.specs.Answers.{Answer, ok, refused, ◌>>=◌}
 use Rattle.paper.specs.Calls.{restriction, over}
 use Rattle.paper.specs.Parts.{parts}
-use Rattle.paper.specs.Counting.{entriesIn, Counts, countsOf, Totals, totalsOf, countingSays}
-use Rattle.paper.specs.Demands.{countsIn}
-use Rattle.tried.specs.WrongCounters.{Counter, CountsAllRight, Rule, NumbersBy, oneMoreRefused, CountsCut}
-use Rattle.paper.proofs.DemandTwo.{checkable-restriction}
+use Rattle.paper.specs.Counting.{entries_in, Counts, counts_of, Totals, totals_of, counting_says}
+use Rattle.paper.specs.Demands.{counts_in}
+use Rattle.tried.specs.WrongCounters.{Counter, CountsAllRight, Rule, NumbersBy, one_more_refused, CountsCut}
+use Rattle.paper.proofs.DemandTwo.{checkable_restriction}
 
 -- by a rule
 
@@ -21,45 +21,45 @@ module _ (rule : Rule) (right : Counter) where
   lent (ok new) numbers = over new numbers
   lent (refused n i at) numbers = numbers
 
-  numbersBy : List ℕ → List ℕ → List ℕ → Answer (List ℕ)
-  numbersBy text list entries =
+  numbers_by : List ℕ → List ℕ → List ℕ → Answer (List ℕ)
+  numbers_by text list entries =
       restriction text list
       >>= λ r. parts text
-      >>= λ ps. ok (rule r.keys r.root ps (entriesIn r.keys entries))
+      >>= λ ps. ok (rule r.keys r.root ps (entries_in r.keys entries))
 
   counter : Counter
   counter text list entries numbers =
-      record { answer = (right text list entries numbers).answer; numbers = lent (numbersBy text list entries) numbers }
+      record { answer = (right text list entries numbers).answer; numbers = lent (numbers_by text list entries) numbers }
 
-  by-rule : NumbersBy rule counter
-  unfolding numbersBy counter
-  by-rule text list entries numbers _ _ _ _ c = rw (checkable-restriction text list c.passes, c.divided)
+  by_rule : NumbersBy rule counter
+  unfolding numbers_by counter
+  by_rule text list entries numbers _ _ _ _ c = rw (checkable_restriction text list c.passes, c.divided)
 
-  pub counter-real : (x : Counter) × NumbersBy rule x
-  counter-real = (counter, by-rule)
+  pub counter_real : (x : Counter) × NumbersBy rule x
+  counter_real = (counter, by_rule)
 
 -- with the entry that is cut
 
-abbrev withCut : ℕ → ℕ → ℕ
-withCut zero n = n
-withCut (suc cut) n = suc n
+abbrev with_cut : ℕ → ℕ → ℕ
+with_cut zero n = n
+with_cut (suc cut) n = suc n
 
-abbrev oneMore : Counting → Counting
-oneMore (C.Counted n a v r c) = C.Counted n a v (withCut c r) c
-oneMore (C.Refused n at) = C.Refused n at
+abbrev one_more : Counting → Counting
+one_more (C.Counted n a v r c) = C.Counted n a v (with_cut c r) c
+one_more (C.Refused n at) = C.Refused n at
 
-abbrev cutAdded : Totals → Totals
-cutAdded t =
-    record { parts = t.parts; accepted = t.accepted; violated = t.violated; refused = withCut t.cut t.refused; cut = t.cut }
+abbrev cut_added : Totals → Totals
+cut_added t =
+    record { parts = t.parts; accepted = t.accepted; violated = t.violated; refused = with_cut t.cut t.refused; cut = t.cut }
 
-says-more : (a : Counting) → countingSays (oneMore a) ≡ (countingSays a >>= λ t. ok (cutAdded t))
-says-more (C.Counted n a v r c) = refl
-says-more (C.Refused n at) = refl
+says_more : (a : Counting) → counting_says (one_more a) ≡ (counting_says a >>= λ t. ok (cut_added t))
+says_more (C.Counted n a v r c) = refl
+says_more (C.Refused n at) = refl
 
-is-more : (c : Counts) → 0 < c.cut → cutAdded (totalsOf c) ≡ oneMoreRefused c
-is-more c cut = ap (λ (n : ℕ). record { parts = (totalsOf c).parts; accepted = c.accepted; violated = c.violated; refused = n; cut = c.cut }) (go c.cut cut)
+is_more : (c : Counts) → 0 < c.cut → cut_added (totals_of c) ≡ one_more_refused c
+is_more c cut = ap (λ (n : ℕ). record { parts = (totals_of c).parts; accepted = c.accepted; violated = c.violated; refused = n; cut = c.cut }) (go c.cut cut)
   where
-    go : (n : ℕ) → 0 < n → withCut n c.refused ≡ suc c.refused
+    go : (n : ℕ) → 0 < n → with_cut n c.refused ≡ suc c.refused
     go zero h = absurd (omega (arith, h))
     go (suc n) h = refl
 
@@ -67,16 +67,16 @@ module _ (right : Counter) (all : CountsAllRight right) where
   cutter : Counter
   cutter text list entries numbers =
       let r = right text list entries numbers in
-      record { answer = oneMore r.answer; numbers = r.numbers }
+      record { answer = one_more r.answer; numbers = r.numbers }
 
-  with-cut : CountsCut cutter
-  unfolding cutter countsOf
-  with-cut text list entries numbers t l e n c cut =
+  with_cut_lem : CountsCut cutter
+  unfolding cutter counts_of
+  with_cut_lem text list entries numbers t l e n c cut =
       let r = right text list entries numbers in
-      let counts = countsIn text list entries c in
-      says-more r.answer
-      ∙ ap (λ (a : Answer Totals). a >>= λ t. ok (cutAdded t)) ((all text list entries numbers t l e n).totals c)
-      ∙ ap ok (is-more counts cut)
+      let counts = counts_in text list entries c in
+      says_more r.answer
+      ∙ ap (λ (a : Answer Totals). a >>= λ t. ok (cut_added t)) ((all text list entries numbers t l e n).totals c)
+      ∙ ap ok (is_more counts cut)
 
-  pub cut-real : (x : Counter) × CountsCut x
-  cut-real = (cutter, with-cut)
+  pub cut_real : (x : Counter) × CountsCut x
+  cut_real = (cutter, with_cut_lem)

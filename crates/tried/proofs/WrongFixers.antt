@@ -6,20 +6,20 @@ use mathlib.Core.List.{List, []}
 use lib.ListN.{length, get_or, take, replicate, length-replicate}
 use lib.Seq.{take_at}
 use Rattle.paper.specs.declared.Fixing.TheVariants as F
-use Rattle.paper.specs.Tokens.{bytes, mostText}
+use Rattle.paper.specs.Tokens.{bytes, most_text}
 use Rattle.paper.specs.Calls.{over}
 use Rattle.paper.specs.Fixing.{fixed}
 use Rattle.paper.specs.Promised.{Bytes, FixResult}
 use Rattle.tried.specs.WrongFixers.{Fixer, FixesAllRight, Octal, Makes, ChangesStrings, ChangesComments, KeepsZeros, DropsPrefix, WrongFixersFail}
-use Rattle.paper.proofs.ByteLists.{zero-bytes, all-bytes}
+use Rattle.paper.proofs.ByteLists.{zero_bytes, all_bytes_lem}
 
 -- a pass that is right makes nothing else of a text
-makes-fixed : (x : Fixer) (text made : List ℕ) → Bytes text → length text ≤ mostText → FixesAllRight x → Makes x text made → made ≡ fixed text
-makes-fixed x text made lent short right makes =
+makes_fixed : (x : Fixer) (text made : List ℕ) → Bytes text → length text ≤ most_text → FixesAllRight x → Makes x text made → made ≡ fixed text
+makes_fixed x text made lent short right makes =
     let n = length made in
     let buffer : List ℕ = replicate n 0 in
-    let given = makes buffer (zero-bytes n) short (omega (arith, length-replicate {A = ℕ} n 0)) in
-    let true-one = right text buffer lent (zero-bytes n) in
+    let given = makes buffer (zero_bytes n) short (omega (arith, length-replicate {A = ℕ} n 0)) in
+    let true-one = right text buffer lent (zero_bytes n) in
     let f = (true-one.fixes n).0 (ap (λ (r : FixResult). r.answer) given) in
     let same : over made buffer ≡ over (fixed text) buffer = sym (ap (λ (r : FixResult). r.buffer) given) ∙ true-one.written n f in
     sym (take_at made _ n refl) ∙ ap (take n) same ∙ take_at (fixed text) _ n (sym f.count)
@@ -28,50 +28,50 @@ makes-fixed x text made lent short right makes =
 differ : (v w : List ℕ) (i : ℕ) → v ≡ w → get_or v i 0 ≡ get_or w i 0
 differ v w i e = ap (λ s. get_or s i 0) e
 
-seven-octal : Octal (bytes "7")
-seven-octal = (omega arith, refl)
+seven_octal : Octal (bytes "7")
+seven_octal = (omega arith, refl)
 
 -- what is made of the four texts
 
-string-stays : fixed (bytes "'0o7'") ≡ bytes "'0o7'"
+string_stays : fixed (bytes "'0o7'") ≡ bytes "'0o7'"
 unfolding fixed
-string-stays = refl
+string_stays = refl
 
-comment-stays : fixed (bytes "//0o7") ≡ bytes "//0o7"
+comment_stays : fixed (bytes "//0o7") ≡ bytes "//0o7"
 unfolding fixed
-comment-stays = refl
+comment_stays = refl
 
-zero-goes : fixed (bytes "0o07") ≡ bytes "0x7"
+zero_goes : fixed (bytes "0o07") ≡ bytes "0x7"
 unfolding fixed
-zero-goes = refl
+zero_goes = refl
 
-seven-fixed : fixed (bytes "0o7") ≡ bytes "0x7"
+seven_fixed : fixed (bytes "0o7") ≡ bytes "0x7"
 unfolding fixed
-seven-fixed = refl
+seven_fixed = refl
 
-strings-fail : (x : Fixer) → ChangesStrings x → ¬ FixesAllRight x
-strings-fail x changes right =
+strings_fail : (x : Fixer) → ChangesStrings x → ¬ FixesAllRight x
+strings_fail x changes right =
     let text = bytes "'0o7'" in
-    let same = makes-fixed x text (bytes "'0x7'") (all-bytes text refl) (omega arith) right (changes (bytes "7") seven-octal) in
-    omega (arith, differ (bytes "'0x7'") text 2 (same ∙ string-stays))
+    let same = makes_fixed x text (bytes "'0x7'") (all_bytes_lem text refl) (omega arith) right (changes (bytes "7") seven_octal) in
+    omega (arith, differ (bytes "'0x7'") text 2 (same ∙ string_stays))
 
-comments-fail : (x : Fixer) → ChangesComments x → ¬ FixesAllRight x
-comments-fail x changes right =
+comments_fail : (x : Fixer) → ChangesComments x → ¬ FixesAllRight x
+comments_fail x changes right =
     let text = bytes "//0o7" in
-    let same = makes-fixed x text (bytes "//0x7") (all-bytes text refl) (omega arith) right (changes (bytes "7") seven-octal) in
-    omega (arith, differ (bytes "//0x7") text 3 (same ∙ comment-stays))
+    let same = makes_fixed x text (bytes "//0x7") (all_bytes_lem text refl) (omega arith) right (changes (bytes "7") seven_octal) in
+    omega (arith, differ (bytes "//0x7") text 3 (same ∙ comment_stays))
 
-zeros-fail : (x : Fixer) → KeepsZeros x → ¬ FixesAllRight x
-zeros-fail x keeps right =
+zeros_fail : (x : Fixer) → KeepsZeros x → ¬ FixesAllRight x
+zeros_fail x keeps right =
     let text = bytes "0o07" in
-    let same = makes-fixed x text (bytes "0x07") (all-bytes text refl) (omega arith) right (keeps 1 55 [] seven-octal (omega arith)) in
-    omega (arith, differ (bytes "0x07") (bytes "0x7") 2 (same ∙ zero-goes))
+    let same = makes_fixed x text (bytes "0x07") (all_bytes_lem text refl) (omega arith) right (keeps 1 55 [] seven_octal (omega arith)) in
+    omega (arith, differ (bytes "0x07") (bytes "0x7") 2 (same ∙ zero_goes))
 
-dropped-fails : (x : Fixer) → DropsPrefix x → ¬ FixesAllRight x
-dropped-fails x drops right =
+dropped_fails : (x : Fixer) → DropsPrefix x → ¬ FixesAllRight x
+dropped_fails x drops right =
     let text = bytes "0o7" in
-    let same = makes-fixed x text (bytes "7") (all-bytes text refl) (omega arith) right (drops (bytes "7") seven-octal) in
-    omega (arith, differ (bytes "7") (bytes "0x7") 0 (same ∙ seven-fixed))
+    let same = makes_fixed x text (bytes "7") (all_bytes_lem text refl) (omega arith) right (drops (bytes "7") seven_octal) in
+    omega (arith, differ (bytes "7") (bytes "0x7") 0 (same ∙ seven_fixed))
 
-pub wrong-fixers-fail : WrongFixersFail
-wrong-fixers-fail = record { strings = strings-fail; comments = comments-fail; zeros = zeros-fail; dropped = dropped-fails }
+pub wrong_fixers_fail : WrongFixersFail
+wrong_fixers_fail = record { strings = strings_fail; comments = comments_fail; zeros = zeros_fail; dropped = dropped_fails }

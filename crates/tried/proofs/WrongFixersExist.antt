@@ -9,18 +9,18 @@ use lib.Seq.{take_at, drop-append_seam}
 use lib.Dec.{eqb, ltb, leb}
 use borrow.Author.Tests.{eq-eqb, ne_eqb, lt-ltb, le-leb}
 use Rattle.paper.specs.declared.Fixing.TheVariants as F
-use Rattle.paper.specs.Numbers.{inBase}
-use Rattle.paper.specs.Tokens.{bytes, sameBytes, span, within, digitOf, mostText}
-use Rattle.paper.specs.Print.{numeralIn}
+use Rattle.paper.specs.Numbers.{in_base}
+use Rattle.paper.specs.Tokens.{bytes, same_bytes, span, within, digit_of, most_text}
+use Rattle.paper.specs.Print.{numeral_in}
 use Rattle.paper.specs.Calls.{over}
-use Rattle.tried.specs.WrongFixers.{Fixer, Octal, inHex, Makes, ChangesStrings, ChangesComments, KeepsZeros, DropsPrefix}
+use Rattle.tried.specs.WrongFixers.{Fixer, Octal, in_hex, Makes, ChangesStrings, ChangesComments, KeepsZeros, DropsPrefix}
 use Rattle.paper.proofs.Words.{bytes_same}
 
-abbrev isOctal : List ℕ → Bool
-isOctal ds = ltb 0 (length ds) && eqb (span (within 48 55) ds) (length ds)
+abbrev is_octal : List ℕ → Bool
+is_octal ds = ltb 0 (length ds) && eqb (span (within 48 55) ds) (length ds)
 
-is-octal : (ds : List ℕ) → Octal ds → isOctal ds ≡ true
-is-octal ds (some, all) = rw (lt-ltb 0 (length ds) some, eq-eqb (span (within 48 55) ds) (length ds) all)
+is_octal_lem : (ds : List ℕ) → Octal ds → is_octal ds ≡ true
+is_octal_lem ds (some, all) = rw (lt-ltb 0 (length ds) some, eq-eqb (span (within 48 55) ds) (length ds) all)
 
 -- what stands between two ends of a text
 module _ (front back : List ℕ) where
@@ -45,22 +45,22 @@ module _ (front back : List ℕ) where
   module _ (digits made : List ℕ → List ℕ) (fix : Fixer) where
     takes : List ℕ → List ℕ → List ℕ → Bool
     takes text middle buffer =
-        sameBytes text (around middle) && isOctal (digits middle) && leb (length text) mostText && leb (length (made middle)) (length buffer)
+        same_bytes text (around middle) && is_octal (digits middle) && leb (length text) most_text && leb (length (made middle)) (length buffer)
 
     abbrev wrong : Fixer
     wrong text buffer =
         let new = made (between text) in
         cond (takes text (between text) buffer) (record { answer = F.Fixed (length new); buffer = over new buffer }) (fix text buffer)
 
-    wrong-makes : (middle : List ℕ) → isOctal (digits middle) ≡ true → Makes wrong (around middle) (made middle)
+    wrong_makes : (middle : List ℕ) → is_octal (digits middle) ≡ true → Makes wrong (around middle) (made middle)
     unfolding takes
-    wrong-makes middle octal buffer lent short room =
+    wrong_makes middle octal buffer lent short room =
         let text = around middle in
         rw (
           between_is middle,
           bytes_same text,
           octal,
-          le-leb (length text) mostText short,
+          le-leb (length text) most_text short,
           le-leb (length (made middle)) (length buffer) room,
         )
 
@@ -72,15 +72,15 @@ is_zero b = eqb b 48
 abbrev zeros : List ℕ → ℕ
 zeros ds = span is_zero ds
 
-zeros-counted : (k d : ℕ) (ds : List ℕ) → 48 < d → zeros (replicate k 48 ++ (d ∷ ds)) ≡ k
-zeros-counted zero d ds h = rw (ne_eqb d 48 (λ e. omega arith))
-zeros-counted (suc k) d ds h = ap suc (zeros-counted k d ds h)
+zeros_counted : (k d : ℕ) (ds : List ℕ) → 48 < d → zeros (replicate k 48 ++ (d ∷ ds)) ≡ k
+zeros_counted zero d ds h = rw (ne_eqb d 48 (λ e. omega arith))
+zeros_counted (suc k) d ds h = ap suc (zeros_counted k d ds h)
 
-abbrev withoutZeros : List ℕ → List ℕ
-withoutZeros ds = drop (zeros ds) ds
+abbrev without_zeros : List ℕ → List ℕ
+without_zeros ds = drop (zeros ds) ds
 
-abbrev withZeros : List ℕ → List ℕ
-withZeros ds = bytes "0x" ++ take (zeros ds) ds ++ numeralIn 16 (inBase 8 (map digitOf (withoutZeros ds)))
+abbrev with_zeros : List ℕ → List ℕ
+with_zeros ds = bytes "0x" ++ take (zeros ds) ds ++ numeral_in 16 (in_base 8 (map digit_of (without_zeros ds)))
 
 -- each, from a pass that is right
 
@@ -88,41 +88,41 @@ abbrev whole : List ℕ → List ℕ
 whole ds = ds
 
 module _ (fix : Fixer) where
-  pub strings-real : (x : Fixer) × ChangesStrings x
-  strings-real =
-      let made : List ℕ → List ℕ = λ ds. bytes "'" ++ inHex ds ++ bytes "'" in
+  pub strings_real : (x : Fixer) × ChangesStrings x
+  strings_real =
+      let made : List ℕ → List ℕ = λ ds. bytes "'" ++ in_hex ds ++ bytes "'" in
       let front = bytes "'0o" in
       let back = bytes "'" in
-      (wrong front back whole made fix, λ ds octal. wrong-makes front back whole made fix ds (is-octal ds octal))
+      (wrong front back whole made fix, λ ds octal. wrong_makes front back whole made fix ds (is_octal_lem ds octal))
 
   -- a text that ends with the digits
-  ending : (front : List ℕ) (digits made : List ℕ → List ℕ) (ds : List ℕ) → isOctal (digits ds) ≡ true
+  ending : (front : List ℕ) (digits made : List ℕ → List ℕ) (ds : List ℕ) → is_octal (digits ds) ≡ true
       → Makes (wrong front [] digits made fix) (front ++ ds) (made ds)
   ending front digits made ds octal =
       subst (λ (text : List ℕ). Makes (wrong front [] digits made fix) text (made ds)) (append-nil (front ++ ds))
-      (wrong-makes front [] digits made fix ds octal)
+      (wrong_makes front [] digits made fix ds octal)
 
-  pub comments-real : (x : Fixer) × ChangesComments x
-  comments-real =
-      let made : List ℕ → List ℕ = λ ds. bytes "//" ++ inHex ds in
-      (wrong (bytes "//0o") [] whole made fix, λ ds octal. ending (bytes "//0o") whole made ds (is-octal ds octal))
+  pub comments_real : (x : Fixer) × ChangesComments x
+  comments_real =
+      let made : List ℕ → List ℕ = λ ds. bytes "//" ++ in_hex ds in
+      (wrong (bytes "//0o") [] whole made fix, λ ds octal. ending (bytes "//0o") whole made ds (is_octal_lem ds octal))
 
-  pub dropped-real : (x : Fixer) × DropsPrefix x
-  dropped-real = (wrong (bytes "0o") [] whole whole fix, λ ds octal. ending (bytes "0o") whole whole ds (is-octal ds octal))
+  pub dropped_real : (x : Fixer) × DropsPrefix x
+  dropped_real = (wrong (bytes "0o") [] whole whole fix, λ ds octal. ending (bytes "0o") whole whole ds (is_octal_lem ds octal))
 
-  pub zeros-real : (x : Fixer) × KeepsZeros x
-  zeros-real = (x, keeps)
+  pub zeros_real : (x : Fixer) × KeepsZeros x
+  zeros_real = (x, keeps)
     where
       x : Fixer
-      x = wrong (bytes "0o") [] withoutZeros withZeros fix
+      x = wrong (bytes "0o") [] without_zeros with_zeros fix
 
       keeps : KeepsZeros x
       keeps k d ds octal h =
           let run : List ℕ = replicate k 48 in
           let all = run ++ (d ∷ ds) in
-          let many : zeros all ≡ length run = zeros-counted k d ds h ∙ sym (length-replicate k 48) in
+          let many : zeros all ≡ length run = zeros_counted k d ds h ∙ sym (length-replicate k 48) in
           let first : take (zeros all) all ≡ run = take_at run (d ∷ ds) (zeros all) (sym many) in
-          let rest : withoutZeros all ≡ d ∷ ds = ap (λ n. drop n all) many ∙ drop-append_seam run (d ∷ ds) in
-          let makes = ending (bytes "0o") withoutZeros withZeros all (ap isOctal rest ∙ is-octal (d ∷ ds) octal) in
+          let rest : without_zeros all ≡ d ∷ ds = ap (λ n. drop n all) many ∙ drop-append_seam run (d ∷ ds) in
+          let makes = ending (bytes "0o") without_zeros with_zeros all (ap is_octal rest ∙ is_octal_lem (d ∷ ds) octal) in
           subst (λ (made : List ℕ). Makes x (bytes "0o" ++ all) made)
-          (ap₂ (λ (a b : List ℕ). bytes "0x" ++ a ++ numeralIn 16 (inBase 8 (map digitOf b))) first rest) makes
+          (ap₂ (λ (a b : List ℕ). bytes "0x" ++ a ++ numeral_in 16 (in_base 8 (map digit_of b))) first rest) makes

@@ -8,46 +8,46 @@ use mathlib.Core.Bool.{Bool, true, false, not, true≢false}
 use mathlib.Core.List.{List, [], ◌∷◌, ◌++◌}
 use lib.Dec.{lit<}
 use Rattle.paper.specs.declared.Judgement.TheVariants as J
-use Rattle.paper.specs.Answers.{Answer, ok, refused, inEntry, judgementSays}
-use Rattle.paper.specs.Numbers.{bigEndian}
+use Rattle.paper.specs.Answers.{Answer, ok, refused, inEntry, judgement_says}
+use Rattle.paper.specs.Numbers.{big_endian}
 use Rattle.paper.specs.Tokens.{bytes, plain, equal, less}
-use Rattle.paper.specs.Keys.{ternary, keyRecord}
-use Rattle.paper.specs.Entry.{Entry, matchRecord, priorityOf, entry_of}
+use Rattle.paper.specs.Keys.{ternary, key_record}
+use Rattle.paper.specs.Entry.{Entry, match_record, priority_of, entry_of}
 use Rattle.paper.specs.Grammar.{number, field, attribute, compared}
 use Rattle.paper.specs.Calls.{Restriction, restriction}
-use Rattle.paper.specs.Named.{names, marked, Summary, summarizingSays}
-use Rattle.paper.specs.Rechecking.{reused, judged, recheckingSays, recheckAnswer}
+use Rattle.paper.specs.Named.{names, marked, Summary, summarizing_says}
+use Rattle.paper.specs.Rechecking.{reused, judged, rechecking_says, recheck_answer}
 use Rattle.paper.specs.RecheckedRight.{bit_at, BothConform}
 use Rattle.paper.specs.Promised.{Bytes}
 use Rattle.tried.specs.WrongRecheckers.{Rechecker, Lendable, RechecksRight, Reuses, Judges, ForgetsPriority, ComparesReadings, Summarizer, SummarizesRight, HasBit, CountsPriority, MissesFields, WrongRecheckersFail}
-use Rattle.paper.proofs.ByteLists.{all-bytes}
+use Rattle.paper.proofs.ByteLists.{all_bytes_lem}
 use Rattle.paper.proofs.Stages.{ok_same}
-use Rattle.paper.proofs.RecheckedRight.{reused-exactly}
+use Rattle.paper.proofs.RecheckedRight.{reused_exactly}
 
 -- what a right one says is what the definition says
 
 module _ (x : Rechecker) (right : RechecksRight x) (text list old new : List ℕ) (lendable : Lendable text list old new) where
-  told : recheckAnswer text list old (judgementSays J.Accepted) new ≡ recheckingSays (x text list old J.Accepted new)
-  told = (reused-exactly text list old (ok true) new _).1 (right text list old J.Accepted new lendable)
+  told : recheck_answer text list old (judgement_says J.Accepted) new ≡ rechecking_says (x text list old J.Accepted new)
+  told = (reused_exactly text list old (ok true) new _).1 (right text list old J.Accepted new lendable)
 
-  not-judged : recheckAnswer text list old (ok true) new ≡ reused (ok true) → ¬ Judges x text list old new
-  not-judged shown judges =
+  not_judged : recheck_answer text list old (ok true) new ≡ reused (ok true) → ¬ Judges x text list old new
+  not_judged shown judges =
       let (j, e) = judges J.Accepted in
-      let z : ◌≡◌ {A = ℕ} 0 1 = cc (sym shown ∙ told ∙ ap recheckingSays e) in
+      let z : ◌≡◌ {A = ℕ} 0 1 = cc (sym shown ∙ told ∙ ap rechecking_says e) in
       omega arith
 
-  not-reused : (a : Answer Bool) → recheckAnswer text list old (ok true) new ≡ judged a → ¬ Reuses x text list old new
-  not-reused a shown reuses =
-      let z : ◌≡◌ {A = ℕ} 0 1 = cc (sym shown ∙ told ∙ ap recheckingSays (reuses J.Accepted)) in
+  not_reused : (a : Answer Bool) → recheck_answer text list old (ok true) new ≡ judged a → ¬ Reuses x text list old new
+  not_reused a shown reuses =
+      let z : ◌≡◌ {A = ℕ} 0 1 = cc (sym shown ∙ told ∙ ap rechecking_says (reuses J.Accepted)) in
       omega arith
 
 module _ (x : Summarizer) (right : SummarizesRight x) (text list : List ℕ) (t : Bytes text) (l : Bytes list) (r : Restriction)
     (passed : restriction text list ≡ ok r) where
-  not-with : (k : ℕ) (b : Bool) → names r.keys r.root k ≡ b → ¬ HasBit (x text list) k (not b)
-  not-with k b named (keys, priority, e, bit) =
+  not_with : (k : ℕ) (b : Bool) → names r.keys r.root k ≡ b → ¬ HasBit (x text list) k (not b)
+  not_with k b named (keys, priority, e, bit) =
       let (s, there, summarizes) = right text list t l r passed in
       let given : Summary = record { keys = keys; priority = priority } in
-      let same = ok_same given s (sym (ap summarizingSays e) ∙ there) in
+      let same = ok_same given s (sym (ap summarizing_says e) ∙ there) in
       differ b (sym bit ∙ ap (λ (u : Summary). bit_at u.keys k) same ∙ summarizes.bits k ∙ named)
     where
       differ : (b : Bool) → ¬ (not b ≡ b)
@@ -57,159 +57,159 @@ module _ (x : Summarizer) (right : SummarizesRight x) (text list : List ℕ) (t 
 -- entries with no keys, by their priority
 
 abbrev low : ℕ → List ℕ
-low priority = bigEndian 4 priority
+low priority = big_endian 4 priority
 
 -- `true`
 
-abbrev plainText : List ℕ
-plainText = bytes "true"
+abbrev plain_text : List ℕ
+plain_text = bytes "true"
 
-plain-bytes : Bytes plainText
-plain-bytes = all-bytes plainText refl
+plain_bytes : Bytes plain_text
+plain_bytes = all_bytes_lem plain_text refl
 
-same-reused : recheckAnswer plainText [] (low 0) (ok true) (low 0) ≡ reused (ok true)
-unfolding recheckAnswer
-same-reused = refl
+same_reused : recheck_answer plain_text [] (low 0) (ok true) (low 0) ≡ reused (ok true)
+unfolding recheck_answer
+same_reused = refl
 
-unmarked-reused : recheckAnswer plainText [] (low 0) (ok true) (low 1) ≡ reused (ok true)
-unfolding recheckAnswer
-unmarked-reused = refl
+unmarked_reused : recheck_answer plain_text [] (low 0) (ok true) (low 1) ≡ reused (ok true)
+unfolding recheck_answer
+unmarked_reused = refl
 
-high-judged : recheckAnswer plainText [] (low 0) (ok true) (low (2 ^ 31)) ≡ judged (refused 20 inEntry 0)
-unfolding recheckAnswer
-high-judged = refl
+high_judged : recheck_answer plain_text [] (low 0) (ok true) (low (2 ^ 31)) ≡ judged (refused 20 inEntry 0)
+unfolding recheck_answer
+high_judged = refl
 
 -- `::priority < 10`
 
 abbrev marking : List ℕ
 marking = bytes "::priority < 10"
 
-marking-bytes : Bytes marking
-marking-bytes = all-bytes marking refl
+marking_bytes : Bytes marking
+marking_bytes = all_bytes_lem marking refl
 
-abbrev markingRule : Restriction
-markingRule = record { keys = []; root = compared 11 less (attribute 0 2 (bytes "priority")) (number 13 (plain 10)) }
+abbrev marking_rule : Restriction
+marking_rule = record { keys = []; root = compared 11 less (attribute 0 2 (bytes "priority")) (number 13 (plain 10)) }
 
-marking-passes : restriction marking [] ≡ ok markingRule
+marking_passes : restriction marking [] ≡ ok marking_rule
 unfolding restriction
-marking-passes = refl
+marking_passes = refl
 
-marking-conform : BothConform marking [] (low 9) (low 10)
+marking_conform : BothConform marking [] (low 9) (low 10)
 unfolding entry_of
-marking-conform =
+marking_conform =
     record {
-      rule = markingRule;
-      passes = marking-passes;
+      rule = marking_rule;
+      passes = marking_passes;
       was = record { priority = 9; matches = [] };
-      old-conforms = refl;
+      old_conforms = refl;
       is = record { priority = 10; matches = [] };
-      new-conforms = refl;
+      new_conforms = refl;
     }
 
-marking-judged : recheckAnswer marking [] (low 9) (ok true) (low 10) ≡ judged (ok false)
-unfolding recheckAnswer
-marking-judged = refl
+marking_judged : recheck_answer marking [] (low 9) (ok true) (low 10) ≡ judged (ok false)
+unfolding recheck_answer
+marking_judged = refl
 
-marking-names : (k : ℕ) → names [] markingRule.root k ≡ false
+marking_names : (k : ℕ) → names [] marking_rule.root k ≡ false
 unfolding names
-marking-names k = refl
+marking_names k = refl
 
 forgotten : (x : Rechecker) → ForgetsPriority x → Reuses x marking [] (low 9) (low 10)
-unfolding marking-conform
+unfolding marking_conform
 forgotten x forgets =
-    forgets marking [] (low 9) (low 10) (marking-bytes, tt, all-bytes (low 9) refl, all-bytes (low 10) refl) marking-conform
-    (λ k h. absurd (true≢false (sym h ∙ marking-names k)))
+    forgets marking [] (low 9) (low 10) (marking_bytes, tt, all_bytes_lem (low 9) refl, all_bytes_lem (low 10) refl) marking_conform
+    (λ k h. absurd (true≢false (sym h ∙ marking_names k)))
 
-marking-counted : (x : Summarizer) → CountsPriority x → HasBit (x marking []) 0 true
+marking_counted : (x : Summarizer) → CountsPriority x → HasBit (x marking []) 0 true
 unfolding marked
-marking-counted x counts = counts marking [] marking-bytes tt markingRule marking-passes (lit< tt) refl
+marking_counted x counts = counts marking [] marking_bytes tt marking_rule marking_passes (lit< tt) refl
 
 -- `d::mask == 0`, with d absent and with d spelled out
 
 abbrev masking : List ℕ
 masking = bytes "d::mask == 0"
 
-masking-bytes : Bytes masking
-masking-bytes = all-bytes masking refl
+masking_bytes : Bytes masking
+masking_bytes = all_bytes_lem masking refl
 
-abbrev oneKey : List ℕ
-oneKey = keyRecord (bytes "d") 1 8
+abbrev one_key : List ℕ
+one_key = key_record (bytes "d") 1 8
 
-one-bytes : Bytes oneKey
-one-bytes = all-bytes oneKey refl
+one_bytes : Bytes one_key
+one_bytes = all_bytes_lem one_key refl
 
-abbrev maskingRule : Restriction
-maskingRule =
+abbrev masking_rule : Restriction
+masking_rule =
     record {
       keys = record { name = bytes "d"; kind = ternary; width = 8; required = false } ∷ [];
       root = compared 8 equal (field 0 (bytes "d") 3 (bytes "mask")) (number 11 (plain 0));
     }
 
-masking-passes : restriction masking oneKey ≡ ok maskingRule
+masking_passes : restriction masking one_key ≡ ok masking_rule
 unfolding restriction
-masking-passes = refl
+masking_passes = refl
 
 abbrev absent : List ℕ
-absent = low 0 ++ matchRecord 0 0 0 0
+absent = low 0 ++ match_record 0 0 0 0
 
 abbrev spelled : List ℕ
-spelled = low 0 ++ matchRecord 1 0 0 0
+spelled = low 0 ++ match_record 1 0 0 0
 
-abbrev readAs : Entry
-readAs = record { priority = 0; matches = record { first = 0; second = 0; length = 0 } ∷ [] }
+abbrev read_as : Entry
+read_as = record { priority = 0; matches = record { first = 0; second = 0; length = 0 } ∷ [] }
 
-masking-conform : BothConform masking oneKey absent spelled
+masking_conform : BothConform masking one_key absent spelled
 unfolding entry_of
-masking-conform =
+masking_conform =
     record {
-      rule = maskingRule;
-      passes = masking-passes;
-      was = readAs;
-      old-conforms = refl;
-      is = readAs;
-      new-conforms = refl;
+      rule = masking_rule;
+      passes = masking_passes;
+      was = read_as;
+      old_conforms = refl;
+      is = read_as;
+      new_conforms = refl;
     }
 
-masking-judged : recheckAnswer masking oneKey absent (ok true) spelled ≡ judged (ok true)
-unfolding recheckAnswer
-masking-judged = refl
+masking_judged : recheck_answer masking one_key absent (ok true) spelled ≡ judged (ok true)
+unfolding recheck_answer
+masking_judged = refl
 
-masking-lendable : Lendable masking oneKey absent spelled
-masking-lendable = (masking-bytes, one-bytes, all-bytes absent refl, all-bytes spelled refl)
+masking_lendable : Lendable masking one_key absent spelled
+masking_lendable = (masking_bytes, one_bytes, all_bytes_lem absent refl, all_bytes_lem spelled refl)
 
-compared-alike : (x : Rechecker) → ComparesReadings x → Reuses x masking oneKey absent spelled
-unfolding masking-conform
-compared-alike x compares = compares masking oneKey absent spelled masking-lendable masking-conform (λ k h. refl) (λ m. refl)
+compared_alike : (x : Rechecker) → ComparesReadings x → Reuses x masking one_key absent spelled
+unfolding masking_conform
+compared_alike x compares = compares masking one_key absent spelled masking_lendable masking_conform (λ k h. refl) (λ m. refl)
 
-masking-names : names maskingRule.keys maskingRule.root 0 ≡ true
+masking_names : names masking_rule.keys masking_rule.root 0 ≡ true
 unfolding names
-masking-names = refl
+masking_names = refl
 
-masking-missed : (x : Summarizer) → MissesFields x → HasBit (x masking oneKey) 0 false
-masking-missed x misses = misses masking oneKey masking-bytes one-bytes maskingRule masking-passes 0 refl
+masking_missed : (x : Summarizer) → MissesFields x → HasBit (x masking one_key) 0 false
+masking_missed x misses = misses masking one_key masking_bytes one_bytes masking_rule masking_passes 0 refl
 
-pub wrong-recheckers-fail : WrongRecheckersFail
-wrong-recheckers-fail =
-    let zero : Bytes (low 0) = all-bytes (low 0) refl in
-    let equal : Lendable plainText [] (low 0) (low 0) = (plain-bytes, tt, zero, zero) in
-    let changed : Lendable plainText [] (low 0) (low 1) = (plain-bytes, tt, zero, all-bytes (low 1) refl) in
-    let raised : Lendable plainText [] (low 0) (low (2 ^ 31)) = (plain-bytes, tt, zero, all-bytes (low (2 ^ 31)) refl) in
-    let ranked : Lendable marking [] (low 9) (low 10) = (marking-bytes, tt, all-bytes (low 9) refl, all-bytes (low 10) refl) in
+pub wrong_recheckers_fail : WrongRecheckersFail
+wrong_recheckers_fail =
+    let zero : Bytes (low 0) = all_bytes_lem (low 0) refl in
+    let equal : Lendable plain_text [] (low 0) (low 0) = (plain_bytes, tt, zero, zero) in
+    let changed : Lendable plain_text [] (low 0) (low 1) = (plain_bytes, tt, zero, all_bytes_lem (low 1) refl) in
+    let raised : Lendable plain_text [] (low 0) (low (2 ^ 31)) = (plain_bytes, tt, zero, all_bytes_lem (low (2 ^ 31)) refl) in
+    let ranked : Lendable marking [] (low 9) (low 10) = (marking_bytes, tt, all_bytes_lem (low 9) refl, all_bytes_lem (low 10) refl) in
     record {
       never = λ x never right.
-          not-judged x right plainText [] (low 0) (low 0) equal same-reused (never plainText [] (low 0) (low 0) equal);
+          not_judged x right plain_text [] (low 0) (low 0) equal same_reused (never plain_text [] (low 0) (low 0) equal);
       always = λ x always right.
-          not-reused x right plainText [] (low 0) (low (2 ^ 31)) raised (refused 20 inEntry 0) high-judged
-          (always plainText [] (low 0) (low (2 ^ 31)) raised);
-      equal-entries = λ x wants right.
-          not-judged x right plainText [] (low 0) (low 1) changed unmarked-reused
-          (wants plainText [] (low 0) (low 1) changed (λ e. let z : ◌≡◌ {A = ℕ} 0 1 = ap priorityOf e in omega arith));
-      priority-forgotten = λ x forgets right.
-          not-reused x right marking [] (low 9) (low 10) ranked (ok false) marking-judged (forgotten x forgets);
+          not_reused x right plain_text [] (low 0) (low (2 ^ 31)) raised (refused 20 inEntry 0) high_judged
+          (always plain_text [] (low 0) (low (2 ^ 31)) raised);
+      equal_entries = λ x wants right.
+          not_judged x right plain_text [] (low 0) (low 1) changed unmarked_reused
+          (wants plain_text [] (low 0) (low 1) changed (λ e. let z : ◌≡◌ {A = ℕ} 0 1 = ap priority_of e in omega arith));
+      priority_forgotten = λ x forgets right.
+          not_reused x right marking [] (low 9) (low 10) ranked (ok false) marking_judged (forgotten x forgets);
       readings = λ x compares right.
-          not-reused x right masking oneKey absent spelled masking-lendable (ok true) masking-judged (compared-alike x compares);
-      priority-counted = λ x counts right.
-          not-with x right marking [] marking-bytes tt markingRule marking-passes 0 false (marking-names 0) (marking-counted x counts);
-      fields-missed = λ x misses right.
-          not-with x right masking oneKey masking-bytes one-bytes maskingRule masking-passes 0 true masking-names (masking-missed x misses);
+          not_reused x right masking one_key absent spelled masking_lendable (ok true) masking_judged (compared_alike x compares);
+      priority_counted = λ x counts right.
+          not_with x right marking [] marking_bytes tt marking_rule marking_passes 0 false (marking_names 0) (marking_counted x counts);
+      fields_missed = λ x misses right.
+          not_with x right masking one_key masking_bytes one_bytes masking_rule masking_passes 0 true masking_names (masking_missed x misses);
     }

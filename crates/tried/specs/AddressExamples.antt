@@ -2,8 +2,8 @@
 use Rattle.std.specs.Prelude.{ℕ, ◌≡◌, List, [], ◌∷◌, ◌++◌}
 use Rattle.std.proofs.Math.Option.{Option, none, some}
 use Rattle.paper.specs.Tokens.{bytes}
-use Rattle.paper.specs.Addresses.{Scheme, ipv4, ipv6, mac, schemeOf, address}
-use Rattle.tried.specs.Examples.{Example, on, Agree, bytesThat, is_some}
+use Rattle.paper.specs.Addresses.{Scheme, ipv4, ipv6, mac, scheme_of, address}
+use Rattle.tried.specs.Examples.{Example, on, Agree, bytes_that, is_some}
 use Rattle.tried.specs.TokenExamples.{digits}
 
 -- the words that begin an address
@@ -94,17 +94,17 @@ gaps =
     ∷ on (bytes "::1.2.3.4") none
     ∷ []
 
-abbrev pub hexDigits : List ℕ
-hexDigits = digits ++ bytes "ABCDEFabcdef"
+abbrev pub hex_digits : List ℕ
+hex_digits = digits ++ bytes "ABCDEFabcdef"
 
 pub record AddressExamples : Type 0 where
-  pub words : Agree schemeOf schemes
-  pub ipv4-strings : Agree (address ipv4) fours
-  pub mac-strings : Agree (address mac) macs
-  pub ipv6-whole : Agree (address ipv6) wholes
-  pub ipv6-with-gap : Agree (address ipv6) gaps
+  pub words : Agree scheme_of schemes
+  pub ipv4_strings : Agree (address ipv4) fours
+  pub mac_strings : Agree (address mac) macs
+  pub ipv6_whole : Agree (address ipv6) wholes
+  pub ipv6_with_gap : Agree (address ipv6) gaps
   -- the digits of each, of all 256 bytes
-  pub ipv4-digits : bytesThat (λ b. is_some (address ipv4 (b ∷ bytes ".0.0.0"))) ≡ digits
-  pub mac-digits : bytesThat (λ b. is_some (address mac (b ∷ bytes "0:00:00:00:00:00"))) ≡ hexDigits
-  pub ipv6-digits : bytesThat (λ b. is_some (address ipv6 (bytes "0" ++ (b ∷ bytes ":0:0:0:0:0:0:0")))) ≡ hexDigits
-  pub ipv6-digits-by-a-gap : bytesThat (λ b. is_some (address ipv6 (bytes "::1" ++ (b ∷ [])))) ≡ hexDigits
+  pub ipv4_digits : bytes_that (λ b. is_some (address ipv4 (b ∷ bytes ".0.0.0"))) ≡ digits
+  pub mac_digits : bytes_that (λ b. is_some (address mac (b ∷ bytes "0:00:00:00:00:00"))) ≡ hex_digits
+  pub ipv6_digits : bytes_that (λ b. is_some (address ipv6 (bytes "0" ++ (b ∷ bytes ":0:0:0:0:0:0:0")))) ≡ hex_digits
+  pub ipv6_digits_by_a_gap : bytes_that (λ b. is_some (address ipv6 (bytes "::1" ++ (b ∷ [])))) ≡ hex_digits

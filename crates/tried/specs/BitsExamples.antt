@@ -2,33 +2,33 @@
 -- the places, what comes before it and what is not judged after it, and the numbers that are still reduced.
 use Rattle.std.specs.Prelude.{ℕ, ◌≡◌, true, List, [], ◌∷◌, ◌++◌, map, replicate}
 use Prim.Native.String as S
-use Rattle.paper.specs.Answers.{Answer, ok, refused, inText, inList}
+use Rattle.paper.specs.Answers.{Answer, ok, refused, InText, InList}
 use Rattle.paper.specs.Tokens.{bytes, equal}
-use Rattle.paper.specs.Keys.{keyRecord, exact}
+use Rattle.paper.specs.Keys.{key_record, exact}
 use Rattle.paper.specs.Types.{mask}
-use Rattle.paper.specs.Code.{pushInt, pushField, convert, compare}
-use Rattle.paper.specs.Blocks.{blocksOf}
-use Rattle.paper.specs.Calls.{readAnswer, checkAnswer, judgeAnswer, translateAnswer, translateBuffer, loadAnswer, runAnswer}
-use Rattle.paper.specs.Explained.{nothingToShow, explainAnswer}
-use Rattle.paper.specs.Named.{summaryAnswer}
-use Rattle.paper.specs.Rechecking.{judged, recheckAnswer}
-use Rattle.tried.specs.MarkedJudgements.{Case, accepted, violated, refusedAt, theKeys, theEntry, AreJudged}
-use Rattle.tried.specs.TypeExamples.{check, keyNames, passed, refusedIn}
+use Rattle.paper.specs.Code.{push_int, push_field, convert, compare}
+use Rattle.paper.specs.Blocks.{blocks_of}
+use Rattle.paper.specs.Calls.{read_answer, check_answer, judge_answer, translate_answer, translate_buffer, load_answer, run_answer}
+use Rattle.paper.specs.Explained.{nothing_to_show, explain_answer}
+use Rattle.paper.specs.Named.{summary_answer}
+use Rattle.paper.specs.Rechecking.{judged, recheck_answer}
+use Rattle.tried.specs.MarkedJudgements.{Case, accepted, violated, refused_at, the_keys, the_entry, AreJudged}
+use Rattle.tried.specs.TypeExamples.{check, key_names, passed, refused_in}
 use Rattle.tried.specs.Examples.{on, OnText, Agree, AgreeOnTexts}
 
 -- "its number must lie between −2^(W−1) and 2^W − 1": a number beside the exact key k of width W
 
 abbrev pub meets : ℕ → S.String → Answer (Unit {0})
-meets width number = checkAnswer (bytes "k == " ++ bytes number) (keyRecord (bytes "k") 0 width)
+meets width number = check_answer (bytes "k == " ++ bytes number) (key_record (bytes "k") 0 width)
 
 abbrev pub stands : S.String → OnText (Unit {0})
 stands number = on number passed
 
 abbrev pub loses : S.String → OnText (Unit {0})
-loses number = on number (refusedIn 23 5)
+loses number = on number (refused_in 23 5)
 
-abbrev pub atOne : List (OnText (Unit {0}))
-atOne =
+abbrev pub at_one : List (OnText (Unit {0}))
+at_one =
     stands "1"
     ∷ stands "0"
     ∷ stands "-1"
@@ -41,8 +41,8 @@ atOne =
     ∷ loses "-340282366920938463463374607431768211455"
     ∷ []
 
-abbrev pub atEight : List (OnText (Unit {0}))
-atEight =
+abbrev pub at_eight : List (OnText (Unit {0}))
+at_eight =
     stands "255"
     ∷ stands "-128"
     ∷ stands "-0"
@@ -108,16 +108,16 @@ bits128 =
     ∷ []
 
 pub record AtWidths : Type 0 where
-  pub one : Agree (meets 1) atOne
-  pub eight : Agree (meets 8) atEight
+  pub one : Agree (meets 1) at_one
+  pub eight : Agree (meets 8) at_eight
   pub all_but_one : Agree (meets 127) at127
   pub all : Agree (meets 128) at128
-  pub narrow-address : Agree (meets 8) bits8
-  pub ipv4-less-one : Agree (meets 31) bits31
+  pub narrow_address : Agree (meets 8) bits8
+  pub ipv4_less_one : Agree (meets 31) bits31
   pub ipv4 : Agree (meets 32) bits32
-  pub mac-less-one : Agree (meets 47) bits47
+  pub mac_less_one : Agree (meets 47) bits47
   pub mac : Agree (meets 48) bits48
-  pub ipv6-less-one : Agree (meets 127) bits127
+  pub ipv6_less_one : Agree (meets 127) bits127
   pub ipv6 : Agree (meets 128) bits128
 
 -- "meets width W": a bare key of each kind and each field of width 8, on either side, under each comparison that takes the two. The keys e, t,
@@ -139,46 +139,46 @@ abbrev pub left_of : List S.String → List S.String → S.String → List (List
 left_of operators others number = map (λ o. map (λ k. check (bytes number ++ bytes o ++ bytes k)) others) operators
 
 -- and on the right of each key, whose name is one byte
-abbrev pub rightOf : List S.String → List S.String → S.String → List (List (Answer (Unit {0})))
-rightOf operators others number = map (λ o. map (λ k. check (bytes k ++ bytes o ++ bytes number)) others) operators
+abbrev pub right_of : List S.String → List S.String → S.String → List (List (Answer (Unit {0})))
+right_of operators others number = map (λ o. map (λ k. check (bytes k ++ bytes o ++ bytes number)) others) operators
 
 abbrev pub everywhere : ℕ → ℕ → Answer (Unit {0}) → List (List (Answer (Unit {0})))
 everywhere rows columns a = replicate rows (replicate columns a)
 
 pub record Sides : Type 0 where
-  pub keys-pass : map (rightOf equalities keyNames) ("255" ∷ "-128" ∷ []) ≡ replicate 2 (everywhere 2 5 passed)
-  pub keys-refuse : map (rightOf equalities keyNames) ("256" ∷ "-129" ∷ []) ≡ replicate 2 (everywhere 2 5 (refusedIn 23 3))
-  pub left-of-keys : map (left_of equalities keyNames) ("256" ∷ "-129" ∷ []) ≡ replicate 2 (everywhere 2 5 (refusedIn 23 0))
-  pub fields-pass : map (left_of equalities fields) ("255" ∷ "-128" ∷ []) ≡ replicate 2 (everywhere 2 8 passed)
-  pub fields-refuse : map (left_of equalities fields) ("256" ∷ "-129" ∷ []) ≡ replicate 2 (everywhere 2 8 (refusedIn 23 0))
-  pub orders-pass : map (left_of orders fields) ("255" ∷ "-128" ∷ []) ≡ replicate 2 (everywhere 4 8 passed)
-  pub orders-refuse : map (left_of orders fields) ("256" ∷ "-129" ∷ []) ≡ replicate 2 (everywhere 4 8 (refusedIn 23 0))
-  pub exact-orders : map (rightOf orders ("e" ∷ [])) ("255" ∷ "256" ∷ []) ≡ everywhere 4 1 passed ∷ everywhere 4 1 (refusedIn 23 3) ∷ []
+  pub keys_pass : map (right_of equalities key_names) ("255" ∷ "-128" ∷ []) ≡ replicate 2 (everywhere 2 5 passed)
+  pub keys_refuse : map (right_of equalities key_names) ("256" ∷ "-129" ∷ []) ≡ replicate 2 (everywhere 2 5 (refused_in 23 3))
+  pub left_of_keys : map (left_of equalities key_names) ("256" ∷ "-129" ∷ []) ≡ replicate 2 (everywhere 2 5 (refused_in 23 0))
+  pub fields_pass : map (left_of equalities fields) ("255" ∷ "-128" ∷ []) ≡ replicate 2 (everywhere 2 8 passed)
+  pub fields_refuse : map (left_of equalities fields) ("256" ∷ "-129" ∷ []) ≡ replicate 2 (everywhere 2 8 (refused_in 23 0))
+  pub orders_pass : map (left_of orders fields) ("255" ∷ "-128" ∷ []) ≡ replicate 2 (everywhere 4 8 passed)
+  pub orders_refuse : map (left_of orders fields) ("256" ∷ "-129" ∷ []) ≡ replicate 2 (everywhere 4 8 (refused_in 23 0))
+  pub exact_orders : map (right_of orders ("e" ∷ [])) ("255" ∷ "256" ∷ []) ≡ everywhere 4 1 passed ∷ everywhere 4 1 (refused_in 23 3) ∷ []
 
 -- "at the operand's place": its outermost minus, or the numeral or address itself, inside parentheses
 abbrev pub places : List (OnText (Unit {0}))
 places =
-    on "e == 256" (refusedIn 23 5)
-    ∷ on "256 == e" (refusedIn 23 0)
-    ∷ on "e == (256)" (refusedIn 23 6)
-    ∷ on "e == ((256))" (refusedIn 23 7)
-    ∷ on "(256) == e" (refusedIn 23 1)
+    on "e == 256" (refused_in 23 5)
+    ∷ on "256 == e" (refused_in 23 0)
+    ∷ on "e == (256)" (refused_in 23 6)
+    ∷ on "e == ((256))" (refused_in 23 7)
+    ∷ on "(256) == e" (refused_in 23 1)
     ∷ on "e == (255)" passed
-    ∷ on "e == -129" (refusedIn 23 5)
-    ∷ on "e == (-129)" (refusedIn 23 6)
-    ∷ on "e == -(129)" (refusedIn 23 5)
-    ∷ on "e == -(-256)" (refusedIn 23 5)
-    ∷ on "e == - - 256" (refusedIn 23 5)
-    ∷ on " ( - ( 129 ) ) == e" (refusedIn 23 3)
+    ∷ on "e == -129" (refused_in 23 5)
+    ∷ on "e == (-129)" (refused_in 23 6)
+    ∷ on "e == -(129)" (refused_in 23 5)
+    ∷ on "e == -(-256)" (refused_in 23 5)
+    ∷ on "e == - - 256" (refused_in 23 5)
+    ∷ on " ( - ( 129 ) ) == e" (refused_in 23 3)
     ∷ on "e == -(-(-(128)))" passed
-    ∷ on "e == (ipv4('0.0.1.0'))" (refusedIn 23 6)
-    ∷ on "mac('00:00:00:00:01:00') == e" (refusedIn 23 0)
+    ∷ on "e == (ipv4('0.0.1.0'))" (refused_in 23 6)
+    ∷ on "mac('00:00:00:00:01:00') == e" (refused_in 23 0)
     -- the other operand may be built of anything
-    ∷ on "-e == 256" (refusedIn 23 6)
-    ∷ on "-e::value >= -129" (refusedIn 23 13)
-    ∷ on "(e) == 256" (refusedIn 23 7)
-    ∷ on "u == 16" (refusedIn 23 5)
-    ∷ on "u::mask == -9" (refusedIn 23 11)
+    ∷ on "-e == 256" (refused_in 23 6)
+    ∷ on "-e::value >= -129" (refused_in 23 13)
+    ∷ on "(e) == 256" (refused_in 23 7)
+    ∷ on "u == 16" (refused_in 23 5)
+    ∷ on "u::mask == -9" (refused_in 23 11)
     ∷ on "u == 15 && f == -8" passed
     ∷ []
 
@@ -202,73 +202,73 @@ others =
 abbrev pub before : List (OnText (Unit {0}))
 before =
     -- 13 of the comparison itself
-    on "t > 256" (refusedIn 13 2)
-    ∷ on "256 <= t" (refusedIn 13 4)
-    ∷ on "true == 256" (refusedIn 13 5)
-    ∷ on "t::mask > 256" (refusedIn 23 10)
+    on "t > 256" (refused_in 13 2)
+    ∷ on "256 <= t" (refused_in 13 4)
+    ∷ on "true == 256" (refused_in 13 5)
+    ∷ on "t::mask > 256" (refused_in 23 10)
     -- 11 and 12 of the other operand
-    ∷ on "z == 256" (refusedIn 11 0)
-    ∷ on "256 == z" (refusedIn 11 7)
-    ∷ on "256 == e::mask" (refusedIn 12 10)
+    ∷ on "z == 256" (refused_in 11 0)
+    ∷ on "256 == z" (refused_in 11 7)
+    ∷ on "256 == e::mask" (refused_in 12 10)
     -- 11, 12 and 13 elsewhere, before it and after it
-    ∷ on "z == 1 && e == 256" (refusedIn 11 0)
-    ∷ on "e == 256 && z == 1" (refusedIn 23 5)
-    ∷ on "e::mask == 1; e == 256" (refusedIn 12 3)
-    ∷ on "e == 256; e::mask == 1" (refusedIn 23 5)
-    ∷ on "t > 3 || e == 256" (refusedIn 13 2)
-    ∷ on "e == 256 || t > 3" (refusedIn 23 5)
-    ∷ on "!1 || e == 256" (refusedIn 13 0)
+    ∷ on "z == 1 && e == 256" (refused_in 11 0)
+    ∷ on "e == 256 && z == 1" (refused_in 23 5)
+    ∷ on "e::mask == 1; e == 256" (refused_in 12 3)
+    ∷ on "e == 256; e::mask == 1" (refused_in 23 5)
+    ∷ on "t > 3 || e == 256" (refused_in 13 2)
+    ∷ on "e == 256 || t > 3" (refused_in 23 5)
+    ∷ on "!1 || e == 256" (refused_in 13 0)
     -- two of them
-    ∷ on "e == 256 && f == 16" (refusedIn 23 5)
-    ∷ on "f == 16 && e == 256" (refusedIn 23 5)
-    ∷ on "-129 == e -> 256 == e" (refusedIn 23 0)
-    ∷ on "e == 255 && f == 16" (refusedIn 23 17)
+    ∷ on "e == 256 && f == 16" (refused_in 23 5)
+    ∷ on "f == 16 && e == 256" (refused_in 23 5)
+    ∷ on "-129 == e -> 256 == e" (refused_in 23 0)
+    ∷ on "e == 255 && f == 16" (refused_in 23 17)
     -- earlier stages: 6 and 8
-    ∷ on "e == 340282366920938463463374607431768211456" (refusedIn 6 5)
-    ∷ on "e == 256 == 1" (refusedIn 8 9)
+    ∷ on "e == 340282366920938463463374607431768211456" (refused_in 6 5)
+    ∷ on "e == 256 == 1" (refused_in 8 9)
     ∷ []
 
 -- "such a comparison has no type, so nothing above it is judged", beside the same with a number that stands
 abbrev pub above : List (OnText (Unit {0}))
 above =
-    on "!(t::mask == 256) && 1" (refusedIn 23 13)
-    ∷ on "!(t::mask == 255) && 1" (refusedIn 13 18)
-    ∷ on "!(e == 256)" (refusedIn 23 7)
+    on "!(t::mask == 256) && 1" (refused_in 23 13)
+    ∷ on "!(t::mask == 255) && 1" (refused_in 13 18)
+    ∷ on "!(e == 256)" (refused_in 23 7)
     ∷ on "!(e == 255)" passed
-    ∷ on "-(e == 256)" (refusedIn 23 7)
-    ∷ on "-(e == 255)" (refusedIn 13 0)
-    ∷ on "(e == 256) == 1" (refusedIn 23 6)
-    ∷ on "(e == 255) == 1" (refusedIn 13 11)
-    ∷ on "1 -> e == 256" (refusedIn 23 10)
-    ∷ on "1 -> e == 255" (refusedIn 13 2)
-    ∷ on "true && (true && (e == 256 || false))" (refusedIn 23 23)
+    ∷ on "-(e == 256)" (refused_in 23 7)
+    ∷ on "-(e == 255)" (refused_in 13 0)
+    ∷ on "(e == 256) == 1" (refused_in 23 6)
+    ∷ on "(e == 255) == 1" (refused_in 13 11)
+    ∷ on "1 -> e == 256" (refused_in 23 10)
+    ∷ on "1 -> e == 255" (refused_in 13 2)
+    ∷ on "true && (true && (e == 256 || false))" (refused_in 23 23)
     -- 14 is of a text whose root has a type
-    ∷ on "e == 256" (refusedIn 23 5)
-    ∷ on "256" (refusedIn 14 0)
-    ∷ on "-256" (refusedIn 14 0)
+    ∷ on "e == 256" (refused_in 23 5)
+    ∷ on "256" (refused_in 14 0)
+    ∷ on "-256" (refused_in 14 0)
     ∷ []
 
 -- with the marked keys and entry: priority 10, v 1 of 1 bit, d 0x20 mask 0xF0 and p 0xC0 length 2 of 8
 abbrev pub marked : List Case
 marked =
     -- the words of 02 j, and case 9, which "is unchanged for −1 at width 1"
-    refusedAt "d::mask == 0x1f0" 23 11
-    ∷ refusedAt "0x1f0 == d::mask" 23 0
-    ∷ refusedAt "d == 0x1f0" 23 5
-    ∷ refusedAt "0x1f0 == d" 23 0
-    ∷ refusedAt "d > 0x1f0" 13 2
+    refused_at "d::mask == 0x1f0" 23 11
+    ∷ refused_at "0x1f0 == d::mask" 23 0
+    ∷ refused_at "d == 0x1f0" 23 5
+    ∷ refused_at "0x1f0 == d" 23 0
+    ∷ refused_at "d > 0x1f0" 13 2
     ∷ accepted "d::mask == 0xf0"
     ∷ accepted "d::mask == -16"
     ∷ violated "-1 < v::value"
-    ∷ refusedAt "-2 < v::value" 23 0
-    ∷ refusedAt "v == 3" 23 5
-    ∷ refusedAt "3 == v" 23 0
-    ∷ refusedAt "v == (3)" 23 6
-    ∷ refusedAt "v == -(-3)" 23 5
-    ∷ refusedAt "-v == 3" 23 6
+    ∷ refused_at "-2 < v::value" 23 0
+    ∷ refused_at "v == 3" 23 5
+    ∷ refused_at "3 == v" 23 0
+    ∷ refused_at "v == (3)" 23 6
+    ∷ refused_at "v == -(-3)" 23 5
+    ∷ refused_at "-v == 3" 23 6
     ∷ accepted "v == -1"
-    ∷ refusedAt "!(d::mask == 0x1f0) && 1" 23 13
-    ∷ refusedAt "zz == 1 && v == 9" 11 0
+    ∷ refused_at "!(d::mask == 0x1f0) && 1" 23 13
+    ∷ refused_at "zz == 1 && v == 9" 11 0
     -- a number below zero is still reduced
     ∷ accepted "p::value > -128"
     ∷ violated "d::value >= -128"
@@ -286,35 +286,35 @@ abbrev pub lossy : List ℕ
 lossy = bytes "d::mask == 0x1f0"
 
 pub record ByCalls : Type 0 where
-  pub reads : readAnswer lossy ≡ ok 3
-  pub checks : checkAnswer lossy theKeys ≡ refused 23 inText 11
-  pub judges : judgeAnswer lossy theKeys [] ≡ refused 23 inText 11
-  pub translates : translateAnswer lossy theKeys [] ≡ refused 23 inText 11
-  pub unchanged : translateBuffer lossy theKeys (replicate 512 0xAA) ≡ replicate 512 0xAA
-  pub explains : explainAnswer lossy theKeys theEntry ≡ nothingToShow (refused 23 inText 11)
-  pub summarizes : summaryAnswer lossy theKeys ≡ refused 23 inText 11
-  pub rechecks : recheckAnswer lossy theKeys theEntry (ok true) theEntry ≡ judged (refused 23 inText 11)
+  pub reads : read_answer lossy ≡ ok 3
+  pub checks : check_answer lossy the_keys ≡ refused 23 InText 11
+  pub judges : judge_answer lossy the_keys [] ≡ refused 23 InText 11
+  pub translates : translate_answer lossy the_keys [] ≡ refused 23 InText 11
+  pub unchanged : translate_buffer lossy the_keys (replicate 512 0xAA) ≡ replicate 512 0xAA
+  pub explains : explain_answer lossy the_keys the_entry ≡ nothing_to_show (refused 23 InText 11)
+  pub summarizes : summary_answer lossy the_keys ≡ refused 23 InText 11
+  pub rechecks : recheck_answer lossy the_keys the_entry (ok true) the_entry ≡ judged (refused 23 InText 11)
   -- a fault of the list comes first
-  pub listed : checkAnswer lossy (bytes "d") ≡ refused 2 inList 1
+  pub listed : check_answer lossy (bytes "d") ≡ refused 2 InList 1
 
 -- "Old blocks keep their meaning": the block that this text had, which says that the mask is 0xF0
 
-abbrev pub oldBlock : List ℕ
-oldBlock = blocksOf 5 (pushField mask 1 ∷ pushInt 0x1f0 ∷ convert exact 8 ∷ compare equal ∷ [])
+abbrev pub old_block : List ℕ
+old_block = blocks_of 5 (push_field mask 1 ∷ push_int 0x1f0 ∷ convert exact 8 ∷ compare equal ∷ [])
 
 pub record OldBlock : Type 0 where
-  pub loads : loadAnswer theKeys oldBlock ≡ ok 4
-  pub runs : runAnswer theKeys oldBlock theEntry ≡ ok (record { accepted = true; steps = 4 })
-  pub of-the-rest : translateBuffer (bytes "d::mask == 0xf0") theKeys (replicate 512 0)
-      ≡ blocksOf 5 (pushField mask 1 ∷ pushInt 0xf0 ∷ convert exact 8 ∷ compare equal ∷ [])
+  pub loads : load_answer the_keys old_block ≡ ok 4
+  pub runs : run_answer the_keys old_block the_entry ≡ ok (record { accepted = true; steps = 4 })
+  pub of_the_rest : translate_buffer (bytes "d::mask == 0xf0") the_keys (replicate 512 0)
+      ≡ blocks_of 5 (push_field mask 1 ∷ push_int 0xf0 ∷ convert exact 8 ∷ compare equal ∷ [])
 
 pub record BitsExamples : Type 0 where
-  pub at-widths : AtWidths
+  pub at_widths : AtWidths
   pub on_sides : Sides
   pub at_places : AgreeOnTexts check places
   pub of_others : AgreeOnTexts check others
   pub in_order : AgreeOnTexts check before
-  pub not-judged : AgreeOnTexts check above
-  pub on-the-marked-entry : AreJudged theKeys theEntry marked
-  pub by-calls : ByCalls
-  pub of-old-block : OldBlock
+  pub not_judged : AgreeOnTexts check above
+  pub on_the_marked_entry : AreJudged the_keys the_entry marked
+  pub by_calls : ByCalls
+  pub of_old_block : OldBlock

@@ -3,11 +3,11 @@
 use Rattle.std.specs.Prelude.{ℕ, ◌≡◌, Bool, true, List, [], ◌∷◌, ◌++◌, replicate}
 use Rattle.paper.specs.Answers.{Answer, ok}
 use Rattle.paper.specs.Tokens.{bytes}
-use Rattle.paper.specs.Calls.{translateAnswer, translateBuffer, loadAnswer, runAnswer}
-use Rattle.tried.specs.MarkedJudgements.{theKeys, theEntry}
+use Rattle.paper.specs.Calls.{translate_answer, translate_buffer, load_answer, run_answer}
+use Rattle.tried.specs.MarkedJudgements.{the_keys, the_entry}
 
-abbrev pub theBlock : List ℕ
-theBlock =
+abbrev pub the_block : List ℕ
+the_block =
     0x00 ∷ 0x00 ∷ 0x00 ∷ 0x04 ∷ []
     ++ (0x03 ∷ replicate 19 0)
     ++ (0x02 ∷ (replicate 18 0 ++ (0x01 ∷ [])))
@@ -18,7 +18,7 @@ theBlock =
 
 -- a buffer of 514 bytes: the last two stay
 pub record CaseFour : Type 0 where
-  pub written : translateAnswer (bytes "v == 1") theKeys (replicate 514 0xAA) ≡ ok 4
-  pub block : translateBuffer (bytes "v == 1") theKeys (replicate 514 0xAA) ≡ theBlock ++ (0xAA ∷ 0xAA ∷ [])
-  pub loads : loadAnswer theKeys theBlock ≡ ok 4
-  pub runs : runAnswer theKeys theBlock theEntry ≡ ok (record { accepted = true; steps = 4 })
+  pub written : translate_answer (bytes "v == 1") the_keys (replicate 514 0xAA) ≡ ok 4
+  pub block : translate_buffer (bytes "v == 1") the_keys (replicate 514 0xAA) ≡ the_block ++ (0xAA ∷ 0xAA ∷ [])
+  pub loads : load_answer the_keys the_block ≡ ok 4
+  pub runs : run_answer the_keys the_block the_entry ≡ ok (record { accepted = true; steps = 4 })

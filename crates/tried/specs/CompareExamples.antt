@@ -2,19 +2,19 @@
 -- joined otherwise; blocks without skips; and what is refused before blocks are compared.
 use Rattle.std.specs.Prelude.{ℕ, ◌-◌, ◌≡◌, Bool, true, false, List, [], ◌∷◌, map, length}
 use Prim.Native.String as S
-use Rattle.paper.specs.Answers.{Answer, ok, refused, ◌>>=◌, inText, inList, inBlocks}
+use Rattle.paper.specs.Answers.{Answer, ok, refused, ◌>>=◌, InText, InList, inBlocks}
 use Rattle.paper.specs.Tokens.{bytes}
 use Rattle.paper.specs.Meaning.{both}
-use Rattle.paper.specs.Code.{Instruction, pushBool, connects}
-use Rattle.paper.specs.Blocks.{blocksOf}
+use Rattle.paper.specs.Code.{Instruction, push_bool, connects}
+use Rattle.paper.specs.Blocks.{blocks_of}
 use Rattle.paper.specs.Translating.{code_of}
 use Rattle.paper.specs.Calls.{restriction}
 use Rattle.paper.specs.Parts.{parts}
-use Rattle.tried.specs.MarkedJudgements.{theKeys}
+use Rattle.tried.specs.MarkedJudgements.{the_keys}
 use Rattle.tried.specs.Examples.{Example, on, Agree}
 use Rattle.tried.specs.TranslationExamples.{skips}
-use Rattle.tried.specs.AnswerExamples.{repeatingList, shortList, badCode, badBlock}
-use Rattle.paper.specs.Comparing.{InSomeOrder, written, fits, partCodes, compareAnswer}
+use Rattle.tried.specs.AnswerExamples.{repeating_list, short_list, bad_code, bad_block}
+use Rattle.paper.specs.Comparing.{InSomeOrder, written, fits, part_codes, compare_answer}
 
 -- "each used once, in some order"
 pub record Orders : Type 0 where
@@ -31,12 +31,12 @@ three = "v == 1; ::priority < 10; true"
 -- a text against the blocks of another
 abbrev pub against : S.String → S.String → Answer Bool
 against text other =
-    restriction (bytes other) theKeys
-    >>= λ r. compareAnswer (bytes text) theKeys (blocksOf (length r.keys) (code_of r.keys r.root))
+    restriction (bytes other) the_keys
+    >>= λ r. compare_answer (bytes text) the_keys (blocks_of (length r.keys) (code_of r.keys r.root))
 
 -- all orders of three parts; one is missing; one twice in another's place; one byte of a constant is another, with the check that it asks for
-abbrev pub ofThree : List (Example S.String (Answer Bool))
-ofThree =
+abbrev pub of_three : List (Example S.String (Answer Bool))
+of_three =
     on "v == 1; ::priority < 10; true" (ok true)
     ∷ on "v == 1; true; ::priority < 10" (ok true)
     ∷ on "::priority < 10; v == 1; true" (ok true)
@@ -119,9 +119,9 @@ pairs =
 
 abbrev pub of_code : Pair → Answer Bool
 of_code p =
-    restriction (bytes p.other) theKeys
+    restriction (bytes p.other) the_keys
     >>= λ r. parts (bytes p.text)
-    >>= λ ps. ok (fits (length ps - 1) (partCodes r.keys ps) (written (code_of r.keys r.root)))
+    >>= λ ps. ok (fits (length ps - 1) (part_codes r.keys ps) (written (code_of r.keys r.root)))
 
 abbrev pub AreCompared : List Pair → Type 0
 AreCompared ps = map of_code ps ≡ map (λ (p : Pair). p.says) ps
@@ -129,30 +129,30 @@ AreCompared ps = map of_code ps ≡ map (λ (p : Pair). p.says) ps
 -- "Skips are those g) would place": of "true; false" the skip is on false, to false, over two. The others load and differ
 abbrev pub codes : List (Example (List Instruction) (Answer Bool))
 codes =
-    on (pushBool true ∷ skips false false 2 ∷ pushBool false ∷ connects both ∷ []) (ok true)
-    ∷ on (pushBool false ∷ skips false false 2 ∷ pushBool true ∷ connects both ∷ []) (ok true)
-    ∷ on (pushBool true ∷ pushBool false ∷ connects both ∷ []) (ok false)
-    ∷ on (pushBool true ∷ skips true false 2 ∷ pushBool false ∷ connects both ∷ []) (ok false)
-    ∷ on (pushBool true ∷ skips false true 2 ∷ pushBool false ∷ connects both ∷ []) (ok false)
-    ∷ on (pushBool true ∷ skips true true 2 ∷ pushBool false ∷ connects both ∷ []) (ok false)
-    ∷ on (pushBool true ∷ skips false false 2 ∷ pushBool false ∷ skips false false 1 ∷ connects both ∷ []) (refused 18 inBlocks 24)
+    on (push_bool true ∷ skips false false 2 ∷ push_bool false ∷ connects both ∷ []) (ok true)
+    ∷ on (push_bool false ∷ skips false false 2 ∷ push_bool true ∷ connects both ∷ []) (ok true)
+    ∷ on (push_bool true ∷ push_bool false ∷ connects both ∷ []) (ok false)
+    ∷ on (push_bool true ∷ skips true false 2 ∷ push_bool false ∷ connects both ∷ []) (ok false)
+    ∷ on (push_bool true ∷ skips false true 2 ∷ push_bool false ∷ connects both ∷ []) (ok false)
+    ∷ on (push_bool true ∷ skips true true 2 ∷ push_bool false ∷ connects both ∷ []) (ok false)
+    ∷ on (push_bool true ∷ skips false false 2 ∷ push_bool false ∷ skips false false 1 ∷ connects both ∷ []) (refused 18 inBlocks 24)
     ∷ []
 
 -- text and list first, then the blocks: 16; 17; 18
 pub record Refusals : Type 0 where
-  pub text-first : compareAnswer (bytes "") theKeys [] ≡ refused 8 inText 0
-  pub list-before-text : compareAnswer (bytes "") shortList [] ≡ refused 2 inList 79
-  pub types-before-blocks : compareAnswer (bytes "d > 3") theKeys [] ≡ refused 13 inText 2
-  pub other-list : compareAnswer (bytes "true") repeatingList badCode ≡ refused 4 inList 80
-  pub octal : compareAnswer (bytes "v == 0o1") theKeys [] ≡ refused 22 inText 5
-  pub bits-lost : compareAnswer (bytes "v == 2") theKeys [] ≡ refused 23 inText 5
-  pub no_blocks : compareAnswer (bytes "true") theKeys [] ≡ refused 16 inBlocks 0
-  pub bad-block : compareAnswer (bytes "true") theKeys badBlock ≡ refused 17 inBlocks 0
-  pub bad-code : compareAnswer (bytes "true") theKeys badCode ≡ refused 18 inBlocks 4
+  pub text_first : compare_answer (bytes "") the_keys [] ≡ refused 8 InText 0
+  pub list_before_text : compare_answer (bytes "") short_list [] ≡ refused 2 InList 79
+  pub types_before_blocks : compare_answer (bytes "d > 3") the_keys [] ≡ refused 13 InText 2
+  pub other_list : compare_answer (bytes "true") repeating_list bad_code ≡ refused 4 InList 80
+  pub octal : compare_answer (bytes "v == 0o1") the_keys [] ≡ refused 22 InText 5
+  pub bits_lost : compare_answer (bytes "v == 2") the_keys [] ≡ refused 23 InText 5
+  pub no_blocks : compare_answer (bytes "true") the_keys [] ≡ refused 16 inBlocks 0
+  pub bad_block_lem : compare_answer (bytes "true") the_keys bad_block ≡ refused 17 inBlocks 0
+  pub bad_code_lem : compare_answer (bytes "true") the_keys bad_code ≡ refused 18 inBlocks 4
 
 pub record CompareExamples : Type 0 where
   pub orders : Orders
-  pub of_three : Agree (against three) ofThree
-  pub of-pairs : AreCompared pairs
-  pub of-codes : Agree (λ code. compareAnswer (bytes "true; false") theKeys (blocksOf 5 code)) codes
+  pub of_three_lem : Agree (against three) of_three
+  pub of_pairs : AreCompared pairs
+  pub of_codes : Agree (λ code. compare_answer (bytes "true; false") the_keys (blocks_of 5 code)) codes
   pub refusals : Refusals

@@ -43,12 +43,12 @@ those p (b ∷ s) =
     cond (p b) (b ∷ rest) rest
 
 -- n numbers, from one on
-abbrev pub numbersFrom : ℕ → ℕ → List ℕ
-numbersFrom k zero = []
-numbersFrom k (suc n) = k ∷ numbersFrom (suc k) n
+abbrev pub numbers_from : ℕ → ℕ → List ℕ
+numbers_from k zero = []
+numbers_from k (suc n) = k ∷ numbers_from (suc k) n
 
-abbrev pub bytesThat : (ℕ → Bool) → List ℕ
-bytesThat p = those p (numbersFrom 0 256)
+abbrev pub bytes_that : (ℕ → Bool) → List ℕ
+bytes_that p = those p (numbers_from 0 256)
 
 -- an answer that passes with a number
 abbrev pub gives : ℕ → Answer ℕ → Bool
@@ -87,12 +87,12 @@ abbrev pub other : ℕ
 other = get_or (bytes "?") 0 0
 
 -- x where it passes, . where it is refused with a number at that place
-abbrev pub passMark : ℕ → Marks (Unit {0})
-passMark number place (ok a) = cross
-passMark number place (refused n i at) = cond (eqb n number && eqb at place) dot other
+abbrev pub pass_mark : ℕ → Marks (Unit {0})
+pass_mark number place (ok a) = cross
+pass_mark number place (refused n i at) = cond (eqb n number && eqb at place) dot other
 
 -- x where it is accepted, . where it is violated
-abbrev pub judgedMark : Marks Bool
-judgedMark place (ok true) = cross
-judgedMark place (ok false) = dot
-judgedMark place (refused n i at) = other
+abbrev pub judged_mark : Marks Bool
+judged_mark place (ok true) = cross
+judged_mark place (ok false) = dot
+judged_mark place (refused n i at) = other

@@ -1,13 +1,13 @@
 -- 02 h's pass, by example: texts with what it makes of them, what it refuses, and what a buffer holds afterwards.
 use Rattle.std.specs.Prelude.{ℕ, ◌-◌, ◌^◌, ◌≡◌, List, [], ◌∷◌, ◌++◌, length, replicate}
-use Rattle.paper.specs.Answers.{Answer, ok, refused, ◌>>=◌, inText, inBuffer}
+use Rattle.paper.specs.Answers.{Answer, ok, refused, ◌>>=◌, InText, inBuffer}
 use Rattle.paper.specs.Tokens.{bytes}
-use Rattle.paper.specs.Fixing.{oldTokens, fixed, fixAnswer, fixBuffer}
+use Rattle.paper.specs.Fixing.{old_tokens, fixed, fix_answer, fix_buffer}
 use Rattle.tried.specs.Examples.{on, OnText, AgreeOnTexts, Agree, On, repeat}
 
 -- what the pass makes of a text that passes by the old rules
 abbrev pub passing : List ℕ → Answer (List ℕ)
-passing text = oldTokens text >>= λ _. ok (fixed text)
+passing text = old_tokens text >>= λ _. ok (fixed text)
 
 abbrev pub passes : List (OnText (List ℕ))
 passes =
@@ -25,36 +25,36 @@ passes =
     ∷ on ")) 0o7 ((" (ok (bytes ")) 0x7 (("))
     ∷ on "0o7!0o7" (ok (bytes "0x7!0x7"))
     -- "It refuses first with .. 5, 6 or 7 by the old rules"
-    ∷ on "0o7 0o8" (refused 5 inText 4)
-    ∷ on "0o" (refused 5 inText 0)
-    ∷ on "0o1_" (refused 5 inText 0)
-    ∷ on "0o7 @" (refused 5 inText 4)
+    ∷ on "0o7 0o8" (refused 5 InText 4)
+    ∷ on "0o" (refused 5 InText 0)
+    ∷ on "0o1_" (refused 5 InText 0)
+    ∷ on "0o7 @" (refused 5 InText 4)
     ∷ []
 
 -- both sides of 2^128, and of 1,024 tokens
 abbrev pub limits : List (On (List ℕ))
 limits =
     on (bytes "0o3" ++ repeat 42 (bytes "7")) (ok (bytes "0x" ++ repeat 32 (bytes "f")))
-    ∷ on (bytes "0o4" ++ repeat 42 (bytes "0")) (refused 6 inText 0)
+    ∷ on (bytes "0o4" ++ repeat 42 (bytes "0")) (refused 6 InText 0)
     ∷ on (repeat 1023 (bytes "a ") ++ bytes "0o7") (ok (repeat 1023 (bytes "a ") ++ bytes "0x7"))
-    ∷ on (repeat 1024 (bytes "a ") ++ bytes "0o7") (refused 7 inText 2048)
-    ∷ on (repeat 1024 (bytes "a ") ++ bytes "0o4" ++ repeat 42 (bytes "0")) (refused 6 inText 2048)
+    ∷ on (repeat 1024 (bytes "a ") ++ bytes "0o7") (refused 7 InText 2048)
+    ∷ on (repeat 1024 (bytes "a ") ++ bytes "0o4" ++ repeat 42 (bytes "0")) (refused 6 InText 2048)
     ∷ []
 
 -- 21: "a result over the lent buffer", at its length; a buffer of exactly the result, one byte short and one byte more; 1 at 4096
 pub record Lent : Type 0 where
-  pub exact : fixAnswer (bytes "0o0017") (replicate 3 0xAA) ≡ ok 3
-  pub exact-holds : fixBuffer (bytes "0o0017") (replicate 3 0xAA) ≡ bytes "0xf"
-  pub short : fixAnswer (bytes "0o0017") (replicate 2 0xAA) ≡ refused 21 inBuffer 2
-  pub short-unchanged : fixBuffer (bytes "0o0017") (replicate 2 0xAA) ≡ replicate 2 0xAA
-  pub later-stays : fixBuffer (bytes "0o0017") (replicate 5 0xAA) ≡ bytes "0xf" ++ replicate 2 0xAA
-  pub none : fixAnswer [] [] ≡ ok 0
-  pub longest : fixAnswer (replicate 4096 32) (replicate 4096 0xAA) ≡ ok 4096
-  pub too_long : fixAnswer (replicate 4097 32) [] ≡ refused 1 inText 4096
-  pub text-first : fixAnswer (bytes "@") [] ≡ refused 5 inText 0
-  pub refused-unchanged : fixBuffer (bytes "@") (replicate 2 0xAA) ≡ replicate 2 0xAA
+  pub exact : fix_answer (bytes "0o0017") (replicate 3 0xAA) ≡ ok 3
+  pub exact_holds : fix_buffer (bytes "0o0017") (replicate 3 0xAA) ≡ bytes "0xf"
+  pub short : fix_answer (bytes "0o0017") (replicate 2 0xAA) ≡ refused 21 inBuffer 2
+  pub short_unchanged : fix_buffer (bytes "0o0017") (replicate 2 0xAA) ≡ replicate 2 0xAA
+  pub later_stays : fix_buffer (bytes "0o0017") (replicate 5 0xAA) ≡ bytes "0xf" ++ replicate 2 0xAA
+  pub none : fix_answer [] [] ≡ ok 0
+  pub longest : fix_answer (replicate 4096 32) (replicate 4096 0xAA) ≡ ok 4096
+  pub too_long : fix_answer (replicate 4097 32) [] ≡ refused 1 InText 4096
+  pub text_first : fix_answer (bytes "@") [] ≡ refused 5 InText 0
+  pub refused_unchanged : fix_buffer (bytes "@") (replicate 2 0xAA) ≡ replicate 2 0xAA
 
 pub record FixExamples : Type 0 where
   pub texts : AgreeOnTexts passing passes
-  pub at-limits : Agree passing limits
+  pub at_limits_lem : Agree passing limits
   pub lent : Lent

@@ -7,30 +7,30 @@ use Rattle.paper.specs.Keys.{exact, ternary, lpm, range, optional, keys}
 use Rattle.paper.specs.Entry.{entry_of}
 use Rattle.paper.specs.Types.{value, mask, prefixLength, low, high}
 use Rattle.paper.specs.Meaning.{both, either, ifThen}
-use Rattle.paper.specs.Code.{Instruction, pushBool, pushInt, pushKey, pushField, pushPriority, invert, negate, convert, compare, connects, Parts, encode, parts_at, decode}
-use Rattle.paper.specs.Loading.{typesAlong, loadCheck, runAlong, leftTrue}
-use Rattle.tried.specs.MarkedJudgements.{theKeys, theEntry}
-use Rattle.tried.specs.Examples.{Example, on, Agree, numbersFrom}
+use Rattle.paper.specs.Code.{Instruction, push_bool, push_int, push_key, push_field, push_priority, invert, negate, convert, compare, connects, Parts, encode, parts_at, decode}
+use Rattle.paper.specs.Loading.{types_along, load_check, run_along, left_true}
+use Rattle.tried.specs.MarkedJudgements.{the_keys, the_entry}
+use Rattle.tried.specs.Examples.{Example, on, Agree, numbers_from}
 use Rattle.tried.specs.BlockExamples.{row}
-use Rattle.tried.specs.MeaningExamples.{oneEach}
+use Rattle.tried.specs.MeaningExamples.{one_each}
 
 abbrev pub parts : ℕ → ℕ → ℕ → ℕ → Parts
 parts operation detail operand constant = record { operation = operation; detail = detail; operand = operand; constant = constant }
 
 -- "Instructions are 20 bytes: operation, detail byte, two-byte operand, 16-byte constant; unused parts zero."
 
-abbrev pub inBytes : List (Example Instruction (List ℕ))
-inBytes =
-    on (pushBool false) (row 1 0 0)
-    ∷ on (pushBool true) (row 1 0 1)
-    ∷ on (pushInt 0x0102030405060708090a0b0c0d0e0f10) (2 ∷ 0 ∷ 0 ∷ 0 ∷ numbersFrom 1 16)
-    ∷ on (pushKey 0x0102) (3 ∷ 0 ∷ 1 ∷ 2 ∷ replicate 16 0)
-    ∷ on (pushField value 1) (row 4 0 1)
-    ∷ on (pushField mask 2) (row 4 1 2)
-    ∷ on (pushField prefixLength 3) (row 4 2 3)
-    ∷ on (pushField low 4) (row 4 3 4)
-    ∷ on (pushField high 5) (row 4 4 5)
-    ∷ on pushPriority (row 5 0 0)
+abbrev pub in_bytes : List (Example Instruction (List ℕ))
+in_bytes =
+    on (push_bool false) (row 1 0 0)
+    ∷ on (push_bool true) (row 1 0 1)
+    ∷ on (push_int 0x0102030405060708090a0b0c0d0e0f10) (2 ∷ 0 ∷ 0 ∷ 0 ∷ numbers_from 1 16)
+    ∷ on (push_key 0x0102) (3 ∷ 0 ∷ 1 ∷ 2 ∷ replicate 16 0)
+    ∷ on (push_field value 1) (row 4 0 1)
+    ∷ on (push_field mask 2) (row 4 1 2)
+    ∷ on (push_field prefixLength 3) (row 4 2 3)
+    ∷ on (push_field low 4) (row 4 3 4)
+    ∷ on (push_field high 5) (row 4 4 5)
+    ∷ on push_priority (row 5 0 0)
     ∷ on invert (row 6 0 0)
     ∷ on negate (row 7 0 0)
     ∷ on (convert exact 1) (row 8 0 1)
@@ -50,7 +50,7 @@ inBytes =
     ∷ []
 
 abbrev pub PartsInBytes : Type 0
-PartsInBytes = parts_at (numbersFrom 0 40) 7 ≡ parts 7 8 0x090a 0x0b0c0d0e0f101112131415161718191a
+PartsInBytes = parts_at (numbers_from 0 40) 7 ≡ parts 7 8 0x090a 0x0b0c0d0e0f101112131415161718191a
 
 -- "Operations: 1 push bool (operand 0 or 1), 2 push int (constant), 3 push bare key (operand: index), 4 push field (operand: index;
 -- detail 0 value, 1 mask, 2 prefix_length, 3 low, 4 high), 5 push priority, 6 not, 7 negate, 8 convert the top (detail: 0 for bit, else
@@ -59,27 +59,27 @@ PartsInBytes = parts_at (numbersFrom 0 40) 7 ≡ parts 7 8 0x090a 0x0b0c0d0e0f10
 abbrev pub decodings : List (Example Parts (Option Instruction))
 decodings =
     on (parts 0 0 0 0) none
-    ∷ on (parts 1 0 0 0) (some (pushBool false))
-    ∷ on (parts 1 0 1 0) (some (pushBool true))
+    ∷ on (parts 1 0 0 0) (some (push_bool false))
+    ∷ on (parts 1 0 1 0) (some (push_bool true))
     ∷ on (parts 1 0 2 0) none
     ∷ on (parts 1 1 0 0) none
     ∷ on (parts 1 0 0 1) none
-    ∷ on (parts 2 0 0 0) (some (pushInt 0))
-    ∷ on (parts 2 0 0 (2 ^ 128 - 1)) (some (pushInt (2 ^ 128 - 1)))
+    ∷ on (parts 2 0 0 0) (some (push_int 0))
+    ∷ on (parts 2 0 0 (2 ^ 128 - 1)) (some (push_int (2 ^ 128 - 1)))
     ∷ on (parts 2 1 0 0) none
     ∷ on (parts 2 0 1 0) none
-    ∷ on (parts 3 0 0 0) (some (pushKey 0))
-    ∷ on (parts 3 0 65535 0) (some (pushKey 65535))
+    ∷ on (parts 3 0 0 0) (some (push_key 0))
+    ∷ on (parts 3 0 65535 0) (some (push_key 65535))
     ∷ on (parts 3 1 0 0) none
     ∷ on (parts 3 0 0 1) none
-    ∷ on (parts 4 0 0 0) (some (pushField value 0))
-    ∷ on (parts 4 1 1 0) (some (pushField mask 1))
-    ∷ on (parts 4 2 2 0) (some (pushField prefixLength 2))
-    ∷ on (parts 4 3 3 0) (some (pushField low 3))
-    ∷ on (parts 4 4 31 0) (some (pushField high 31))
+    ∷ on (parts 4 0 0 0) (some (push_field value 0))
+    ∷ on (parts 4 1 1 0) (some (push_field mask 1))
+    ∷ on (parts 4 2 2 0) (some (push_field prefixLength 2))
+    ∷ on (parts 4 3 3 0) (some (push_field low 3))
+    ∷ on (parts 4 4 31 0) (some (push_field high 31))
     ∷ on (parts 4 5 0 0) none
     ∷ on (parts 4 0 0 1) none
-    ∷ on (parts 5 0 0 0) (some pushPriority)
+    ∷ on (parts 5 0 0 0) (some push_priority)
     ∷ on (parts 5 1 0 0) none
     ∷ on (parts 5 0 1 0) none
     ∷ on (parts 5 0 0 1) none
@@ -170,12 +170,12 @@ implies = parts 12 0 0 0
 -- fields in range." 18: an instruction's "first byte, or length at the end", in one block
 
 -- parts in a row, each read with those that are left after it
-abbrev pub readIn : List Parts → List (Option Instruction)
-readIn [] = []
-readIn (p ∷ code) = decode (length code) p ∷ readIn code
+abbrev pub read_in : List Parts → List (Option Instruction)
+read_in [] = []
+read_in (p ∷ code) = decode (length code) p ∷ read_in code
 
 abbrev pub loads : List Parts → Answer (Unit {0})
-loads code = keys theKeys >>= λ ks. loadCheck 512 (typesAlong ks (readIn code))
+loads code = keys the_keys >>= λ ks. load_check 512 (types_along ks (read_in code))
 
 abbrev pub passed : Answer (Unit {0})
 passed = ok tt
@@ -260,7 +260,7 @@ loadable =
 -- accepted exactly when the bool left at the end is true, else violated"
 
 abbrev pub runs : List ℕ → List Parts → Answer Bool
-runs entry code = keys theKeys >>= λ ks. entry_of ks entry >>= λ e. ok (leftTrue (runAlong ks e (readIn code)))
+runs entry code = keys the_keys >>= λ ks. entry_of ks entry >>= λ e. ok (left_true (run_along ks e (read_in code)))
 
 abbrev pub accepted : List Parts → Example (List Parts) (Answer Bool)
 accepted code = on code (ok true)
@@ -268,8 +268,8 @@ accepted code = on code (ok true)
 abbrev pub violated : List Parts → Example (List Parts) (Answer Bool)
 violated code = on code (ok false)
 
-abbrev pub onTheMarkedEntry : List (Example (List Parts) (Answer Bool))
-onTheMarkedEntry =
+abbrev pub on_the_marked_entry : List (Example (List Parts) (Answer Bool))
+on_the_marked_entry =
     accepted (yes ∷ [])
     ∷ violated (no ∷ [])
     ∷ violated (yes ∷ not ∷ [])
@@ -317,8 +317,8 @@ onTheMarkedEntry =
     ∷ []
 
 -- each key with the match of one value, to which a number is converted
-abbrev pub onOneValueEach : List (Example (List Parts) (Answer Bool))
-onOneValueEach =
+abbrev pub on_one_value_each : List (Example (List Parts) (Answer Bool))
+on_one_value_each =
     accepted (key 1 ∷ int 0xbb ∷ to 1 8 ∷ compares 0 ∷ [])
     ∷ accepted (key 1 ∷ field 0 1 ∷ to 1 8 ∷ compares 0 ∷ [])
     ∷ accepted (key 2 ∷ int 0xc1 ∷ to 2 8 ∷ compares 0 ∷ [])
@@ -329,9 +329,9 @@ onOneValueEach =
     ∷ []
 
 pub record InstructionExamples : Type 0 where
-  pub encoded : Agree encode inBytes
+  pub encoded : Agree encode in_bytes
   pub parted : PartsInBytes
   pub decoded : Agree (decode 0) decodings
   pub loaded : Agree loads loadable
-  pub run-on-the-marked-entry : Agree (runs theEntry) onTheMarkedEntry
-  pub run-on-one-value-each : Agree (runs oneEach) onOneValueEach
+  pub run_on_the_marked_entry : Agree (runs the_entry) on_the_marked_entry
+  pub run_on_one_value_each : Agree (runs one_each) on_one_value_each

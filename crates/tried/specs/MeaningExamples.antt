@@ -3,61 +3,61 @@
 use Rattle.std.specs.Prelude.{ℕ, ◌+◌, ◌^◌, ◌≡◌, Bool, true, false, List, [], ◌∷◌, ◌++◌, drop}
 use Prim.Native.String as S
 use Rattle.paper.specs.Answers.{ok, refused, inEntry}
-use Rattle.paper.specs.Numbers.{bigEndian}
+use Rattle.paper.specs.Numbers.{big_endian}
 use Rattle.paper.specs.Tokens.{bytes}
-use Rattle.paper.specs.Keys.{keyRecord, exact, ternary, lpm, range, optional}
-use Rattle.paper.specs.Meaning.{oneValue}
-use Rattle.paper.specs.Calls.{judgeAnswer}
-use Rattle.tried.specs.MarkedJudgements.{Case, accepted, violated, theKeys, theEntry, AreJudged}
-use Rattle.tried.specs.Examples.{on, Agree, On, rows, table_of, judgedMark}
+use Rattle.paper.specs.Keys.{key_record, exact, ternary, lpm, range, optional}
+use Rattle.paper.specs.Meaning.{one_value}
+use Rattle.paper.specs.Calls.{judge_answer}
+use Rattle.tried.specs.MarkedJudgements.{Case, accepted, violated, the_keys, the_entry, AreJudged}
+use Rattle.tried.specs.Examples.{on, Agree, On, rows, table_of, judged_mark}
 use Rattle.tried.specs.EntryExamples.{match}
-use Rattle.paper.specs.Entry.{matchRecord}
+use Rattle.paper.specs.Entry.{match_record}
 
 -- which pairs of operands an operator holds of
 abbrev pub holds_of : List ℕ → List ℕ → List S.String → S.String → List (List ℕ)
-holds_of list entry operands operator = table_of judgedMark (λ text. judgeAnswer text list entry) operands operator
+holds_of list entry operands operator = table_of judged_mark (λ text. judge_answer text list entry) operands operator
 
 -- an entry without keys
-abbrev pub noKeys : List ℕ
-noKeys = bigEndian 4 0
+abbrev pub no_keys : List ℕ
+no_keys = big_endian 4 0
 
 -- bools: the left one by row, the right one by column, both false and true
 
-abbrev pub ofBools : S.String → List (List ℕ)
-ofBools operator = holds_of [] noKeys ("false" ∷ "true" ∷ []) operator
+abbrev pub of_bools : S.String → List (List ℕ)
+of_bools operator = holds_of [] no_keys ("false" ∷ "true" ∷ []) operator
 
 pub record Bools : Type 0 where
-  pub sequel : ofBools ";" ≡ rows (".." ∷ ".x" ∷ [])
-  pub and : ofBools "&&" ≡ rows (".." ∷ ".x" ∷ [])
-  pub or : ofBools "||" ≡ rows (".x" ∷ "xx" ∷ [])
-  pub implies : ofBools "->" ≡ rows ("xx" ∷ ".x" ∷ [])
-  pub equal : ofBools "==" ≡ rows ("x." ∷ ".x" ∷ [])
-  pub unequal : ofBools "!=" ≡ rows (".x" ∷ "x." ∷ [])
+  pub sequel : of_bools ";" ≡ rows (".." ∷ ".x" ∷ [])
+  pub and : of_bools "&&" ≡ rows (".." ∷ ".x" ∷ [])
+  pub or : of_bools "||" ≡ rows (".x" ∷ "xx" ∷ [])
+  pub implies : of_bools "->" ≡ rows ("xx" ∷ ".x" ∷ [])
+  pub equal : of_bools "==" ≡ rows ("x." ∷ ".x" ∷ [])
+  pub unequal : of_bools "!=" ≡ rows (".x" ∷ "x." ∷ [])
 
 -- ints, from -2 to 2: "Whole numbers up to 2^128 − 1 with a sign are held exactly"
 
-abbrev pub ofInts : S.String → List (List ℕ)
-ofInts operator = holds_of [] noKeys ("-2" ∷ "-1" ∷ "0" ∷ "1" ∷ "2" ∷ []) operator
+abbrev pub of_ints : S.String → List (List ℕ)
+of_ints operator = holds_of [] no_keys ("-2" ∷ "-1" ∷ "0" ∷ "1" ∷ "2" ∷ []) operator
 
 pub record Ints : Type 0 where
-  pub equal : ofInts "==" ≡ rows ("x...." ∷ ".x..." ∷ "..x.." ∷ "...x." ∷ "....x" ∷ [])
-  pub unequal : ofInts "!=" ≡ rows (".xxxx" ∷ "x.xxx" ∷ "xx.xx" ∷ "xxx.x" ∷ "xxxx." ∷ [])
-  pub greater : ofInts ">" ≡ rows ("....." ∷ "x...." ∷ "xx..." ∷ "xxx.." ∷ "xxxx." ∷ [])
-  pub at_least : ofInts ">=" ≡ rows ("x...." ∷ "xx..." ∷ "xxx.." ∷ "xxxx." ∷ "xxxxx" ∷ [])
-  pub less : ofInts "<" ≡ rows (".xxxx" ∷ "..xxx" ∷ "...xx" ∷ "....x" ∷ "....." ∷ [])
-  pub at_most : ofInts "<=" ≡ rows ("xxxxx" ∷ ".xxxx" ∷ "..xxx" ∷ "...xx" ∷ "....x" ∷ [])
+  pub equal : of_ints "==" ≡ rows ("x...." ∷ ".x..." ∷ "..x.." ∷ "...x." ∷ "....x" ∷ [])
+  pub unequal : of_ints "!=" ≡ rows (".xxxx" ∷ "x.xxx" ∷ "xx.xx" ∷ "xxx.x" ∷ "xxxx." ∷ [])
+  pub greater : of_ints ">" ≡ rows ("....." ∷ "x...." ∷ "xx..." ∷ "xxx.." ∷ "xxxx." ∷ [])
+  pub at_least : of_ints ">=" ≡ rows ("x...." ∷ "xx..." ∷ "xxx.." ∷ "xxxx." ∷ "xxxxx" ∷ [])
+  pub less : of_ints "<" ≡ rows (".xxxx" ∷ "..xxx" ∷ "...xx" ∷ "....x" ∷ "....." ∷ [])
+  pub at_most : of_ints "<=" ≡ rows ("xxxxx" ∷ ".xxxx" ∷ "..xxx" ∷ "...xx" ∷ "....x" ∷ [])
 
 -- three keys of one kind and width 8, with their records in the entry
 
 abbrev pub three : ℕ → List ℕ
-three kind = keyRecord (bytes "a") kind 8 ++ keyRecord (bytes "b") kind 8 ++ keyRecord (bytes "c") kind 8
+three kind = key_record (bytes "a") kind 8 ++ key_record (bytes "b") kind 8 ++ key_record (bytes "c") kind 8
 
-abbrev pub ofKeys : ℕ → List ℕ → List ℕ → List ℕ → S.String → List (List ℕ)
-ofKeys kind a b c operator = holds_of (three kind) (bigEndian 4 0 ++ a ++ b ++ c) ("a" ∷ "b" ∷ "c" ∷ []) operator
+abbrev pub of_keys : ℕ → List ℕ → List ℕ → List ℕ → S.String → List (List ℕ)
+of_keys kind a b c operator = holds_of (three kind) (big_endian 4 0 ++ a ++ b ++ c) ("a" ∷ "b" ∷ "c" ∷ []) operator
 
 -- bit<W> and bit<W>: 4, 5 and 255
 abbrev pub of_bits : S.String → List (List ℕ)
-of_bits operator = ofKeys 0 (matchRecord 1 0 4 0) (matchRecord 1 0 5 0) (matchRecord 1 0 255 0) operator
+of_bits operator = of_keys 0 (match_record 1 0 4 0) (match_record 1 0 5 0) (match_record 1 0 255 0) operator
 
 pub record Bits : Type 0 where
   pub equal : of_bits "==" ≡ rows ("x.." ∷ ".x." ∷ "..x" ∷ [])
@@ -68,15 +68,15 @@ pub record Bits : Type 0 where
   pub at_most : of_bits "<=" ≡ rows ("xxx" ∷ ".xx" ∷ "..x" ∷ [])
 
 -- "equal types (equal in all fields)": a against b, which differs in the first field, and against c, which differs in the second
-abbrev pub onlySelf : List (List ℕ)
-onlySelf = rows ("x.." ∷ ".x." ∷ "..x" ∷ [])
+abbrev pub only_self : List (List ℕ)
+only_self = rows ("x.." ∷ ".x." ∷ "..x" ∷ [])
 
 pub record Matches : Type 0 where
-  pub ternary : ofKeys 1 (matchRecord 1 0 0x20 0xF0) (matchRecord 1 0 0x30 0xF0) (matchRecord 1 0 0x20 0xF1) "==" ≡ onlySelf
-  pub lpm : ofKeys 2 (matchRecord 1 2 0xC0 0) (matchRecord 1 2 0x80 0) (matchRecord 1 3 0xC0 0) "==" ≡ onlySelf
-  pub range : ofKeys 3 (matchRecord 1 0 4 9) (matchRecord 1 0 5 9) (matchRecord 1 0 4 8) "==" ≡ onlySelf
-  pub optional : ofKeys 4 (matchRecord 1 0 0 255) (matchRecord 1 0 9 255) (matchRecord 1 0 0 0) "==" ≡ onlySelf
-  pub unequal : ofKeys 1 (matchRecord 1 0 0x20 0xF0) (matchRecord 1 0 0x30 0xF0) (matchRecord 1 0 0x20 0xF0) "!=" ≡ rows (".x." ∷ "x.x" ∷ ".x." ∷ [])
+  pub ternary : of_keys 1 (match_record 1 0 0x20 0xF0) (match_record 1 0 0x30 0xF0) (match_record 1 0 0x20 0xF1) "==" ≡ only_self
+  pub lpm : of_keys 2 (match_record 1 2 0xC0 0) (match_record 1 2 0x80 0) (match_record 1 3 0xC0 0) "==" ≡ only_self
+  pub range : of_keys 3 (match_record 1 0 4 9) (match_record 1 0 5 9) (match_record 1 0 4 8) "==" ≡ only_self
+  pub optional : of_keys 4 (match_record 1 0 0 255) (match_record 1 0 9 255) (match_record 1 0 0 0) "==" ≡ only_self
+  pub unequal : of_keys 1 (match_record 1 0 0x20 0xF0) (match_record 1 0 0x30 0xF0) (match_record 1 0 0x20 0xF0) "!=" ≡ rows (".x." ∷ "x.x" ∷ ".x." ∷ [])
 
 -- on the marked entry
 abbrev pub marked : List Case
@@ -124,8 +124,8 @@ marked =
 -- "Other ints, such as prefix lengths, are still reduced" (02 j): the marked entry with another priority. 496 is 240 modulo 2^8, and 0 modulo
 -- 2^4 and 2; prefix length 2 is 0 modulo 2
 
-abbrev pub withPriority : ℕ → List ℕ
-withPriority n = bigEndian 4 n ++ drop 4 theEntry
+abbrev pub with_priority : ℕ → List ℕ
+with_priority n = big_endian 4 n ++ drop 4 the_entry
 
 abbrev pub reduced : List Case
 reduced =
@@ -146,17 +146,17 @@ reduced =
 -- each key with the match of one value: "A number meeting a bare key becomes the match of that one value: mask all ones, prefix length
 -- W, or low equal to high." The priority is reduced first: it is 443 modulo 2^16, 0xBB modulo 2^8, and minus it is 5 modulo 2^4
 
-abbrev pub oneEach : List ℕ
-oneEach =
-    bigEndian 4 (2 ^ 16 + 443)
-    ++ matchRecord 1 0 0 0
-    ++ matchRecord 1 0 0xBB 0xFF
-    ++ matchRecord 1 8 0xC1 0
-    ++ matchRecord 1 0 443 443
-    ++ matchRecord 1 0 5 15
+abbrev pub one_each : List ℕ
+one_each =
+    big_endian 4 (2 ^ 16 + 443)
+    ++ match_record 1 0 0 0
+    ++ match_record 1 0 0xBB 0xFF
+    ++ match_record 1 8 0xC1 0
+    ++ match_record 1 0 443 443
+    ++ match_record 1 0 5 15
 
-abbrev pub oneValues : List Case
-oneValues =
+abbrev pub one_values : List Case
+one_values =
     accepted "v == 0"
     ∷ violated "v == 1"
     ∷ accepted "v == p::prefix_length"
@@ -181,23 +181,23 @@ oneValues =
 
 -- and the match itself, number by number
 pub record OneValue : Type 0 where
-  pub bits : oneValue exact 8 5 ≡ match 5 0 0
-  pub masked : oneValue ternary 8 5 ≡ match 5 255 0
-  pub prefixed : oneValue lpm 8 5 ≡ match 5 0 8
-  pub ranged : oneValue range 8 5 ≡ match 5 5 0
-  pub optionally : oneValue optional 4 5 ≡ match 5 15 0
+  pub bits : one_value exact 8 5 ≡ match 5 0 0
+  pub masked : one_value ternary 8 5 ≡ match 5 255 0
+  pub prefixed : one_value lpm 8 5 ≡ match 5 0 8
+  pub ranged : one_value range 8 5 ≡ match 5 5 0
+  pub optionally : one_value optional 4 5 ≡ match 5 15 0
 
 -- 02 b, "Our controller sent 443 to 443": port r of 16 bits, of one port and of its neighbours. 0 to 0 is the one port 0, and an absent
 -- key, which has the same numbers, is every port
 
 abbrev pub ports : ℕ → ℕ → ℕ → List ℕ
-ports present low high = bigEndian 4 0 ++ matchRecord present 0 low high
+ports present low high = big_endian 4 0 ++ match_record present 0 low high
 
 abbrev pub IsJudged : S.String → List (On Bool) → Type 0
-IsJudged text es = Agree (judgeAnswer (bytes text) (keyRecord (bytes "r") 3 16)) es
+IsJudged text es = Agree (judge_answer (bytes text) (key_record (bytes "r") 3 16)) es
 
-abbrev pub ofPort443 : List (On Bool)
-ofPort443 =
+abbrev pub of_port443 : List (On Bool)
+of_port443 =
     on (ports 1 443 443) (ok true)
     ∷ on (ports 1 443 444) (ok false)
     ∷ on (ports 1 442 443) (ok false)
@@ -205,25 +205,25 @@ ofPort443 =
     ∷ on (ports 1 444 443) (refused 20 inEntry 4)
     ∷ []
 
-abbrev pub ofPort0 : List (On Bool)
-ofPort0 =
+abbrev pub of_port0 : List (On Bool)
+of_port0 =
     on (ports 1 0 0) (ok true)
     ∷ on (ports 0 0 0) (ok false)
     ∷ on (ports 1 0 1) (ok false)
     ∷ []
 
 pub record Ports : Type 0 where
-  pub port-443 : IsJudged "r == 443" ofPort443
-  pub port-0 : IsJudged "r == 0" ofPort0
+  pub port_443 : IsJudged "r == 443" of_port443
+  pub port_0 : IsJudged "r == 0" of_port0
 
 -- absent keys: "It reads as value 0 with mask 0, prefix length 0, or low 0 with high 2^W − 1."
 
-abbrev pub absentEach : List ℕ
-absentEach =
-    bigEndian 4 0 ++ matchRecord 1 0 0 0 ++ matchRecord 0 0 0 0 ++ matchRecord 0 0 0 0 ++ matchRecord 0 0 0 0 ++ matchRecord 0 0 0 0
+abbrev pub absent_each : List ℕ
+absent_each =
+    big_endian 4 0 ++ match_record 1 0 0 0 ++ match_record 0 0 0 0 ++ match_record 0 0 0 0 ++ match_record 0 0 0 0 ++ match_record 0 0 0 0
 
-abbrev pub absentValues : List Case
-absentValues =
+abbrev pub absent_values : List Case
+absent_values =
     accepted "d::value == 0 && d::mask == 0"
     ∷ accepted "p::value == 0 && p::prefix_length == 0"
     ∷ accepted "r::low == 0 && r::high == 65535"
@@ -239,9 +239,9 @@ pub record MeaningExamples : Type 0 where
   pub ints : Ints
   pub bits : Bits
   pub matches : Matches
-  pub on-the-marked-entry : AreJudged theKeys theEntry marked
-  pub of-ints-reduced : AreJudged theKeys (withPriority 496) reduced
-  pub of-one-value : AreJudged theKeys oneEach oneValues
-  pub one_value : OneValue
-  pub of-ports : Ports
-  pub of-absent-keys : AreJudged theKeys absentEach absentValues
+  pub on_the_marked_entry : AreJudged the_keys the_entry marked
+  pub of_ints_reduced : AreJudged the_keys (with_priority 496) reduced
+  pub of_one_value : AreJudged the_keys one_each one_values
+  pub one_value_lem : OneValue
+  pub of_ports : Ports
+  pub of_absent_keys : AreJudged the_keys absent_each absent_values

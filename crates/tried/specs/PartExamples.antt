@@ -1,30 +1,30 @@
 -- 02 c by example: texts with their parts, both sides of each limit, and what is shown of an entry.
 use Rattle.std.specs.Prelude.{ℕ, ◌-◌, ◌^◌, true, false, List, [], ◌∷◌, ◌++◌, map, length, drop, replicate}
 use Prim.Native.String as S
-use Rattle.paper.specs.Answers.{Answer, ok, refused, ◌>>=◌, inText, inList, inEntry}
-use Rattle.paper.specs.Numbers.{bigEndian}
+use Rattle.paper.specs.Answers.{Answer, ok, refused, ◌>>=◌, InText, InList, inEntry}
+use Rattle.paper.specs.Numbers.{big_endian}
 use Rattle.paper.specs.Tokens.{bytes}
-use Rattle.paper.specs.Keys.{keyRecord}
-use Rattle.paper.specs.Entry.{matchRecord}
+use Rattle.paper.specs.Keys.{key_record}
+use Rattle.paper.specs.Entry.{match_record}
 use Rattle.paper.specs.Grammar.{place_of}
 use Rattle.paper.specs.Print.{print}
 use Rattle.paper.specs.Calls.{tree}
 use Rattle.paper.specs.Parts.{Part, parts}
-use Rattle.paper.specs.Explained.{Reason, inPart, atKey, nothingToShow, reasonFor, explainAnswer}
-use Rattle.tried.specs.MarkedJudgements.{theKeys, theEntry}
-use Rattle.tried.specs.Limits.{manyKeys}
+use Rattle.paper.specs.Explained.{Reason, in_part, at_key, nothing_to_show, reason_for, explain_answer}
+use Rattle.tried.specs.MarkedJudgements.{the_keys, the_entry}
+use Rattle.tried.specs.Limits.{many_keys}
 use Rattle.tried.specs.Examples.{Example, on, Agree, On, OnText, AgreeOnTexts, repeat}
 
 -- a part by its number, its root's place and its stretch, as an explanation shows it
 
 abbrev pub part : ℕ → ℕ → ℕ → ℕ → Reason
-part number place from to = inPart number place (record { from = from; to = to })
+part number place from to = in_part number place (record { from = from; to = to })
 
 abbrev pub shown : Part → Reason
-shown p = inPart p.number (place_of p.root) p.stretch
+shown p = in_part p.number (place_of p.root) p.stretch
 
-abbrev pub partsShown : List ℕ → Answer (List Reason)
-partsShown text = parts text >>= λ ps. ok (map shown ps)
+abbrev pub parts_shown : List ℕ → Answer (List Reason)
+parts_shown text = parts text >>= λ ps. ok (map shown ps)
 
 -- "top-level ";" signs, those outside parentheses"; "A part's stretch runs from its first token to its last"
 abbrev pub texts : List (OnText (List Reason))
@@ -58,8 +58,8 @@ counts =
     ∷ []
 
 -- the last part: as the 512th, up to byte 4,096, and after 64 parentheses
-abbrev pub lastShown : List ℕ → Answer (List Reason)
-lastShown text = parts text >>= λ ps. ok (map shown (drop (length ps - 1) ps))
+abbrev pub last_shown : List ℕ → Answer (List Reason)
+last_shown text = parts text >>= λ ps. ok (map shown (drop (length ps - 1) ps))
 
 abbrev pub lasts : List (On (List Reason))
 lasts =
@@ -73,23 +73,23 @@ lasts =
 -- show" and their own answer"
 abbrev pub judged : List (Example S.String Reason)
 judged =
-    on "true;" (nothingToShow (ok true))
-    ∷ on "v == 1; (true; -v == 1)" (nothingToShow (ok true))
+    on "true;" (nothing_to_show (ok true))
+    ∷ on "v == 1; (true; -v == 1)" (nothing_to_show (ok true))
     ∷ on "false;" (part 1 0 0 5)
     ∷ on "false; false" (part 1 0 0 5)
     ∷ on "v == 1; ::priority < 10" (part 2 19 8 23)
     ∷ on "v == 1; ((false; true)) ; false;" (part 2 15 8 23)
     ∷ on "(true;false);true" (part 1 5 0 12)
     ∷ on "true;(false;false)" (part 2 11 5 18)
-    ∷ on "true;;" (nothingToShow (refused 8 inText 5))
-    ∷ on "false; d > 3" (nothingToShow (refused 13 inText 9))
-    ∷ on "false; 1" (nothingToShow (refused 13 inText 5))
-    ∷ on "1" (nothingToShow (refused 14 inText 0))
+    ∷ on "true;;" (nothing_to_show (refused 8 InText 5))
+    ∷ on "false; d > 3" (nothing_to_show (refused 13 InText 9))
+    ∷ on "false; 1" (nothing_to_show (refused 13 InText 5))
+    ∷ on "1" (nothing_to_show (refused 14 InText 0))
     ∷ []
 
 -- a print has no parentheses round a left ";", so that its parts are others
-abbrev pub printExplained : List ℕ → Answer Reason
-printExplained text = tree text >>= λ t. ok (explainAnswer (print t) theKeys theEntry)
+abbrev pub print_explained : List ℕ → Answer Reason
+print_explained text = tree text >>= λ t. ok (explain_answer (print t) the_keys the_entry)
 
 abbrev pub prints : List (OnText Reason)
 prints = on "(true;false);true" (ok (part 2 7 7 12)) ∷ on "true;(false;true)" (ok (part 2 14 7 21)) ∷ []
@@ -97,61 +97,61 @@ prints = on "(true;false);true" (ok (part 2 7 7 12)) ∷ on "true;(false;true)" 
 -- "For an entry refused with 20 at a key record, name the key instead"
 
 abbrev pub key : ℕ → ℕ → ℕ → ℕ → Reason
-key place index from to = atKey place index (record { from = from; to = to })
+key place index from to = at_key place index (record { from = from; to = to })
 
 -- the marked entry with a bad record of key v, which may not be absent, and with bad ones of r and o
-abbrev pub entryWith : ℕ → ℕ → ℕ → ℕ → List ℕ
-entryWith priority present low mask =
-    bigEndian 4 priority
-    ++ matchRecord present 0 present 0
-    ++ matchRecord 1 0 0x20 0xF0
-    ++ matchRecord 1 2 0xC0 0
-    ++ matchRecord 1 0 low 443
-    ++ matchRecord 1 0 0 mask
+abbrev pub entry_with : ℕ → ℕ → ℕ → ℕ → List ℕ
+entry_with priority present low mask =
+    big_endian 4 priority
+    ++ match_record present 0 present 0
+    ++ match_record 1 0 0x20 0xF0
+    ++ match_record 1 2 0xC0 0
+    ++ match_record 1 0 low 443
+    ++ match_record 1 0 0 mask
 
 abbrev pub entries : List (Example (List ℕ) Reason)
 entries =
-    on (entryWith 10 1 80 15) (part 2 8 8 13)
-    ∷ on (entryWith 10 0 80 15) (key 4 0 16 17)
-    ∷ on (entryWith 10 1 444 15) (key 112 3 256 257)
-    ∷ on (entryWith 10 1 80 14) (key 148 4 336 337)
-    ∷ on (entryWith 10 0 444 14) (key 4 0 16 17)
-    ∷ on (entryWith (2 ^ 31) 1 80 15) (nothingToShow (refused 20 inEntry 0))
-    ∷ on (entryWith (2 ^ 31) 0 444 14) (nothingToShow (refused 20 inEntry 0))
-    ∷ on (drop 1 theEntry) (nothingToShow (refused 19 inEntry 183))
-    ∷ on (drop 164 theEntry) (nothingToShow (refused 19 inEntry 20))
+    on (entry_with 10 1 80 15) (part 2 8 8 13)
+    ∷ on (entry_with 10 0 80 15) (key 4 0 16 17)
+    ∷ on (entry_with 10 1 444 15) (key 112 3 256 257)
+    ∷ on (entry_with 10 1 80 14) (key 148 4 336 337)
+    ∷ on (entry_with 10 0 444 14) (key 4 0 16 17)
+    ∷ on (entry_with (2 ^ 31) 1 80 15) (nothing_to_show (refused 20 inEntry 0))
+    ∷ on (entry_with (2 ^ 31) 0 444 14) (nothing_to_show (refused 20 inEntry 0))
+    ∷ on (drop 1 the_entry) (nothing_to_show (refused 19 inEntry 183))
+    ∷ on (drop 164 the_entry) (nothing_to_show (refused 19 inEntry 20))
     ∷ []
 
 -- names of 64 bytes and of 12; and where 20 stands at the first and the last of 32 records
 
-abbrev pub longNames : List ℕ
-longNames = keyRecord (replicate 64 97) 0 1 ++ keyRecord (bytes "hdr.ipv4.dst") 0 32
+abbrev pub long_names : List ℕ
+long_names = key_record (replicate 64 97) 0 1 ++ key_record (bytes "hdr.ipv4.dst") 0 32
 
-abbrev pub ofLongNames : List (Example (List ℕ) Reason)
-ofLongNames =
-    on (bigEndian 4 0 ++ matchRecord 1 0 1 0 ++ matchRecord 1 0 1 0) (nothingToShow (ok true))
-    ∷ on (bigEndian 4 0 ++ matchRecord 1 0 2 0 ++ matchRecord 1 0 1 0) (key 4 0 16 80)
-    ∷ on (bigEndian 4 0 ++ matchRecord 1 0 1 0 ++ matchRecord 1 1 1 0) (key 40 1 96 108)
+abbrev pub of_long_names : List (Example (List ℕ) Reason)
+of_long_names =
+    on (big_endian 4 0 ++ match_record 1 0 1 0 ++ match_record 1 0 1 0) (nothing_to_show (ok true))
+    ∷ on (big_endian 4 0 ++ match_record 1 0 2 0 ++ match_record 1 0 1 0) (key 4 0 16 80)
+    ∷ on (big_endian 4 0 ++ match_record 1 0 1 0 ++ match_record 1 1 1 0) (key 40 1 96 108)
     ∷ []
 
-abbrev pub ofManyKeys : List (Example ℕ Reason)
-ofManyKeys = on 4 (key 4 0 16 18) ∷ on 40 (key 40 1 96 98) ∷ on 1120 (key 1120 31 2496 2498) ∷ []
+abbrev pub of_many_keys : List (Example ℕ Reason)
+of_many_keys = on 4 (key 4 0 16 18) ∷ on 40 (key 40 1 96 98) ∷ on 1120 (key 1120 31 2496 2498) ∷ []
 
 -- a list is refused before an entry
 abbrev pub lists : List (Example (List ℕ) Reason)
 lists =
-    on (0 ∷ []) (nothingToShow (refused 2 inList 1))
-    ∷ on (keyRecord (bytes "true") 0 1) (nothingToShow (refused 3 inList 0))
-    ∷ on [] (nothingToShow (refused 19 inEntry 184))
+    on (0 ∷ []) (nothing_to_show (refused 2 InList 1))
+    ∷ on (key_record (bytes "true") 0 1) (nothing_to_show (refused 3 InList 0))
+    ∷ on [] (nothing_to_show (refused 19 inEntry 184))
     ∷ []
 
 pub record PartExamples : Type 0 where
-  pub of-texts : AgreeOnTexts partsShown texts
-  pub parts-counted : Agree (λ text. parts text >>= λ ps. ok (length ps)) counts
-  pub last-parts : Agree lastShown lasts
-  pub of-judgements : Agree (λ s. explainAnswer (bytes s) theKeys theEntry) judged
-  pub of-prints : AgreeOnTexts printExplained prints
-  pub of-entries : Agree (explainAnswer (bytes "v == 1; false") theKeys) entries
-  pub of-long-names : Agree (explainAnswer (bytes "true") longNames) ofLongNames
-  pub of-many-keys : Agree (λ at. reasonFor (manyKeys 32) (refused 20 inEntry at)) ofManyKeys
-  pub of-lists : Agree (λ list. explainAnswer (bytes "true") list theEntry) lists
+  pub of_texts : AgreeOnTexts parts_shown texts
+  pub parts_counted : Agree (λ text. parts text >>= λ ps. ok (length ps)) counts
+  pub last_parts : Agree last_shown lasts
+  pub of_judgements : Agree (λ s. explain_answer (bytes s) the_keys the_entry) judged
+  pub of_prints : AgreeOnTexts print_explained prints
+  pub of_entries : Agree (explain_answer (bytes "v == 1; false") the_keys) entries
+  pub of_long_names_lem : Agree (explain_answer (bytes "true") long_names) of_long_names
+  pub of_many_keys_lem : Agree (λ at. reason_for (many_keys 32) (refused 20 inEntry at)) of_many_keys
+  pub of_lists : Agree (λ list. explain_answer (bytes "true") list the_entry) lists

@@ -4,13 +4,13 @@ use Prim.Native.String as S
 use Rattle.paper.specs.declared.Place.TheVariants as P
 use Rattle.paper.specs.declared.Printing.{Printing}
 use Rattle.paper.specs.declared.Printing.TheVariants as W
-use Rattle.paper.specs.Answers.{Answer, ok, refused, ◌>>=◌, inText, inBuffer, printingSays}
+use Rattle.paper.specs.Answers.{Answer, ok, refused, ◌>>=◌, InText, inBuffer, printing_says}
 use Rattle.paper.specs.Tokens as H
-use Rattle.paper.specs.Tokens.{plain, literalIn, bytes, is, starts, sequel, equal, notSign}
+use Rattle.paper.specs.Tokens.{plain, literal_in, bytes, is, starts, sequel, equal, notSign}
 use Rattle.paper.specs.Grammar.{Tree, truth, number, key, field, attribute, prefixed, joined, compared}
-use Rattle.paper.specs.Print.{bare, digitsIn, numeralIn, print}
+use Rattle.paper.specs.Print.{bare, digits_in, numeral_in, print}
 use Rattle.paper.specs.Sized.{levels, count}
-use Rattle.paper.specs.Calls.{tree, printAnswer, printBuffer}
+use Rattle.paper.specs.Calls.{tree, print_answer, print_buffer}
 use Rattle.tried.specs.Examples.{Example, on, Agree, OnText, AgreeOnTexts, repeat, rows, cross, dot, other}
 
 abbrev pub printed : List ℕ → Answer (List ℕ)
@@ -35,8 +35,8 @@ leaves =
     ∷ []
 
 -- numerals: "that base with lower-case digits and prefix (none for decimal), without leading zeros"
-abbrev pub inBases : List (OnText (List ℕ))
-inBases =
+abbrev pub in_bases : List (OnText (List ℕ))
+in_bases =
     prints "0" "0"
     ∷ prints "0d0" "0"
     ∷ prints "0b0" "0b0"
@@ -99,8 +99,8 @@ parentheses =
     ∷ []
 
 -- at the limits of 64 levels and 1,024 tokens
-abbrev pub atLimits : List (Example (List ℕ) (Answer (List ℕ)))
-atLimits =
+abbrev pub at_limits : List (Example (List ℕ) (Answer (List ℕ)))
+at_limits =
     on (repeat 64 (bytes "! ") ++ bytes "a") (ok (repeat 64 (bytes "!") ++ bytes "a"))
     ∷ on (repeat 64 (bytes "a;(") ++ bytes "b;c" ++ repeat 64 (bytes ")")) (ok (repeat 64 (bytes "a ; (") ++ bytes "b ; c" ++ repeat 64 (bytes ")")))
     ∷ on (repeat 512 (bytes "a;")) (ok (bytes "a" ++ repeat 511 (bytes " ; a")))
@@ -108,11 +108,11 @@ atLimits =
 
 -- which parentheses stay, for each operand in one before or after each operator: x where they do, . where they go
 
-abbrev pub lastIs : S.String → List ℕ → ℕ
-lastIs q s = cond (is q (get_or s (length s - 1) 0)) cross dot
+abbrev pub last_is : S.String → List ℕ → ℕ
+last_is q s = cond (is q (get_or s (length s - 1) 0)) cross dot
 
-abbrev pub firstIs : S.String → List ℕ → ℕ
-firstIs q s = cond (starts (is q) s) cross dot
+abbrev pub first_is : S.String → List ℕ → ℕ
+first_is q s = cond (starts (is q) s) cross dot
 
 abbrev pub marked : (List ℕ → ℕ) → Answer (List ℕ) → ℕ
 marked mark (ok s) = mark s
@@ -124,32 +124,32 @@ inside = "a;b" ∷ "a->b" ∷ "a||b" ∷ "a&&b" ∷ "a==b" ∷ "a<b" ∷ "!a" �
 abbrev pub outside : List S.String
 outside = ";" ∷ "->" ∷ "||" ∷ "&&" ∷ "==" ∷ "<" ∷ []
 
-abbrev pub keptBefore : List (List ℕ)
-keptBefore =
-    map (λ s. map (λ o. marked (firstIs "(") (printed (bytes "(" ++ bytes s ++ bytes ")" ++ bytes o ++ bytes "c"))) outside) inside
+abbrev pub kept_before : List (List ℕ)
+kept_before =
+    map (λ s. map (λ o. marked (first_is "(") (printed (bytes "(" ++ bytes s ++ bytes ")" ++ bytes o ++ bytes "c"))) outside) inside
 
-abbrev pub keptAfter : List (List ℕ)
-keptAfter =
-    map (λ s. map (λ o. marked (lastIs ")") (printed (bytes "c" ++ bytes o ++ bytes "(" ++ bytes s ++ bytes ")"))) outside) inside
+abbrev pub kept_after : List (List ℕ)
+kept_after =
+    map (λ s. map (λ o. marked (last_is ")") (printed (bytes "c" ++ bytes o ++ bytes "(" ++ bytes s ++ bytes ")"))) outside) inside
 
-abbrev pub keptUnder : List (List ℕ)
-keptUnder = map (λ o. map (λ s. marked (lastIs ")") (printed (bytes o ++ bytes "(" ++ bytes s ++ bytes ")"))) inside) ("!" ∷ "-" ∷ [])
+abbrev pub kept_under : List (List ℕ)
+kept_under = map (λ o. map (λ s. marked (last_is ")") (printed (bytes o ++ bytes "(" ++ bytes s ++ bytes ")"))) inside) ("!" ∷ "-" ∷ [])
 
 -- digits in any base, lower-case and no 0 before another
 
 pub record Numerals : Type 0 where
-  pub binary : Agree (numeralIn 2) (on 0 (bytes "0") ∷ on 1 (bytes "1") ∷ on 2 (bytes "10") ∷ on 13 (bytes "1101") ∷ [])
-  pub octal : Agree (numeralIn 8) (on 7 (bytes "7") ∷ on 8 (bytes "10") ∷ on 511 (bytes "777") ∷ [])
-  pub hex : Agree (numeralIn 16) (on 9 (bytes "9") ∷ on 10 (bytes "a") ∷ on 15 (bytes "f") ∷ on 0xf0e1 (bytes "f0e1") ∷ [])
-  pub longest : numeralIn 2 (2 ^ 128 - 1) ≡ replicate 128 49
-  pub at_most : Agree (λ most. digitsIn 10 most 407) (on 0 [] ∷ on 2 (0 ∷ 7 ∷ []) ∷ on 3 (4 ∷ 0 ∷ 7 ∷ []) ∷ [])
+  pub binary : Agree (numeral_in 2) (on 0 (bytes "0") ∷ on 1 (bytes "1") ∷ on 2 (bytes "10") ∷ on 13 (bytes "1101") ∷ [])
+  pub octal : Agree (numeral_in 8) (on 7 (bytes "7") ∷ on 8 (bytes "10") ∷ on 511 (bytes "777") ∷ [])
+  pub hex : Agree (numeral_in 16) (on 9 (bytes "9") ∷ on 10 (bytes "a") ∷ on 15 (bytes "f") ∷ on 0xf0e1 (bytes "f0e1") ∷ [])
+  pub longest : numeral_in 2 (2 ^ 128 - 1) ≡ replicate 128 49
+  pub at_most : Agree (λ most. digits_in 10 most 407) (on 0 [] ∷ on 2 (0 ∷ 7 ∷ []) ∷ on 3 (4 ∷ 0 ∷ 7 ∷ []) ∷ [])
 
 -- trees without their places
-abbrev pub bareTrees : List (OnText Tree)
-bareTrees =
+abbrev pub bare_trees : List (OnText Tree)
+bare_trees =
     on " true" (ok (truth 0 true))
     ∷ on " 1" (ok (number 0 (plain 1)))
-    ∷ on " 0x1" (ok (number 0 (literalIn H.hex 1)))
+    ∷ on " 0x1" (ok (number 0 (literal_in H.hex 1)))
     ∷ on " a" (ok (key 0 (bytes "a")))
     ∷ on " a::b" (ok (field 0 (bytes "a") 0 (bytes "b")))
     ∷ on " ::b" (ok (attribute 0 0 (bytes "b")))
@@ -159,8 +159,8 @@ bareTrees =
     ∷ []
 
 -- tokens and levels of prints
-abbrev pub tokensOfPrints : List (OnText ℕ)
-tokensOfPrints =
+abbrev pub tokens_of_prints : List (OnText ℕ)
+tokens_of_prints =
     on "true" (ok 1)
     ∷ on "12" (ok 1)
     ∷ on "((a))" (ok 1)
@@ -173,8 +173,8 @@ tokensOfPrints =
     ∷ on "(a==b)==(c==d)" (ok 11)
     ∷ []
 
-abbrev pub levelsOfPrints : List (OnText ℕ)
-levelsOfPrints =
+abbrev pub levels_of_prints : List (OnText ℕ)
+levels_of_prints =
     on "true" (ok 0)
     ∷ on "12" (ok 0)
     ∷ on "((a))" (ok 0)
@@ -207,8 +207,8 @@ abbrev pub longest : List ℕ
 longest = bytes "0b" ++ replicate 128 49
 
 -- thirty of them, and a word of so many bytes, with ";" between them: the print has 60 blanks more
-abbrev pub longestThen : ℕ → List ℕ
-longestThen n = repeat 30 (longest ++ bytes ";") ++ replicate n 97
+abbrev pub longest_then : ℕ → List ℕ
+longest_then n = repeat 30 (longest ++ bytes ";") ++ replicate n 97
 
 abbrev pub into : List ℕ → ℕ → Lending
 into s n = record { text = s; buffer = replicate n 46 }
@@ -219,17 +219,17 @@ answers =
     ∷ on (lending "a;b" ".......") (ok 5)
     ∷ on (lending "a;b" "....") (refused 21 inBuffer 4)
     ∷ on (lending "a" "") (refused 21 inBuffer 0)
-    ∷ on (lending "a b" "") (refused 8 inText 2)
-    ∷ on (lending "@" "") (refused 5 inText 0)
-    ∷ on (into (replicate 4097 64) 0) (refused 1 inText 4096)
+    ∷ on (lending "a b" "") (refused 8 InText 2)
+    ∷ on (lending "@" "") (refused 5 InText 0)
+    ∷ on (into (replicate 4097 64) 0) (refused 1 InText 4096)
     ∷ on (into (two_words 2046 2046) 4096) (ok 4096)
     ∷ on (into (two_words 2046 2046) 4095) (refused 21 inBuffer 4095)
     ∷ on (into (two_words 2047 2046) 5000) (refused 21 inBuffer 5000)
     ∷ on (into (two_words 2047 2047) 4098) (refused 21 inBuffer 4098)
     ∷ on (into longest 130) (ok 130)
     ∷ on (into longest 129) (refused 21 inBuffer 129)
-    ∷ on (into (longestThen 106) 4096) (ok 4096)
-    ∷ on (into (longestThen 107) 4097) (refused 21 inBuffer 4097)
+    ∷ on (into (longest_then 106) 4096) (ok 4096)
+    ∷ on (into (longest_then 107) 4097) (refused 21 inBuffer 4097)
     ∷ []
 
 -- "Bytes after a print .. stay", and a refusal changes none
@@ -246,21 +246,21 @@ abbrev pub told : List (Example Printing (Answer ℕ))
 told = on (W.Printed 5) (ok 5) ∷ on (W.Refused 21 (P.Buffer 4)) (refused 21 inBuffer 4) ∷ []
 
 pub record PrintExamples : Type 0 where
-  pub of-leaves : AgreeOnTexts printed leaves
-  pub of-bases : AgreeOnTexts printed inBases
-  pub of-longest : printed longest ≡ ok longest
-  pub of-operators : AgreeOnTexts printed operators
-  pub of-parentheses : AgreeOnTexts printed parentheses
-  pub at-limits : Agree printed atLimits
-  pub kept-before : keptBefore
+  pub of_leaves : AgreeOnTexts printed leaves
+  pub of_bases : AgreeOnTexts printed in_bases
+  pub of_longest : printed longest ≡ ok longest
+  pub of_operators : AgreeOnTexts printed operators
+  pub of_parentheses : AgreeOnTexts printed parentheses
+  pub at_limits_lem : Agree printed at_limits
+  pub kept_before_lem : kept_before
       ≡ rows (".xxxxx" ∷ ".xxxxx" ∷ "...xxx" ∷ "....xx" ∷ "....xx" ∷ "....xx" ∷ "......" ∷ "......" ∷ "......" ∷ "......" ∷ "......" ∷ "......" ∷ [])
-  pub kept-after : keptAfter
+  pub kept_after_lem : kept_after
       ≡ rows ("xxxxxx" ∷ ".xxxxx" ∷ "..xxxx" ∷ "...xxx" ∷ "....xx" ∷ "....xx" ∷ "......" ∷ "......" ∷ "......" ∷ "......" ∷ "......" ∷ "......" ∷ [])
-  pub kept_under : keptUnder ≡ rows ("xxxxxx......" ∷ "xxxxxx......" ∷ [])
-  pub of-numerals : Numerals
-  pub of-bare-trees : AgreeOnTexts (λ text. tree text >>= λ t. ok (bare t)) bareTrees
-  pub tokens-counted : AgreeOnTexts (λ text. tree text >>= λ t. ok (count t)) tokensOfPrints
-  pub levels-counted : AgreeOnTexts (λ text. tree text >>= λ t. ok (levels t)) levelsOfPrints
-  pub of-answers : Agree (λ (l : Lending). printAnswer l.text l.buffer) answers
-  pub of-buffers : Agree (λ (l : Lending). printBuffer l.text l.buffer) buffers
-  pub of-cases : Agree printingSays told
+  pub kept_under_lem : kept_under ≡ rows ("xxxxxx......" ∷ "xxxxxx......" ∷ [])
+  pub of_numerals : Numerals
+  pub of_bare_trees : AgreeOnTexts (λ text. tree text >>= λ t. ok (bare t)) bare_trees
+  pub tokens_counted : AgreeOnTexts (λ text. tree text >>= λ t. ok (count t)) tokens_of_prints
+  pub levels_counted : AgreeOnTexts (λ text. tree text >>= λ t. ok (levels t)) levels_of_prints
+  pub of_answers : Agree (λ (l : Lending). print_answer l.text l.buffer) answers
+  pub of_buffers : Agree (λ (l : Lending). print_buffer l.text l.buffer) buffers
+  pub of_cases : Agree printing_says told

@@ -6,33 +6,33 @@ use Rattle.paper.specs.Answers.{Answer, ok, refused}
 use Rattle.paper.specs.Tokens.{plain, bytes, Token, sequel, implies, or_else, andAlso, less, prefix, notSign, minusSign, opening, string, tokens}
 use Rattle.paper.specs.Addresses.{mac}
 use Rattle.paper.specs.Grammar.{truth, number, field, attribute, prefixed, joined, compared}
-use Rattle.paper.specs.Sentences.{tokenAt, signAt, lenient, Sentence, Bounded, WellSpelled, Valid, OpensLevel, IsString, placeFrom}
+use Rattle.paper.specs.Sentences.{token_at, sign_at, lenient, Sentence, Bounded, WellSpelled, Valid, OpensLevel, IsString, place_from}
 use Rattle.tried.specs.TreeExamples.{key_at}
 
 -- the tokens of a text that is cut into some
-abbrev pub whenCut : Answer (List Token) → List Token
-whenCut (ok ts) = ts
-whenCut (refused n i at) = []
+abbrev pub when_cut : Answer (List Token) → List Token
+when_cut (ok ts) = ts
+when_cut (refused n i at) = []
 
 abbrev pub words : S.String → List Token
-words text = whenCut (tokens (bytes text))
+words text = when_cut (tokens (bytes text))
 
 -- "Loosest to tightest: ";" left, "->" at most once, "||" left, "&&" left, one comparison at most, prefix "!" and "-", atoms."
 pub record Derived : Type 0 where
-  pub a-true : WellSpelled (truth 0 true) (words "true")
-  pub a-false : WellSpelled (truth 0 false) (words "false")
-  pub a-numeral : WellSpelled (number 1 (plain 12)) (words " 12")
-  pub an-address : WellSpelled (number 0 (plain 5)) (words "mac('00:00:00:00:00:05')")
+  pub a_true : WellSpelled (truth 0 true) (words "true")
+  pub a_false : WellSpelled (truth 0 false) (words "false")
+  pub a_numeral : WellSpelled (number 1 (plain 12)) (words " 12")
+  pub an_address : WellSpelled (number 0 (plain 5)) (words "mac('00:00:00:00:00:05')")
   pub a_key : WellSpelled (key_at 0 "a.b") (words "a.b")
-  pub a-field : WellSpelled (field 0 (bytes "a") 3 (bytes "true")) (words "a::true")
-  pub an-attribute : WellSpelled (attribute 0 2 (bytes "b")) (words "::b")
-  pub a-not : WellSpelled (prefixed 0 notSign (key_at 1 "a")) (words "!a")
-  pub a-minus : WellSpelled (prefixed 0 minusSign (key_at 1 "a")) (words "-a")
-  pub a-parenthesis : WellSpelled (joined 2 sequel (key_at 1 "a") (key_at 3 "b")) (words "(a;b)")
-  pub a-comparison : WellSpelled (compared 1 less (key_at 0 "a") (key_at 2 "b")) (words "a<b")
+  pub a_field : WellSpelled (field 0 (bytes "a") 3 (bytes "true")) (words "a::true")
+  pub an_attribute : WellSpelled (attribute 0 2 (bytes "b")) (words "::b")
+  pub a_not : WellSpelled (prefixed 0 notSign (key_at 1 "a")) (words "!a")
+  pub a_minus : WellSpelled (prefixed 0 minusSign (key_at 1 "a")) (words "-a")
+  pub a_parenthesis : WellSpelled (joined 2 sequel (key_at 1 "a") (key_at 3 "b")) (words "(a;b)")
+  pub a_comparison : WellSpelled (compared 1 less (key_at 0 "a") (key_at 2 "b")) (words "a<b")
   pub ands : WellSpelled (joined 4 andAlso (joined 1 andAlso (key_at 0 "a") (key_at 3 "b")) (key_at 6 "c")) (words "a&&b&&c")
   pub ors : WellSpelled (joined 4 or_else (joined 1 or_else (key_at 0 "a") (key_at 3 "b")) (key_at 6 "c")) (words "a||b||c")
-  pub one-implication : WellSpelled (joined 1 implies (key_at 0 "a") (key_at 3 "b")) (words "a->b")
+  pub one_implication : WellSpelled (joined 1 implies (key_at 0 "a") (key_at 3 "b")) (words "a->b")
   pub sequels : WellSpelled (joined 3 sequel (joined 1 sequel (key_at 0 "a") (key_at 2 "b")) (key_at 4 "c")) (words "a;b;c")
   pub trailing : WellSpelled (key_at 0 "a") (words "a;")
   -- within 64 levels, and "level limit and contents of address strings aside", where a bad string reads as 0
@@ -42,13 +42,13 @@ pub record Derived : Type 0 where
 
 pub record SentenceExamples : Type 0 where
   pub derived : Derived
-  pub good-string-read : lenient mac (bytes "00:00:00:00:00:05") ≡ some 5
-  pub bad-string-read : lenient mac (bytes "x") ≡ some 0
+  pub good_string_read : lenient mac (bytes "00:00:00:00:00:05") ≡ some 5
+  pub bad_string_read : lenient mac (bytes "x") ≡ some 0
   -- "A level is opened by each prefix operator and each parenthesis"
-  pub not-opens : OpensLevel (signAt 3 (prefix notSign))
-  pub minus-opens : OpensLevel (signAt 3 (prefix minusSign))
-  pub parenthesis-opens : OpensLevel (signAt 3 opening)
-  pub string-is-one : IsString (tokenAt 3 (string (bytes "x")))
+  pub not_opens : OpensLevel (sign_at 3 (prefix notSign))
+  pub minus_opens : OpensLevel (sign_at 3 (prefix minusSign))
+  pub parenthesis_opens : OpensLevel (sign_at 3 opening)
+  pub string_is_one : IsString (token_at 3 (string (bytes "x")))
   -- 8: "token, or text length"
-  pub at-a-token : placeFrom 9 (signAt 3 opening ∷ []) ≡ 3
-  pub at-the-end : placeFrom 9 [] ≡ 9
+  pub at_a_token : place_from 9 (sign_at 3 opening ∷ []) ≡ 3
+  pub at_the_end : place_from 9 [] ≡ 9

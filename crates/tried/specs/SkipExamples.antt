@@ -5,23 +5,23 @@ use Rattle.std.proofs.Math.Option.{Option, none, some}
 use Rattle.paper.specs.Answers.{Answer, ok, refused, ◌>>=◌, Ran, inBlocks}
 use Rattle.paper.specs.Keys.{keys}
 use Rattle.paper.specs.Entry.{entry_of}
-use Rattle.paper.specs.Code.{Instruction, pushBool, invert, connects, skip, Parts, encode, decode, firstByte, Walk, ends}
+use Rattle.paper.specs.Code.{Instruction, push_bool, invert, connects, skip, Parts, encode, decode, first_byte, Walk, ends}
 use Rattle.paper.specs.Code as C
 use Rattle.paper.specs.Types.{Ty, bool}
 use Rattle.paper.specs.Meaning.{Value, truth, both}
-use Rattle.paper.specs.Loading.{program, typesAlong, Step, Run, stuck, done, runAlong}
-use Rattle.paper.specs.Calls.{ranTo}
-use Rattle.paper.specs.LoadedBlocksRun.{typesThrough, valuesThrough, Rising}
-use Rattle.paper.specs.CodeCorrect.{afterAll}
-use Rattle.tried.specs.MarkedJudgements.{theKeys, theEntry}
+use Rattle.paper.specs.Loading.{program, types_along, Step, Run, stuck, done, run_along}
+use Rattle.paper.specs.Calls.{ran_to}
+use Rattle.paper.specs.LoadedBlocksRun.{types_through, values_through, Rising}
+use Rattle.paper.specs.CodeCorrect.{after_all}
+use Rattle.tried.specs.MarkedJudgements.{the_keys, the_entry}
 use Rattle.tried.specs.Examples.{Example, on, Agree}
-use Rattle.tried.specs.BlockExamples.{row, block, pushTrue}
-use Rattle.tried.specs.InstructionExamples.{parts, yes, no, int, key, priority, not, minus, compares, and, or, readIn, loads, passed, fails}
+use Rattle.tried.specs.BlockExamples.{row, block, push_true}
+use Rattle.tried.specs.InstructionExamples.{parts, yes, no, int, key, priority, not, minus, compares, and, or, read_in, loads, passed, fails}
 use Rattle.tried.specs.TranslationExamples.{skips}
 
 -- "the detail byte (0 or 1) .. the constant's first byte (0 or 1) .. as many instructions as the operand says"
-abbrev pub inBytes : List (Example Instruction (List ℕ))
-inBytes =
+abbrev pub in_bytes : List (Example Instruction (List ℕ))
+in_bytes =
     on (skips false false 1) (13 ∷ 0 ∷ 0 ∷ 1 ∷ replicate 16 0)
     ∷ on (skips true false 0x0102) (13 ∷ 1 ∷ 1 ∷ 2 ∷ replicate 16 0)
     ∷ on (skips false true 0xFFFF) (13 ∷ 0 ∷ 0xFF ∷ 0xFF ∷ 1 ∷ replicate 15 0)
@@ -33,8 +33,8 @@ abbrev pub decodings : List (Example Parts (Option Instruction))
 decodings =
     on (parts 13 0 1 0) (some (skips false false 1))
     ∷ on (parts 13 1 2 0) (some (skips true false 2))
-    ∷ on (parts 13 0 3 firstByte) (some (skips false true 3))
-    ∷ on (parts 13 1 3 firstByte) (some (skips true true 3))
+    ∷ on (parts 13 0 3 first_byte) (some (skips false true 3))
+    ∷ on (parts 13 1 3 first_byte) (some (skips true true 3))
     -- detail 2; over none, and past the end; the first byte 2, the second 1, the last 1, beside the first too
     ∷ on (parts 13 2 1 0) none
     ∷ on (parts 13 0 0 0) none
@@ -43,7 +43,7 @@ decodings =
     ∷ on (parts 13 0 1 (2 ^ 121)) none
     ∷ on (parts 13 0 1 (2 ^ 112)) none
     ∷ on (parts 13 0 1 1) none
-    ∷ on (parts 13 0 1 (firstByte + 1)) none
+    ∷ on (parts 13 0 1 (first_byte + 1)) none
     ∷ []
 
 -- as the last instruction there is none that it could pass over
@@ -55,18 +55,18 @@ FarthestReads = decode 65535 (parts 13 0 65535 0) ≡ some (skips false false 65
 
 -- in a block: of three instructions a skip over one is read as the second, and as the third it is not
 pub record InBlocks : Type 0 where
-  pub before-the-last : program (block 0 3 (pushTrue ++ row 13 0 1 ++ row 6 0 0 ++ replicate 440 0) 3 0)
-      ≡ some (pushBool true) ∷ some (skips false false 1) ∷ some invert ∷ []
-  pub as-the-last : program (block 0 3 (pushTrue ++ row 6 0 0 ++ row 13 0 1 ++ replicate 440 0) 3 0)
-      ≡ some (pushBool true) ∷ some invert ∷ none ∷ []
+  pub before_the_last : program (block 0 3 (push_true ++ row 13 0 1 ++ row 6 0 0 ++ replicate 440 0) 3 0)
+      ≡ some (push_bool true) ∷ some (skips false false 1) ∷ some invert ∷ []
+  pub as_the_last : program (block 0 3 (push_true ++ row 6 0 0 ++ row 13 0 1 ++ replicate 440 0) 3 0)
+      ≡ some (push_bool true) ∷ some invert ∷ none ∷ []
 
 -- a skip on false to false
 abbrev pub over : ℕ → Parts
 over n = parts 13 0 n 0
 
 -- a skip on a bool to another
-abbrev pub skipOn : ℕ → ℕ → ℕ → Parts
-skipOn from to n = parts 13 from n to
+abbrev pub skip_on : ℕ → ℕ → ℕ → Parts
+skip_on from to n = parts 13 from n to
 
 -- "The load check asks that the types held at the landing equal those at the skip; a skip that breaks this or any rule above is number 18
 -- at the skip's first byte." Instructions begin at 4, 24, 44, 64, 84 ..
@@ -121,13 +121,13 @@ abbrev pub full : List Parts
 full = replicate 384 yes ++ (over 1 ∷ not ∷ replicate 383 and)
 
 abbrev pub FullLoads : Type 0
-FullLoads = typesAlong [] (readIn full) ≡ ends (bool ∷ [])
+FullLoads = types_along [] (read_in full) ≡ ends (bool ∷ [])
 
 -- "if the top bool equals the detail byte .., replace it by the bool in the constant's first byte .. and pass over as many instructions as
 -- the operand says"; "Running reports the steps taken"
 
 abbrev pub runs : List Parts → Answer Ran
-runs code = keys theKeys >>= λ ks. entry_of ks theEntry >>= λ e. ok (ranTo (runAlong ks e (readIn code)))
+runs code = keys the_keys >>= λ ks. entry_of ks the_entry >>= λ e. ok (ran_to (run_along ks e (read_in code)))
 
 abbrev pub accepted : ℕ → Answer Ran
 accepted steps = ok (record { accepted = true; steps = steps })
@@ -140,11 +140,11 @@ ran =
     -- not taken: the bool stays; taken: it is replaced, and what is passed over is not carried out
     on (yes ∷ over 1 ∷ not ∷ []) (violated 3)
     ∷ on (no ∷ over 1 ∷ not ∷ []) (violated 2)
-    ∷ on (no ∷ skipOn 0 firstByte 1 ∷ not ∷ []) (accepted 2)
-    ∷ on (yes ∷ skipOn 0 firstByte 1 ∷ not ∷ []) (violated 3)
-    ∷ on (yes ∷ skipOn 1 0 1 ∷ not ∷ []) (violated 2)
-    ∷ on (no ∷ skipOn 1 0 1 ∷ not ∷ []) (accepted 3)
-    ∷ on (yes ∷ skipOn 1 firstByte 1 ∷ not ∷ []) (accepted 2)
+    ∷ on (no ∷ skip_on 0 first_byte 1 ∷ not ∷ []) (accepted 2)
+    ∷ on (yes ∷ skip_on 0 first_byte 1 ∷ not ∷ []) (violated 3)
+    ∷ on (yes ∷ skip_on 1 0 1 ∷ not ∷ []) (violated 2)
+    ∷ on (no ∷ skip_on 1 0 1 ∷ not ∷ []) (accepted 3)
+    ∷ on (yes ∷ skip_on 1 first_byte 1 ∷ not ∷ []) (accepted 2)
     -- a landing before the end, where the run goes on
     ∷ on (no ∷ over 1 ∷ not ∷ not ∷ []) (accepted 3)
     ∷ on (yes ∷ over 2 ∷ no ∷ and ∷ not ∷ []) (accepted 5)
@@ -161,7 +161,7 @@ ran =
 -- does not load gets stuck
 
 abbrev pub goes : List Parts → Answer Run
-goes code = keys theKeys >>= λ ks. entry_of ks theEntry >>= λ e. ok (runAlong ks e (readIn code))
+goes code = keys the_keys >>= λ ks. entry_of ks the_entry >>= λ e. ok (run_along ks e (read_in code))
 
 abbrev pub step : ℕ → List Value → Step
 step at held = record { at = at; held = held }
@@ -188,7 +188,7 @@ went =
 -- steps put before those of a run
 abbrev pub Before : Type 0
 Before =
-    afterAll (step 0 [] ∷ step 1 (right ∷ []) ∷ []) (done (step 2 (right ∷ []) ∷ []) (wrong ∷ []))
+    after_all (step 0 [] ∷ step 1 (right ∷ []) ∷ []) (done (step 2 (right ∷ []) ∷ []) (wrong ∷ []))
     ≡ done (step 0 [] ∷ step 1 (right ∷ []) ∷ step 2 (right ∷ []) ∷ []) (wrong ∷ [])
 
 -- such steps rise; the same index twice, one that falls back, one below the first and one past the last do not
@@ -201,38 +201,38 @@ pub record Indices : Type 0 where
 
 -- the same code as 01 walked it, where nothing is passed over: the types, and the values
 
-abbrev pub walksWithTypes : List Parts → Answer (Walk Ty)
-walksWithTypes code = keys theKeys >>= λ ks. ok (typesThrough ks (readIn code))
+abbrev pub walks_with_types : List Parts → Answer (Walk Ty)
+walks_with_types code = keys the_keys >>= λ ks. ok (types_through ks (read_in code))
 
-abbrev pub typesWalked : List (Example (List Parts) (Answer (Walk Ty)))
-typesWalked =
+abbrev pub types_walked : List (Example (List Parts) (Answer (Walk Ty)))
+types_walked =
     on (yes ∷ over 1 ∷ yes ∷ []) (ok (ends (bool ∷ bool ∷ [])))
     ∷ on (no ∷ over 1 ∷ not ∷ minus ∷ []) (ok (C.fails 3))
     ∷ on (not ∷ []) (ok (C.fails 0))
     ∷ []
 
-abbrev pub walksWithValues : List Parts → Answer (Walk Value)
-walksWithValues code = keys theKeys >>= λ ks. entry_of ks theEntry >>= λ e. ok (valuesThrough ks e (readIn code))
+abbrev pub walks_with_values : List Parts → Answer (Walk Value)
+walks_with_values code = keys the_keys >>= λ ks. entry_of ks the_entry >>= λ e. ok (values_through ks e (read_in code))
 
-abbrev pub valuesWalked : List (Example (List Parts) (Answer (Walk Value)))
-valuesWalked =
+abbrev pub values_walked : List (Example (List Parts) (Answer (Walk Value)))
+values_walked =
     on (no ∷ over 1 ∷ not ∷ []) (ok (ends (right ∷ [])))
-    ∷ on (no ∷ skipOn 0 firstByte 1 ∷ not ∷ []) (ok (ends (wrong ∷ [])))
+    ∷ on (no ∷ skip_on 0 first_byte 1 ∷ not ∷ []) (ok (ends (wrong ∷ [])))
     ∷ on (no ∷ over 1 ∷ not ∷ minus ∷ []) (ok (C.fails 3))
     ∷ on (not ∷ []) (ok (C.fails 0))
     ∷ []
 
 pub record SkipExamples : Type 0 where
-  pub encoded : Agree encode inBytes
+  pub encoded : Agree encode in_bytes
   pub decoded : Agree (decode 3) decodings
   pub last : LastIsNone
   pub farthest : FarthestReads
   pub in_blocks : InBlocks
   pub loaded : Agree loads loadable
-  pub full-loads : FullLoads
-  pub runs-counted : Agree runs ran
-  pub runs-stepped : Agree goes went
+  pub full_loads : FullLoads
+  pub runs_counted : Agree runs ran
+  pub runs_stepped : Agree goes went
   pub before : Before
   pub indices : Indices
-  pub types-walked : Agree walksWithTypes typesWalked
-  pub values-walked : Agree walksWithValues valuesWalked
+  pub types_walked_lem : Agree walks_with_types types_walked
+  pub values_walked_lem : Agree walks_with_values values_walked

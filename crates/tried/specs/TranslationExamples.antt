@@ -1,25 +1,25 @@
 -- 01, "Blocks", the translation, by example: texts with their instructions, one text in bytes that has every instruction, and what a
 -- buffer holds afterwards.
 use Rattle.std.specs.Prelude.{ℕ, ◌≡◌, Bool, true, false, List, [], ◌∷◌, ◌++◌, replicate}
-use Rattle.paper.specs.Answers.{Answer, ok, refused, ◌>>=◌, Ran, inText, inBuffer}
+use Rattle.paper.specs.Answers.{Answer, ok, refused, ◌>>=◌, Ran, InText, inBuffer}
 use Rattle.paper.specs.Tokens.{bytes, equal, unequal, greater, at_least, less, at_most}
 use Rattle.paper.specs.Keys.{exact, ternary, lpm, range, optional}
 use Rattle.paper.specs.Entry.{entry_of}
 use Rattle.paper.specs.Types.{value, mask, prefixLength, low, high}
 use Rattle.paper.specs.Meaning.{both, either, ifThen}
-use Rattle.paper.specs.Code.{Instruction, pushBool, pushInt, pushKey, pushField, pushPriority, invert, negate, convert, compare, connects, skip}
-use Rattle.paper.specs.Blocks.{blocksNeeded}
-use Rattle.paper.specs.Translating.{code_of, conversions, joins, stepsOf}
-use Rattle.paper.specs.Calls.{restriction, judgeAnswer, translateAnswer, translateBuffer, runAnswer}
-use Rattle.paper.specs.CodeCorrect.{needs, mostTranslated}
-use Rattle.paper.specs.TranslationCorrect.{judgedInSteps}
-use Rattle.tried.specs.MarkedJudgements.{theKeys, theEntry}
+use Rattle.paper.specs.Code.{Instruction, push_bool, push_int, push_key, push_field, push_priority, invert, negate, convert, compare, connects, skip}
+use Rattle.paper.specs.Blocks.{blocks_needed}
+use Rattle.paper.specs.Translating.{code_of, conversions, joins, steps_of}
+use Rattle.paper.specs.Calls.{restriction, judge_answer, translate_answer, translate_buffer, run_answer}
+use Rattle.paper.specs.CodeCorrect.{needs, most_translated}
+use Rattle.paper.specs.TranslationCorrect.{judged_in_steps}
+use Rattle.tried.specs.MarkedJudgements.{the_keys, the_entry}
 use Rattle.tried.specs.Examples.{on, OnText, AgreeOnTexts}
 use Rattle.tried.specs.BlockExamples.{row}
 
 -- with the marked keys v exact 1, d ternary 8, p lpm 8, r range 16, o optional 4
-abbrev pub codeFor : List ℕ → Answer (List Instruction)
-codeFor text = restriction text theKeys >>= λ r. ok (code_of r.keys r.root)
+abbrev pub code_for : List ℕ → Answer (List Instruction)
+code_for text = restriction text the_keys >>= λ r. ok (code_of r.keys r.root)
 
 abbrev pub skips : Bool → Bool → ℕ → Instruction
 skips from to over = skip (record { on = from; to = to; over = over })
@@ -27,43 +27,43 @@ skips from to over = skip (record { on = from; to = to; over = over })
 -- each sort of node
 abbrev pub leaves : List (OnText (List Instruction))
 leaves =
-    on "true" (ok (pushBool true ∷ []))
-    ∷ on "false" (ok (pushBool false ∷ []))
-    ∷ on "(1 == ipv4('0.0.0.7'))" (ok (pushInt 1 ∷ pushInt 7 ∷ compare equal ∷ []))
-    ∷ on "d == d" (ok (pushKey 1 ∷ pushKey 1 ∷ compare equal ∷ []))
-    ∷ on "d::value == d::mask" (ok (pushField value 1 ∷ pushField mask 1 ∷ compare equal ∷ []))
-    ∷ on "r::low == r::high" (ok (pushField low 3 ∷ pushField high 3 ∷ compare equal ∷ []))
-    ∷ on "p::prefix_length == ::priority" (ok (pushField prefixLength 2 ∷ pushPriority ∷ compare equal ∷ []))
-    ∷ on "!true" (ok (pushBool true ∷ invert ∷ []))
-    ∷ on "-1 == 2" (ok (pushInt 1 ∷ negate ∷ pushInt 2 ∷ compare equal ∷ []))
-    ∷ on "1 != 2" (ok (pushInt 1 ∷ pushInt 2 ∷ compare unequal ∷ []))
-    ∷ on "1 > 2" (ok (pushInt 1 ∷ pushInt 2 ∷ compare greater ∷ []))
-    ∷ on "1 >= 2" (ok (pushInt 1 ∷ pushInt 2 ∷ compare at_least ∷ []))
-    ∷ on "1 < 2" (ok (pushInt 1 ∷ pushInt 2 ∷ compare less ∷ []))
-    ∷ on "1 <= 2" (ok (pushInt 1 ∷ pushInt 2 ∷ compare at_most ∷ []))
+    on "true" (ok (push_bool true ∷ []))
+    ∷ on "false" (ok (push_bool false ∷ []))
+    ∷ on "(1 == ipv4('0.0.0.7'))" (ok (push_int 1 ∷ push_int 7 ∷ compare equal ∷ []))
+    ∷ on "d == d" (ok (push_key 1 ∷ push_key 1 ∷ compare equal ∷ []))
+    ∷ on "d::value == d::mask" (ok (push_field value 1 ∷ push_field mask 1 ∷ compare equal ∷ []))
+    ∷ on "r::low == r::high" (ok (push_field low 3 ∷ push_field high 3 ∷ compare equal ∷ []))
+    ∷ on "p::prefix_length == ::priority" (ok (push_field prefixLength 2 ∷ push_priority ∷ compare equal ∷ []))
+    ∷ on "!true" (ok (push_bool true ∷ invert ∷ []))
+    ∷ on "-1 == 2" (ok (push_int 1 ∷ negate ∷ push_int 2 ∷ compare equal ∷ []))
+    ∷ on "1 != 2" (ok (push_int 1 ∷ push_int 2 ∷ compare unequal ∷ []))
+    ∷ on "1 > 2" (ok (push_int 1 ∷ push_int 2 ∷ compare greater ∷ []))
+    ∷ on "1 >= 2" (ok (push_int 1 ∷ push_int 2 ∷ compare at_least ∷ []))
+    ∷ on "1 < 2" (ok (push_int 1 ∷ push_int 2 ∷ compare less ∷ []))
+    ∷ on "1 <= 2" (ok (push_int 1 ∷ push_int 2 ∷ compare at_most ∷ []))
     -- "";" and "&&" both give 10."
-    ∷ on "true; false" (ok (pushBool true ∷ skips false false 2 ∷ pushBool false ∷ connects both ∷ []))
-    ∷ on "true && false" (ok (pushBool true ∷ skips false false 2 ∷ pushBool false ∷ connects both ∷ []))
-    ∷ on "true || false" (ok (pushBool true ∷ skips true true 2 ∷ pushBool false ∷ connects either ∷ []))
-    ∷ on "true -> false" (ok (pushBool true ∷ skips false true 2 ∷ pushBool false ∷ connects ifThen ∷ []))
+    ∷ on "true; false" (ok (push_bool true ∷ skips false false 2 ∷ push_bool false ∷ connects both ∷ []))
+    ∷ on "true && false" (ok (push_bool true ∷ skips false false 2 ∷ push_bool false ∷ connects both ∷ []))
+    ∷ on "true || false" (ok (push_bool true ∷ skips true true 2 ∷ push_bool false ∷ connects either ∷ []))
+    ∷ on "true -> false" (ok (push_bool true ∷ skips false true 2 ∷ push_bool false ∷ connects ifThen ∷ []))
     -- "Translation is postfix, left before right"; "directly after the left operand of every "and", "or" and "implies", landing after the join"
     ∷ on "true -> (false || !true)" (ok
-    (pushBool true
+    (push_bool true
     ∷ skips false true 6
-    ∷ pushBool false
+    ∷ push_bool false
     ∷ skips true true 3
-    ∷ pushBool true
+    ∷ push_bool true
     ∷ invert
     ∷ connects either
     ∷ connects ifThen
     ∷ []))
     ∷ on "(true && false) || true" (ok
-    (pushBool true
+    (push_bool true
     ∷ skips false false 2
-    ∷ pushBool false
+    ∷ push_bool false
     ∷ connects both
     ∷ skips true true 2
-    ∷ pushBool true
+    ∷ push_bool true
     ∷ connects either
     ∷ []))
     ∷ []
@@ -71,22 +71,22 @@ leaves =
 -- "an operand that must change type is converted directly after its own code, once"
 abbrev pub converted : List (OnText (List Instruction))
 converted =
-    on "v == 1" (ok (pushKey 0 ∷ pushInt 1 ∷ convert exact 1 ∷ compare equal ∷ []))
-    ∷ on "1 == v" (ok (pushInt 1 ∷ convert exact 1 ∷ pushKey 0 ∷ compare equal ∷ []))
-    ∷ on "-1 == v" (ok (pushInt 1 ∷ negate ∷ convert exact 1 ∷ pushKey 0 ∷ compare equal ∷ []))
-    ∷ on "d == 1" (ok (pushKey 1 ∷ pushInt 1 ∷ convert ternary 8 ∷ compare equal ∷ []))
-    ∷ on "1 != p" (ok (pushInt 1 ∷ convert lpm 8 ∷ pushKey 2 ∷ compare unequal ∷ []))
-    ∷ on "r == ::priority" (ok (pushKey 3 ∷ pushPriority ∷ convert range 16 ∷ compare equal ∷ []))
-    ∷ on "o == 1" (ok (pushKey 4 ∷ pushInt 1 ∷ convert optional 4 ∷ compare equal ∷ []))
-    ∷ on "d == d::value" (ok (pushKey 1 ∷ pushField value 1 ∷ convert ternary 8 ∷ compare equal ∷ []))
-    ∷ on "p::value == p" (ok (pushField value 2 ∷ convert lpm 8 ∷ pushKey 2 ∷ compare equal ∷ []))
-    ∷ on "d::mask < 9" (ok (pushField mask 1 ∷ pushInt 9 ∷ convert exact 8 ∷ compare less ∷ []))
-    ∷ on "9 >= d::mask" (ok (pushInt 9 ∷ convert exact 8 ∷ pushField mask 1 ∷ compare at_least ∷ []))
+    on "v == 1" (ok (push_key 0 ∷ push_int 1 ∷ convert exact 1 ∷ compare equal ∷ []))
+    ∷ on "1 == v" (ok (push_int 1 ∷ convert exact 1 ∷ push_key 0 ∷ compare equal ∷ []))
+    ∷ on "-1 == v" (ok (push_int 1 ∷ negate ∷ convert exact 1 ∷ push_key 0 ∷ compare equal ∷ []))
+    ∷ on "d == 1" (ok (push_key 1 ∷ push_int 1 ∷ convert ternary 8 ∷ compare equal ∷ []))
+    ∷ on "1 != p" (ok (push_int 1 ∷ convert lpm 8 ∷ push_key 2 ∷ compare unequal ∷ []))
+    ∷ on "r == ::priority" (ok (push_key 3 ∷ push_priority ∷ convert range 16 ∷ compare equal ∷ []))
+    ∷ on "o == 1" (ok (push_key 4 ∷ push_int 1 ∷ convert optional 4 ∷ compare equal ∷ []))
+    ∷ on "d == d::value" (ok (push_key 1 ∷ push_field value 1 ∷ convert ternary 8 ∷ compare equal ∷ []))
+    ∷ on "p::value == p" (ok (push_field value 2 ∷ convert lpm 8 ∷ push_key 2 ∷ compare equal ∷ []))
+    ∷ on "d::mask < 9" (ok (push_field mask 1 ∷ push_int 9 ∷ convert exact 8 ∷ compare less ∷ []))
+    ∷ on "9 >= d::mask" (ok (push_int 9 ∷ convert exact 8 ∷ push_field mask 1 ∷ compare at_least ∷ []))
     ∷ []
 
 -- "the nodes of the tree plus the conversions": how many of these there are
-abbrev pub conversionsIn : List ℕ → Answer ℕ
-conversionsIn text = restriction text theKeys >>= λ r. ok (conversions r.keys r.root)
+abbrev pub conversions_in : List ℕ → Answer ℕ
+conversions_in text = restriction text the_keys >>= λ r. ok (conversions r.keys r.root)
 
 abbrev pub counts : List (OnText ℕ)
 counts =
@@ -104,11 +104,11 @@ counts =
     ∷ []
 
 -- "The count of instructions grows by one for each join"
-abbrev pub joinsIn : List ℕ → Answer ℕ
-joinsIn text = restriction text theKeys >>= λ r. ok (joins r.root)
+abbrev pub joins_in : List ℕ → Answer ℕ
+joins_in text = restriction text the_keys >>= λ r. ok (joins r.root)
 
-abbrev pub joinCounts : List (OnText ℕ)
-joinCounts =
+abbrev pub join_counts : List (OnText ℕ)
+join_counts =
     on "true" (ok 0)
     ∷ on "1 == 1" (ok 0)
     ∷ on "d == d" (ok 0)
@@ -124,11 +124,11 @@ joinCounts =
     ∷ []
 
 -- how many steps the code takes on the marked entry: a skip is a step, taken or not; what it passes over is none
-abbrev pub stepsIn : List ℕ → Answer ℕ
-stepsIn text = restriction text theKeys >>= λ r. entry_of r.keys theEntry >>= λ e. ok (stepsOf r.keys e r.root)
+abbrev pub steps_in : List ℕ → Answer ℕ
+steps_in text = restriction text the_keys >>= λ r. entry_of r.keys the_entry >>= λ e. ok (steps_of r.keys e r.root)
 
-abbrev pub stepCounts : List (OnText ℕ)
-stepCounts =
+abbrev pub step_counts : List (OnText ℕ)
+step_counts =
     on "true" (ok 1)
     ∷ on "!true" (ok 2)
     ∷ on "v == 1" (ok 4)
@@ -153,22 +153,22 @@ stepCounts =
     ∷ []
 
 -- what judging says, with these steps
-abbrev pub judgedSteps : List ℕ → Answer Ran
-judgedSteps text = judgedInSteps text theKeys theEntry
+abbrev pub judged_steps : List ℕ → Answer Ran
+judged_steps text = judged_in_steps text the_keys the_entry
 
 abbrev pub judgements : List (OnText Ran)
 judgements =
     on "v == 1" (ok (record { accepted = true; steps = 4 }))
     ∷ on "false && true" (ok (record { accepted = false; steps = 2 }))
-    ∷ on "d > 3" (refused 13 inText 2)
+    ∷ on "d > 3" (refused 13 InText 2)
     ∷ []
 
 -- how many values the code holds at most: a left operand waits for its right one
-abbrev pub needsIn : List ℕ → Answer ℕ
-needsIn text = restriction text theKeys >>= λ r. ok (needs r.root)
+abbrev pub needs_in : List ℕ → Answer ℕ
+needs_in text = restriction text the_keys >>= λ r. ok (needs r.root)
 
-abbrev pub heldMost : List (OnText ℕ)
-heldMost =
+abbrev pub held_most : List (OnText ℕ)
+held_most =
     on "true" (ok 1)
     ∷ on "!true" (ok 1)
     ∷ on "v == 1" (ok 2)
@@ -183,7 +183,7 @@ heldMost =
 
 -- the most instructions that a text has: 82 blocks
 abbrev pub MostBlocks : Type 0
-MostBlocks = blocksNeeded mostTranslated ≡ 82
+MostBlocks = blocks_needed most_translated ≡ 82
 
 -- a text with every instruction, field and comparison, and its two blocks byte for byte; the check of each is computed apart, from the
 -- bytes before it
@@ -192,15 +192,15 @@ abbrev pub int : ℕ → List ℕ
 int n = 2 ∷ (replicate 18 0 ++ (n ∷ []))
 
 -- on a bool, to a bool, over so many
-abbrev pub skipTo : ℕ → ℕ → ℕ → List ℕ
-skipTo from to over = 13 ∷ from ∷ 0 ∷ over ∷ to ∷ replicate 15 0
+abbrev pub skip_to : ℕ → ℕ → ℕ → List ℕ
+skip_to from to over = 13 ∷ from ∷ 0 ∷ over ∷ to ∷ replicate 15 0
 
-abbrev pub everyText : List ℕ
-everyText =
+abbrev pub every_text : List ℕ
+every_text =
     bytes "!(d == 7) || -v::value != 1 -> p::prefix_length <= 64; ::priority > 1 && r::low >= r::high && d::mask < 9 && true"
 
-abbrev pub everyBlock : List ℕ
-everyBlock =
+abbrev pub every_block : List ℕ
+every_block =
     (0 ∷ 0 ∷ 0 ∷ 25 ∷ [])
     -- !(d == 7)
     ++ row 3 0 1
@@ -209,7 +209,7 @@ everyBlock =
     ++ row 9 0 0
     ++ row 6 0 0
     -- the skip of "||", then -v::value != 1, and "||"
-    ++ skipTo 1 1 6
+    ++ skip_to 1 1 6
     ++ row 4 0 0
     ++ row 7 0 0
     ++ int 1
@@ -217,18 +217,18 @@ everyBlock =
     ++ row 9 1 0
     ++ row 11 0 0
     -- the skip of "->", then p::prefix_length <= 64, and "->"
-    ++ skipTo 0 1 4
+    ++ skip_to 0 1 4
     ++ row 4 2 2
     ++ int 64
     ++ row 9 5 0
     ++ row 12 0 0
     -- the skip of ";", over all that follows; ::priority > 1
-    ++ skipTo 0 0 18
+    ++ skip_to 0 0 18
     ++ row 5 0 0
     ++ int 1
     ++ row 9 2 0
     -- the skip of "&&", then r::low >= r::high
-    ++ skipTo 0 0 4
+    ++ skip_to 0 0 4
     ++ row 4 3 3
     ++ row 4 4 3
     ++ row 9 3 0
@@ -236,13 +236,13 @@ everyBlock =
     -- the second block: "&&"; d::mask < 9 after its skip, and "&&"; true after its skip, and "&&"; ";"
     ++ (0 ∷ 1 ∷ 0 ∷ 11 ∷ [])
     ++ row 10 0 0
-    ++ skipTo 0 0 5
+    ++ skip_to 0 0 5
     ++ row 4 1 1
     ++ int 9
     ++ row 8 0 8
     ++ row 9 4 0
     ++ row 10 0 0
-    ++ skipTo 0 0 2
+    ++ skip_to 0 0 2
     ++ row 1 0 1
     ++ row 10 0 0
     ++ row 10 0 0
@@ -251,27 +251,27 @@ everyBlock =
 
 -- "fills exactly the blocks needed, and leaves every later byte of the buffer unchanged"
 pub record EveryInstruction : Type 0 where
-  pub written : translateAnswer everyText theKeys (replicate 1025 0xAA) ≡ ok 36
-  pub block : translateBuffer everyText theKeys (replicate 1025 0xAA) ≡ everyBlock ++ (0xAA ∷ [])
-  pub runs : runAnswer theKeys everyBlock theEntry ≡ ok (record { accepted = false; steps = 23 })
-  pub judged : judgeAnswer everyText theKeys theEntry ≡ ok false
+  pub written : translate_answer every_text the_keys (replicate 1025 0xAA) ≡ ok 36
+  pub block : translate_buffer every_text the_keys (replicate 1025 0xAA) ≡ every_block ++ (0xAA ∷ [])
+  pub runs : run_answer the_keys every_block the_entry ≡ ok (record { accepted = false; steps = 23 })
+  pub judged : judge_answer every_text the_keys the_entry ≡ ok false
 
 -- 15: "lent buffer below the bytes needed"; buffer, its length. "A refusal changes nothing lent."
 pub record Refused : Type 0 where
-  pub short : translateAnswer (bytes "v == 1") theKeys (replicate 511 0xAA) ≡ refused 15 inBuffer 511
-  pub short-unchanged : translateBuffer (bytes "v == 1") theKeys (replicate 511 0xAA) ≡ replicate 511 0xAA
-  pub one-of-two-blocks : translateAnswer everyText theKeys (replicate 1023 0xAA) ≡ refused 15 inBuffer 1023
-  pub untyped : translateAnswer (bytes "d > 3") theKeys (replicate 512 0xAA) ≡ refused 13 inText 2
-  pub untyped-unchanged : translateBuffer (bytes "d > 3") theKeys (replicate 512 0xAA) ≡ replicate 512 0xAA
+  pub short : translate_answer (bytes "v == 1") the_keys (replicate 511 0xAA) ≡ refused 15 inBuffer 511
+  pub short_unchanged : translate_buffer (bytes "v == 1") the_keys (replicate 511 0xAA) ≡ replicate 511 0xAA
+  pub one_of_two_blocks : translate_answer every_text the_keys (replicate 1023 0xAA) ≡ refused 15 inBuffer 1023
+  pub untyped : translate_answer (bytes "d > 3") the_keys (replicate 512 0xAA) ≡ refused 13 InText 2
+  pub untyped_unchanged : translate_buffer (bytes "d > 3") the_keys (replicate 512 0xAA) ≡ replicate 512 0xAA
 
 pub record TranslationExamples : Type 0 where
-  pub of-nodes : AgreeOnTexts codeFor leaves
-  pub of-conversions : AgreeOnTexts codeFor converted
-  pub counted : AgreeOnTexts conversionsIn counts
-  pub joins-counted : AgreeOnTexts joinsIn joinCounts
-  pub steps-counted : AgreeOnTexts stepsIn stepCounts
-  pub judged-in-steps : AgreeOnTexts judgedSteps judgements
-  pub held-counted : AgreeOnTexts needsIn heldMost
-  pub most-blocks : MostBlocks
-  pub every-instruction : EveryInstruction
+  pub of_nodes : AgreeOnTexts code_for leaves
+  pub of_conversions : AgreeOnTexts code_for converted
+  pub counted : AgreeOnTexts conversions_in counts
+  pub joins_counted : AgreeOnTexts joins_in join_counts
+  pub steps_counted : AgreeOnTexts steps_in step_counts
+  pub judged_in_steps_lem : AgreeOnTexts judged_steps judgements
+  pub held_counted : AgreeOnTexts needs_in held_most
+  pub most_blocks : MostBlocks
+  pub every_instruction : EveryInstruction
   pub refusals : Refused

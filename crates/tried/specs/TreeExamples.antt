@@ -1,10 +1,10 @@
 -- 01, "Tokens and grammar", second paragraph, by example: texts with their trees, and texts that are no sentence, with the place.
 use Rattle.std.specs.Prelude.{ℕ, true, false, List, [], ◌∷◌}
 use Prim.Native.String as S
-use Rattle.paper.specs.Answers.{Answer, ok, refused, ◌>>=◌, inText}
-use Rattle.paper.specs.Tokens.{binary, hex, plain, literalIn, bytes, sequel, implies, or_else, andAlso, equal, unequal, greater, at_least, less, at_most, notSign, minusSign}
+use Rattle.paper.specs.Answers.{Answer, ok, refused, ◌>>=◌, InText}
+use Rattle.paper.specs.Tokens.{binary, hex, plain, literal_in, bytes, sequel, implies, or_else, andAlso, equal, unequal, greater, at_least, less, at_most, notSign, minusSign}
 use Rattle.paper.specs.Grammar.{Tree, truth, number, key, field, attribute, prefixed, joined, compared, place_of}
-use Rattle.paper.specs.Calls.{tree, readAnswer}
+use Rattle.paper.specs.Calls.{tree, read_answer}
 use Rattle.tried.specs.Examples.{on, OnText, AgreeOnTexts}
 
 -- a key of a name
@@ -19,9 +19,9 @@ atoms =
     on "true" (ok (truth 0 true))
     ∷ on " false" (ok (truth 1 false))
     ∷ on "12" (ok (number 0 (plain 12)))
-    ∷ on "0x12" (ok (number 0 (literalIn hex 18)))
-    ∷ on "0B11" (ok (number 0 (literalIn binary 3)))
-    ∷ on "0o17" (refused 22 inText 0)
+    ∷ on "0x12" (ok (number 0 (literal_in hex 18)))
+    ∷ on "0B11" (ok (number 0 (literal_in binary 3)))
+    ∷ on "0o17" (refused 22 InText 0)
     ∷ on "0D10" (ok (number 0 (plain 10)))
     ∷ on "ipv4('1.2.3.4')" (ok (number 0 (plain 0x01020304)))
     ∷ on "ipv6('::1')" (ok (number 0 (plain 1)))
@@ -93,81 +93,81 @@ ladder =
     ∷ []
 
 -- 8: "first token that no sentence could continue with, or text ends too soon": the token, or the text's length
-abbrev pub stopsAt : ℕ → Answer Tree
-stopsAt place = refused 8 inText place
+abbrev pub stops_at : ℕ → Answer Tree
+stops_at place = refused 8 InText place
 
-abbrev pub noSentences : List (OnText Tree)
-noSentences =
+abbrev pub no_sentences : List (OnText Tree)
+no_sentences =
     -- where an operand must stand
-    on "" (stopsAt 0)
-    ∷ on "  " (stopsAt 2)
-    ∷ on ")" (stopsAt 0)
-    ∷ on ";" (stopsAt 0)
-    ∷ on "->a" (stopsAt 0)
-    ∷ on "==a" (stopsAt 0)
-    ∷ on "'q'" (stopsAt 0)
-    ∷ on "a;;b" (stopsAt 2)
-    ∷ on "a-> " (stopsAt 4)
-    ∷ on "a||" (stopsAt 3)
-    ∷ on "a&&" (stopsAt 3)
-    ∷ on "a==" (stopsAt 3)
-    ∷ on "a<)" (stopsAt 2)
-    ∷ on "!" (stopsAt 1)
-    ∷ on "-;" (stopsAt 1)
-    ∷ on "(" (stopsAt 1)
-    ∷ on "()" (stopsAt 1)
+    on "" (stops_at 0)
+    ∷ on "  " (stops_at 2)
+    ∷ on ")" (stops_at 0)
+    ∷ on ";" (stops_at 0)
+    ∷ on "->a" (stops_at 0)
+    ∷ on "==a" (stops_at 0)
+    ∷ on "'q'" (stops_at 0)
+    ∷ on "a;;b" (stops_at 2)
+    ∷ on "a-> " (stops_at 4)
+    ∷ on "a||" (stops_at 3)
+    ∷ on "a&&" (stops_at 3)
+    ∷ on "a==" (stops_at 3)
+    ∷ on "a<)" (stops_at 2)
+    ∷ on "!" (stops_at 1)
+    ∷ on "-;" (stops_at 1)
+    ∷ on "(" (stops_at 1)
+    ∷ on "()" (stops_at 1)
     -- after an operand
-    ∷ on "a b" (stopsAt 2)
-    ∷ on "a 1" (stopsAt 2)
-    ∷ on "1 a" (stopsAt 2)
-    ∷ on "a 'q'" (stopsAt 2)
-    ∷ on "a(b" (stopsAt 1)
-    ∷ on "a!b" (stopsAt 1)
-    ∷ on "a-1" (stopsAt 1)
-    ∷ on "a)" (stopsAt 1)
-    ∷ on "true(" (stopsAt 4)
-    ∷ on "true::a" (stopsAt 4)
-    ∷ on "1::a" (stopsAt 1)
-    ∷ on "(a)::b" (stopsAt 3)
-    ∷ on "a::b::c" (stopsAt 4)
+    ∷ on "a b" (stops_at 2)
+    ∷ on "a 1" (stops_at 2)
+    ∷ on "1 a" (stops_at 2)
+    ∷ on "a 'q'" (stops_at 2)
+    ∷ on "a(b" (stops_at 1)
+    ∷ on "a!b" (stops_at 1)
+    ∷ on "a-1" (stops_at 1)
+    ∷ on "a)" (stops_at 1)
+    ∷ on "true(" (stops_at 4)
+    ∷ on "true::a" (stops_at 4)
+    ∷ on "1::a" (stops_at 1)
+    ∷ on "(a)::b" (stops_at 3)
+    ∷ on "a::b::c" (stops_at 4)
     -- "at most once", "one comparison at most"
-    ∷ on "a->b->c" (stopsAt 4)
-    ∷ on "a==b==c" (stopsAt 4)
-    ∷ on "a<b>c" (stopsAt 3)
+    ∷ on "a->b->c" (stops_at 4)
+    ∷ on "a==b==c" (stops_at 4)
+    ∷ on "a<b>c" (stops_at 3)
     -- after "::"
-    ∷ on "a::" (stopsAt 3)
-    ∷ on "a::1" (stopsAt 3)
-    ∷ on "a::'q'" (stopsAt 3)
-    ∷ on "a::;" (stopsAt 3)
-    ∷ on "a::b.c" (stopsAt 3)
-    ∷ on "::" (stopsAt 2)
-    ∷ on "::1" (stopsAt 2)
-    ∷ on "::b.c" (stopsAt 2)
+    ∷ on "a::" (stops_at 3)
+    ∷ on "a::1" (stops_at 3)
+    ∷ on "a::'q'" (stops_at 3)
+    ∷ on "a::;" (stops_at 3)
+    ∷ on "a::b.c" (stops_at 3)
+    ∷ on "::" (stops_at 2)
+    ∷ on "::1" (stops_at 2)
+    ∷ on "::b.c" (stops_at 2)
     -- before ")"
-    ∷ on "(a" (stopsAt 2)
-    ∷ on "(a;)" (stopsAt 3)
-    ∷ on "(a b)" (stopsAt 3)
-    ∷ on "(a(" (stopsAt 2)
-    ∷ on "(1::" (stopsAt 2)
-    ∷ on "(a))" (stopsAt 3)
+    ∷ on "(a" (stops_at 2)
+    ∷ on "(a;)" (stops_at 3)
+    ∷ on "(a b)" (stops_at 3)
+    ∷ on "(a(" (stops_at 2)
+    ∷ on "(1::" (stops_at 2)
+    ∷ on "(a))" (stops_at 3)
     -- in an address
-    ∷ on "ipv4(" (stopsAt 5)
-    ∷ on "ipv4(a)" (stopsAt 5)
-    ∷ on "ipv4(1)" (stopsAt 5)
-    ∷ on "ipv4()" (stopsAt 5)
-    ∷ on "ipv4('1.2.3.4'" (stopsAt 14)
-    ∷ on "ipv4('1.2.3.4' a" (stopsAt 15)
-    ∷ on "ipv4('1.2.3.4';" (stopsAt 14)
-    ∷ on "ipv5('1.2.3.4')" (stopsAt 4)
+    ∷ on "ipv4(" (stops_at 5)
+    ∷ on "ipv4(a)" (stops_at 5)
+    ∷ on "ipv4(1)" (stops_at 5)
+    ∷ on "ipv4()" (stops_at 5)
+    ∷ on "ipv4('1.2.3.4'" (stops_at 14)
+    ∷ on "ipv4('1.2.3.4' a" (stops_at 15)
+    ∷ on "ipv4('1.2.3.4';" (stops_at 14)
+    ∷ on "ipv5('1.2.3.4')" (stops_at 4)
     -- at most one trailing ";"
-    ∷ on "a;;" (stopsAt 2)
-    ∷ on "a;b;;" (stopsAt 4)
+    ∷ on "a;;" (stops_at 2)
+    ∷ on "a;b;;" (stops_at 4)
     -- 10: "bad address string", its quote. "In a stage the earliest place wins"
-    ∷ on "ipv4('x')" (refused 10 inText 5)
-    ∷ on "a;mac( '')" (refused 10 inText 7)
-    ∷ on "ipv4('x'" (refused 10 inText 5)
-    ∷ on "ipv4('x') b" (refused 10 inText 5)
-    ∷ on "a b ipv4('x')" (stopsAt 2)
+    ∷ on "ipv4('x')" (refused 10 InText 5)
+    ∷ on "a;mac( '')" (refused 10 InText 7)
+    ∷ on "ipv4('x'" (refused 10 InText 5)
+    ∷ on "ipv4('x') b" (refused 10 InText 5)
+    ∷ on "a b ipv4('x')" (stops_at 2)
     ∷ []
 
 -- how many nodes a tree has
@@ -201,9 +201,9 @@ places =
     ∷ []
 
 pub record TreeExamples : Type 0 where
-  pub of-atoms : AgreeOnTexts tree atoms
-  pub of-operators : AgreeOnTexts tree operators
-  pub of-the-ladder : AgreeOnTexts tree ladder
-  pub of-no-sentence : AgreeOnTexts tree noSentences
-  pub nodes-counted : AgreeOnTexts readAnswer sizes
-  pub roots-placed : AgreeOnTexts (λ text. tree text >>= λ t. ok (place_of t)) places
+  pub of_atoms : AgreeOnTexts tree atoms
+  pub of_operators : AgreeOnTexts tree operators
+  pub of_the_ladder : AgreeOnTexts tree ladder
+  pub of_no_sentence : AgreeOnTexts tree no_sentences
+  pub nodes_counted : AgreeOnTexts read_answer sizes
+  pub roots_placed : AgreeOnTexts (λ text. tree text >>= λ t. ok (place_of t)) places

@@ -2,32 +2,32 @@
 -- places of refusals 11 to 14.
 use Rattle.std.specs.Prelude.{ℕ, ◌≡◌, List, [], ◌∷◌, ◌++◌, map, replicate}
 use Prim.Native.String as S
-use Rattle.paper.specs.Answers.{Answer, ok, refused, inText}
+use Rattle.paper.specs.Answers.{Answer, ok, refused, InText}
 use Rattle.paper.specs.Tokens.{bytes}
-use Rattle.paper.specs.Calls.{checkAnswer}
-use Rattle.tried.specs.Examples.{on, OnText, AgreeOnTexts, rows, table_of, passMark}
-use Rattle.paper.specs.Keys.{keyRecord}
+use Rattle.paper.specs.Calls.{check_answer}
+use Rattle.tried.specs.Examples.{on, OnText, AgreeOnTexts, rows, table_of, pass_mark}
+use Rattle.paper.specs.Keys.{key_record}
 
 -- a key of each kind and width 8, and two of width 4
 abbrev pub kinds : List ℕ
 kinds =
-    keyRecord (bytes "e") 0 8
-    ++ keyRecord (bytes "t") 1 8
-    ++ keyRecord (bytes "l") 2 8
-    ++ keyRecord (bytes "r") 3 8
-    ++ keyRecord (bytes "o") 4 8
-    ++ keyRecord (bytes "f") 0 4
-    ++ keyRecord (bytes "u") 1 4
+    key_record (bytes "e") 0 8
+    ++ key_record (bytes "t") 1 8
+    ++ key_record (bytes "l") 2 8
+    ++ key_record (bytes "r") 3 8
+    ++ key_record (bytes "o") 4 8
+    ++ key_record (bytes "f") 0 4
+    ++ key_record (bytes "u") 1 4
 
 abbrev pub check : List ℕ → Answer (Unit {0})
-check text = checkAnswer text kinds
+check text = check_answer text kinds
 
 -- bool, int, bit<8>, bit<4>, ternary of 8 and of 4, lpm, range and optional of 8
 abbrev pub operands : List S.String
 operands = "true" ∷ "1" ∷ "e" ∷ "f" ∷ "t" ∷ "u" ∷ "l" ∷ "r" ∷ "o" ∷ []
 
-abbrev pub typesUnder : S.String → List (List ℕ)
-typesUnder operator = table_of (passMark 13) check operands operator
+abbrev pub types_under : S.String → List (List ℕ)
+types_under operator = table_of (pass_mark 13) check operands operator
 
 -- ""==" and "!=" take equal types (equal in all fields), int with bit<W> or a bare key, or bit<W> with a bare key of that W."
 -- "A bool never meets a number."
@@ -62,8 +62,8 @@ ordering =
 
 -- "The joins take bools.": bool, int, bit<8>, ternary of 8
 
-abbrev pub joinedUnder : S.String → List (List ℕ)
-joinedUnder operator = table_of (passMark 13) check ("true" ∷ "1" ∷ "e" ∷ "t" ∷ []) operator
+abbrev pub joined_under : S.String → List (List ℕ)
+joined_under operator = table_of (pass_mark 13) check ("true" ∷ "1" ∷ "e" ∷ "t" ∷ []) operator
 
 abbrev pub joining : List (List ℕ)
 joining = rows ("x..." ∷ "...." ∷ "...." ∷ "...." ∷ [])
@@ -71,40 +71,40 @@ joining = rows ("x..." ∷ "...." ∷ "...." ∷ "...." ∷ [])
 abbrev pub passed : Answer (Unit {0})
 passed = ok tt
 
-abbrev pub refusedIn : ℕ → ℕ → Answer (Unit {0})
-refusedIn number place = refused number inText place
+abbrev pub refused_in : ℕ → ℕ → Answer (Unit {0})
+refused_in number place = refused number InText place
 
 -- ""!" takes bool. "-" takes int, or bit<W> modulo 2^W."
 abbrev pub prefixes : List (OnText (Unit {0}))
 prefixes =
     on "!true" passed
     ∷ on "!!true" passed
-    ∷ on "!1" (refusedIn 13 0)
-    ∷ on "!e" (refusedIn 13 0)
-    ∷ on "!t" (refusedIn 13 0)
-    ∷ on "-true" (refusedIn 13 0)
+    ∷ on "!1" (refused_in 13 0)
+    ∷ on "!e" (refused_in 13 0)
+    ∷ on "!t" (refused_in 13 0)
+    ∷ on "-true" (refused_in 13 0)
     ∷ on "-1 == -1" passed
     ∷ on "-e == e" passed
     ∷ on "-e == t" passed
-    ∷ on "-e == f" (refusedIn 13 3)
-    ∷ on "-e == true" (refusedIn 13 3)
-    ∷ on "-t == t" (refusedIn 13 0)
-    ∷ on "-l == l" (refusedIn 13 0)
-    ∷ on "-r == r" (refusedIn 13 0)
-    ∷ on "-o == o" (refusedIn 13 0)
+    ∷ on "-e == f" (refused_in 13 3)
+    ∷ on "-e == true" (refused_in 13 3)
+    ∷ on "-t == t" (refused_in 13 0)
+    ∷ on "-l == l" (refused_in 13 0)
+    ∷ on "-r == r" (refused_in 13 0)
+    ∷ on "-o == o" (refused_in 13 0)
     ∷ []
 
 -- "Fields are those of 004's table": each kind's name with each field's, and what such a field may be compared with
 
-abbrev pub keyNames : List S.String
-keyNames = "e" ∷ "t" ∷ "l" ∷ "r" ∷ "o" ∷ []
+abbrev pub key_names : List S.String
+key_names = "e" ∷ "t" ∷ "l" ∷ "r" ∷ "o" ∷ []
 
-abbrev pub fieldNames : List S.String
-fieldNames = "::value" ∷ "::mask" ∷ "::prefix_length" ∷ "::low" ∷ "::high" ∷ []
+abbrev pub field_names : List S.String
+field_names = "::value" ∷ "::mask" ∷ "::prefix_length" ∷ "::low" ∷ "::high" ∷ []
 
 -- 12 stands at the field's name, after "::"
 abbrev pub fields_of : S.String → List ℕ
-fields_of k = map (λ f. passMark 12 3 (check (bytes k ++ bytes f ++ bytes "==1"))) fieldNames
+fields_of k = map (λ f. pass_mark 12 3 (check (bytes k ++ bytes f ++ bytes "==1"))) field_names
 
 abbrev pub fields : List (List ℕ)
 fields =
@@ -120,48 +120,48 @@ abbrev pub names : List (OnText (Unit {0}))
 names =
     -- fields are bit<W>, and prefix_length is int
     on "e::value == e" passed
-    ∷ on "e::value == f" (refusedIn 13 9)
-    ∷ on "t::value == f" (refusedIn 13 9)
+    ∷ on "e::value == f" (refused_in 13 9)
+    ∷ on "t::value == f" (refused_in 13 9)
     ∷ on "t::mask == e" passed
-    ∷ on "t::mask == f" (refusedIn 13 8)
-    ∷ on "l::value == f" (refusedIn 13 9)
+    ∷ on "t::mask == f" (refused_in 13 8)
+    ∷ on "l::value == f" (refused_in 13 9)
     ∷ on "l::prefix_length == e" passed
     ∷ on "l::prefix_length == f" passed
     ∷ on "r::low == e" passed
-    ∷ on "r::low == f" (refusedIn 13 7)
-    ∷ on "r::high == f" (refusedIn 13 8)
-    ∷ on "o::value == f" (refusedIn 13 9)
-    ∷ on "o::mask == f" (refusedIn 13 8)
+    ∷ on "r::low == f" (refused_in 13 7)
+    ∷ on "r::high == f" (refused_in 13 8)
+    ∷ on "o::value == f" (refused_in 13 9)
+    ∷ on "o::mask == f" (refused_in 13 8)
     ∷ on "f::value == f" passed
     ∷ on "u::mask == f" passed
     -- no other name
-    ∷ on "e::valu == 1" (refusedIn 12 3)
-    ∷ on "e::values == 1" (refusedIn 12 3)
-    ∷ on "t::Mask == 1" (refusedIn 12 3)
-    ∷ on "t:: priority == 1" (refusedIn 12 4)
+    ∷ on "e::valu == 1" (refused_in 12 3)
+    ∷ on "e::values == 1" (refused_in 12 3)
+    ∷ on "t::Mask == 1" (refused_in 12 3)
+    ∷ on "t:: priority == 1" (refused_in 12 4)
     -- "::priority is int."
     ∷ on "::priority == e" passed
     ∷ on "::priority == u" passed
     ∷ on "::priority < 1" passed
-    ∷ on "::priority == true" (refusedIn 13 11)
-    ∷ on "::prio == 1" (refusedIn 12 2)
-    ∷ on ":: value == 1" (refusedIn 12 3)
+    ∷ on "::priority == true" (refused_in 13 11)
+    ∷ on "::prio == 1" (refused_in 12 2)
+    ∷ on ":: value == 1" (refused_in 12 3)
     ∷ []
 
 -- "Operands are typed left, right, then the operator. An operator is judged only when its operands have types."
 abbrev pub order : List (OnText (Unit {0}))
 order =
-    on "z == y" (refusedIn 11 0)
-    ∷ on "1 == y" (refusedIn 11 5)
-    ∷ on "1 && y" (refusedIn 11 5)
-    ∷ on "z::mask == y" (refusedIn 11 0)
-    ∷ on "e::mask == y" (refusedIn 12 3)
-    ∷ on "z::foo" (refusedIn 11 0)
-    ∷ on "!-z" (refusedIn 11 2)
-    ∷ on "!1 == z" (refusedIn 13 0)
-    ∷ on "1 && true && z" (refusedIn 13 2)
-    ∷ on "true && (1; true)" (refusedIn 13 10)
-    ∷ on "true == (true < z)" (refusedIn 11 16)
+    on "z == y" (refused_in 11 0)
+    ∷ on "1 == y" (refused_in 11 5)
+    ∷ on "1 && y" (refused_in 11 5)
+    ∷ on "z::mask == y" (refused_in 11 0)
+    ∷ on "e::mask == y" (refused_in 12 3)
+    ∷ on "z::foo" (refused_in 11 0)
+    ∷ on "!-z" (refused_in 11 2)
+    ∷ on "!1 == z" (refused_in 13 0)
+    ∷ on "1 && true && z" (refused_in 13 2)
+    ∷ on "true && (1; true)" (refused_in 13 10)
+    ∷ on "true == (true < z)" (refused_in 11 16)
     ∷ []
 
 -- 14: "whole text not bool", root's place
@@ -171,23 +171,23 @@ roots =
     ∷ on "!true" passed
     ∷ on "true; false" passed
     ∷ on "1 == 1" passed
-    ∷ on " 1" (refusedIn 14 1)
-    ∷ on "(1)" (refusedIn 14 1)
-    ∷ on "e" (refusedIn 14 0)
-    ∷ on "t" (refusedIn 14 0)
-    ∷ on " ( - 1 )" (refusedIn 14 3)
-    ∷ on "(e::value)" (refusedIn 14 1)
-    ∷ on "(::priority)" (refusedIn 14 1)
-    ∷ on "(ipv4('1.2.3.4'))" (refusedIn 14 1)
-    ∷ on "1; true" (refusedIn 13 1)
+    ∷ on " 1" (refused_in 14 1)
+    ∷ on "(1)" (refused_in 14 1)
+    ∷ on "e" (refused_in 14 0)
+    ∷ on "t" (refused_in 14 0)
+    ∷ on " ( - 1 )" (refused_in 14 3)
+    ∷ on "(e::value)" (refused_in 14 1)
+    ∷ on "(::priority)" (refused_in 14 1)
+    ∷ on "(ipv4('1.2.3.4'))" (refused_in 14 1)
+    ∷ on "1; true" (refused_in 13 1)
     ∷ []
 
 pub record TypeExamples : Type 0 where
-  pub equal-types : map typesUnder ("==" ∷ "!=" ∷ []) ≡ replicate 2 equality
-  pub ordered-types : map typesUnder (">" ∷ ">=" ∷ "<" ∷ "<=" ∷ []) ≡ replicate 4 ordering
-  pub joined-types : map joinedUnder (";" ∷ "->" ∷ "||" ∷ "&&" ∷ []) ≡ replicate 4 joining
-  pub prefixed-types : AgreeOnTexts check prefixes
-  pub fields-of-kinds : map fields_of keyNames ≡ fields
-  pub names-known : AgreeOnTexts check names
+  pub equal_types : map types_under ("==" ∷ "!=" ∷ []) ≡ replicate 2 equality
+  pub ordered_types : map types_under (">" ∷ ">=" ∷ "<" ∷ "<=" ∷ []) ≡ replicate 4 ordering
+  pub joined_types : map joined_under (";" ∷ "->" ∷ "||" ∷ "&&" ∷ []) ≡ replicate 4 joining
+  pub prefixed_types : AgreeOnTexts check prefixes
+  pub fields_of_kinds : map fields_of key_names ≡ fields
+  pub names_known : AgreeOnTexts check names
   pub in_order : AgreeOnTexts check order
-  pub of-the-root : AgreeOnTexts check roots
+  pub of_the_root : AgreeOnTexts check roots

@@ -4,10 +4,10 @@
 use Rattle.std.specs.Prelude.{ℕ, ◌^◌, ◌≡◌, Bool, true, false, List, ltb, ℤ, pos, negsuc}
 use Rattle.std.proofs.Math.Option.{Option, none, some}
 use Rattle.paper.specs.declared.Checking.{Checking}
-use Rattle.paper.specs.Answers.{ok, ◌>>=◌, require, inText, checkingSays}
+use Rattle.paper.specs.Answers.{ok, ◌>>=◌, require, InText, checking_says}
 use Rattle.paper.specs.Grammar.{Tree, place_of}
-use Rattle.paper.specs.Types.{Ty, bool, int, of, comparisonType, spelled, keepsBits, bitsKept, operatorType}
-use Rattle.paper.specs.BitsKept.{ComparisonRule, ruleBefore, restrictionBy}
+use Rattle.paper.specs.Types.{Ty, bool, int, of, comparison_type, spelled, keeps_bits, bits_kept, operator_type}
+use Rattle.paper.specs.BitsKept.{ComparisonRule, rule_before, restriction_by}
 use Rattle.paper.specs.Promised.{Bytes, CheckPromised}
 use Rattle.paper.specs.Demands.{CheckedRight}
 
@@ -24,26 +24,26 @@ ChecksAsPromised x = (text list : List ℕ) → Bytes text → Bytes list → Ch
 
 abbrev pub TypesBy : ComparisonRule → Checker → Type 0
 TypesBy rule x =
-    (text list : List ℕ) → Bytes text → Bytes list → checkingSays (x text list) ≡ (restrictionBy rule text list >>= λ _. ok tt)
+    (text list : List ℕ) → Bytes text → Bytes list → checking_says (x text list) ≡ (restriction_by rule text list >>= λ _. ok tt)
 
 abbrev pub ReducesStill : Checker → Type 0
-ReducesStill = TypesBy ruleBefore
+ReducesStill = TypesBy rule_before
 
-abbrev pub rightAlone : ComparisonRule
-rightAlone at c l r a b = operatorType at (comparisonType c a b) >>= λ t. bitsKept r a >>= λ _. ok t
+abbrev pub right_alone : ComparisonRule
+right_alone at c l r a b = operator_type at (comparison_type c a b) >>= λ t. bits_kept r a >>= λ _. ok t
 
 abbrev pub LooksRight : Checker → Type 0
-LooksRight = TypesBy rightAlone
+LooksRight = TypesBy right_alone
 
-abbrev pub atOperator : ComparisonRule
-atOperator at c l r a b =
-    operatorType at (comparisonType c a b)
-    >>= λ t. require (keepsBits l b) 23 inText at
-    >>= λ _. require (keepsBits r a) 23 inText at
+abbrev pub at_operator : ComparisonRule
+at_operator at c l r a b =
+    operator_type at (comparison_type c a b)
+    >>= λ t. require (keeps_bits l b) 23 InText at
+    >>= λ _. require (keeps_bits r a) 23 InText at
     >>= λ _. ok t
 
 abbrev pub PlacesAtOperator : Checker → Type 0
-PlacesAtOperator = TypesBy atOperator
+PlacesAtOperator = TypesBy at_operator
 
 -- "between 0 and 2^W − 1"
 abbrev pub unsigned : ℕ → Option ℤ → Bool
@@ -51,25 +51,25 @@ unsigned w none = true
 unsigned w (some (pos n)) = ltb n (2 ^ w)
 unsigned w (some (negsuc n)) = false
 
-abbrev pub keepsUnsigned : Tree → Ty → Bool
-keepsUnsigned t bool = true
-keepsUnsigned t int = true
-keepsUnsigned t (of k w) = unsigned w (spelled t)
+abbrev pub keeps_unsigned : Tree → Ty → Bool
+keeps_unsigned t bool = true
+keeps_unsigned t int = true
+keeps_unsigned t (of k w) = unsigned w (spelled t)
 
-abbrev pub aboveZero : ComparisonRule
-aboveZero at c l r a b =
-    operatorType at (comparisonType c a b)
-    >>= λ t. require (keepsUnsigned l b) 23 inText (place_of l)
-    >>= λ _. require (keepsUnsigned r a) 23 inText (place_of r)
+abbrev pub above_zero : ComparisonRule
+above_zero at c l r a b =
+    operator_type at (comparison_type c a b)
+    >>= λ t. require (keeps_unsigned l b) 23 InText (place_of l)
+    >>= λ _. require (keeps_unsigned r a) 23 InText (place_of r)
     >>= λ _. ok t
 
 abbrev pub TakesNoneBelowZero : Checker → Type 0
-TakesNoneBelowZero = TypesBy aboveZero
+TakesNoneBelowZero = TypesBy above_zero
 
 -- the claim
 
 pub record WrongCheckersFail : Type 0 where
   pub reducing : (x : Checker) → ReducesStill x → ¬ ChecksAllRight x
-  pub looking-right : (x : Checker) → LooksRight x → ¬ ChecksAllRight x
-  pub at-operator : (x : Checker) → PlacesAtOperator x → ¬ ChecksAsPromised x
-  pub above_zero : (x : Checker) → TakesNoneBelowZero x → ¬ ChecksAllRight x
+  pub looking_right : (x : Checker) → LooksRight x → ¬ ChecksAllRight x
+  pub at_operator_lem : (x : Checker) → PlacesAtOperator x → ¬ ChecksAsPromised x
+  pub above_zero_lem : (x : Checker) → TakesNoneBelowZero x → ¬ ChecksAllRight x

@@ -16,7 +16,7 @@ use Rattle.paper.specs.Translating.{code_of}
 use Rattle.paper.specs.BlocksRoundTrip.{All}
 use Rattle.paper.specs.Parts.{Part}
 use Rattle.paper.specs.PartsDecide.{JoinedLeft, roots}
-use Rattle.paper.specs.Comparing.{recordsIn, written, sameRecords, asJoined, Picked, nothing, behind, pickedOr, onPicked, partCodes, agreement}
+use Rattle.paper.specs.Comparing.{records_in, written, same_records, as_joined, Picked, nothing, behind, picked_or, on_picked, part_codes, agreement}
 use Rattle.paper.specs.ComparedRight.{Comparable}
 use Rattle.paper.specs.Promised.{Bytes}
 use Rattle.paper.specs.Demands.{CompareRight}
@@ -55,30 +55,30 @@ AlwaysDiffers = SaysBy differing
 -- from the front
 
 -- what stands behind a beginning, where code begins so
-abbrev pub afterBeginning : List (List ℕ) → List (List ℕ) → Option (List (List ℕ))
-afterBeginning beginning s =
+abbrev pub after_beginning : List (List ℕ) → List (List ℕ) → Option (List (List ℕ))
+after_beginning beginning s =
     let n = length beginning in
-    when (leb n (length s) && sameRecords (take n s) beginning) (drop n s)
+    when (leb n (length s) && same_records (take n s) beginning) (drop n s)
 
 -- the first of the parts' codes, put in such a way, with which code begins
 module _ (put : List Instruction → List Instruction) where
-  abbrev pub pickFirst : List (List Instruction) → List (List ℕ) → Picked
-  pickFirst [] s = nothing
-  pickFirst (d ∷ ds) s =
-      let later = behind d (pickFirst ds s) in
-      pickedOr (afterBeginning (written (put d)) s) ds later
+  abbrev pub pick_first : List (List Instruction) → List (List ℕ) → Picked
+  pick_first [] s = nothing
+  pick_first (d ∷ ds) s =
+      let later = behind d (pick_first ds s) in
+      picked_or (after_beginning (written (put d)) s) ds later
 
 -- so many more of the parts that are left, each as it is joined, and then nothing
-unfoldable pub fitsOn : ℕ → List (List Instruction) → List (List ℕ) → Bool
-fitsOn zero cs s = sameRecords s []
-fitsOn (suc n) cs s = onPicked (pickFirst asJoined cs s) (fitsOn n)
+unfoldable pub fits_on : ℕ → List (List Instruction) → List (List ℕ) → Bool
+fits_on zero cs s = same_records s []
+fits_on (suc n) cs s = on_picked (pick_first as_joined cs s) (fits_on n)
 
 -- the first part is joined to none
-abbrev pub fromFront : Rule
-fromFront ks ps blocks = onPicked (pickFirst (λ c. c) (partCodes ks ps) (recordsIn blocks)) (fitsOn (length ps - 1))
+abbrev pub from_front : Rule
+from_front ks ps blocks = on_picked (pick_first (λ c. c) (part_codes ks ps) (records_in blocks)) (fits_on (length ps - 1))
 
 abbrev pub MatchesFromFront : Comparer → Type 0
-MatchesFromFront = SaysBy fromFront
+MatchesFromFront = SaysBy from_front
 
 -- a part used twice: as many parts, each one of the text's, joined from the left
 pub record OfParts (ks : List Key) (parts : List Tree) (blocks : List ℕ) : Type 0 where
@@ -115,6 +115,6 @@ IgnoresShape x =
 pub record WrongComparersFail : Type 0 where
   pub agreeing : (x : Comparer) → AlwaysAgrees x → ¬ ComparesAllRight x
   pub differing : (x : Comparer) → AlwaysDiffers x → ¬ ComparesAllRight x
-  pub from_front : (x : Comparer) → MatchesFromFront x → ¬ ComparesAllRight x
+  pub from_front_lem : (x : Comparer) → MatchesFromFront x → ¬ ComparesAllRight x
   pub twice : (x : Comparer) → UsesTwice x → ¬ ComparesAllRight x
   pub shape : (x : Comparer) → IgnoresShape x → ¬ ComparesAllRight x

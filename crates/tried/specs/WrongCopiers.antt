@@ -24,4 +24,4 @@ pub record CopiesFail : Type 0 where
   pub no_pieces : CopiesNoPieces
   -- so no program that copies keeps the promise; and there is such a program
   pub fails : (x : Hands) → HandsCopies x → ¬ HandsPieces x
-  pub there-is : (x : Hands) × HandsCopies x
+  pub there_is : (x : Hands) × HandsCopies x

@@ -10,10 +10,10 @@ use Rattle.paper.specs.Entry.{Entry, entry_of}
 use Rattle.paper.specs.Grammar.{Tree}
 use Rattle.paper.specs.Calls.{Restriction, restriction, over}
 use Rattle.paper.specs.Parts.{Part, parts}
-use Rattle.paper.specs.Explained.{holdsOn, firstFalse}
-use Rattle.paper.specs.Counting.{wholeIn, cut_in, entriesIn, countIf, judged, isAccepted, isViolated, Counts, mostEntries, Totals, totalsOf, countingSays, partLines, countOutput}
+use Rattle.paper.specs.Explained.{holds_on, first_false}
+use Rattle.paper.specs.Counting.{whole_in, cut_in, entries_in, count_if, judged, is_accepted, is_violated, Counts, most_entries, Totals, totals_of, counting_says, part_lines, count_output}
 use Rattle.paper.specs.Promised.{Bytes, PartNumbers, CountResult}
-use Rattle.paper.specs.Demands.{Countable, countsIn, CountRight}
+use Rattle.paper.specs.Demands.{Countable, counts_in, CountRight}
 use Rattle.tried.specs.WrongExplainers.{spine}
 
 -- what is answered for a text, a list, entries and the numbers that are lent
@@ -35,61 +35,61 @@ abbrev pub NumbersBy : Rule → Counter → Type 0
 NumbersBy rule x =
     (text list entries numbers : List ℕ) → Bytes text → Bytes list → Bytes entries → PartNumbers numbers → (c : Countable text list entries)
     → (x text list entries numbers).numbers
-    ≡ over (rule c.passes.ks c.passes.root c.ps (entriesIn c.passes.ks entries)) numbers
+    ≡ over (rule c.passes.ks c.passes.root c.ps (entries_in c.passes.ks entries)) numbers
 
 -- only the first false part
-abbrev pub isNamed : Option Part → Part → Bool
-isNamed none p = false
-isNamed (some q) p = eqb q.number p.number
+abbrev pub is_named : Option Part → Part → Bool
+is_named none p = false
+is_named (some q) p = eqb q.number p.number
 
-abbrev pub isFirst : List Key → List Part → Part → Answer Entry → Bool
-isFirst ks ps p (ok e) = isNamed (firstFalse (holdsOn ks e) ps) p
-isFirst ks ps p (refused n i at) = false
+abbrev pub is_first : List Key → List Part → Part → Answer Entry → Bool
+is_first ks ps p (ok e) = is_named (first_false (holds_on ks e) ps) p
+is_first ks ps p (refused n i at) = false
 
-abbrev pub firstOnly : Rule
-firstOnly ks t ps es = map (λ p. countIf (λ e. isFirst ks ps p (entry_of ks e)) es) ps
+abbrev pub first_only : Rule
+first_only ks t ps es = map (λ p. count_if (λ e. is_first ks ps p (entry_of ks e)) es) ps
 
 abbrev pub CountsFirst : Counter → Type 0
-CountsFirst = NumbersBy firstOnly
+CountsFirst = NumbersBy first_only
 
 -- refused entries in every part
-abbrev pub withRefused : Rule
-withRefused ks t ps es = map (λ (p : Part). countIf (λ e. not (isAccepted (judged ks p.root e))) es) ps
+abbrev pub with_refused : Rule
+with_refused ks t ps es = map (λ (p : Part). count_if (λ e. not (is_accepted (judged ks p.root e))) es) ps
 
 abbrev pub CountsRefused : Counter → Type 0
-CountsRefused = NumbersBy withRefused
+CountsRefused = NumbersBy with_refused
 
 -- the left spine, with parentheses or without
-abbrev pub alongSpine : Rule
-alongSpine ks t ps es = map (λ u. countIf (λ e. isViolated (judged ks u e)) es) (spine t)
+abbrev pub along_spine : Rule
+along_spine ks t ps es = map (λ u. count_if (λ e. is_violated (judged ks u e)) es) (spine t)
 
 abbrev pub CountsBySpine : Counter → Type 0
-CountsBySpine = NumbersBy alongSpine
+CountsBySpine = NumbersBy along_spine
 
 -- a cut entry is one more that is refused
-abbrev pub oneMoreRefused : Counts → Totals
-oneMoreRefused c =
+abbrev pub one_more_refused : Counts → Totals
+one_more_refused c =
     record { parts = length c.parts; accepted = c.accepted; violated = c.violated; refused = suc c.refused; cut = c.cut }
 
 abbrev pub CountsCut : Counter → Type 0
 CountsCut x =
     (text list entries numbers : List ℕ) → Bytes text → Bytes list → Bytes entries → PartNumbers numbers → (c : Countable text list entries)
     → 0 < cut_in c.passes.ks entries
-    → countingSays (x text list entries numbers).answer ≡ ok (oneMoreRefused (countsIn text list entries c))
+    → counting_says (x text list entries numbers).answer ≡ ok (one_more_refused (counts_in text list entries c))
 
 -- what a program writes for a text, a list and a file of entries
 abbrev pub Reporter : Type 0
 Reporter = List ℕ → List ℕ → List ℕ → List ℕ
 
 abbrev pub ReportsRight : Reporter → Type 0
-ReportsRight x = (text list entries : List ℕ) → Bytes text → Bytes list → Bytes entries → x text list entries ≡ countOutput text list entries
+ReportsRight x = (text list entries : List ℕ) → Bytes text → Bytes list → Bytes entries → x text list entries ≡ count_output text list entries
 
 -- lines of parts as soon as there are some, with whatever numbers, and then whatever it finds
 pub record PartsFirst (ps : List Part) (output : List ℕ) : Type 0 where
   pub numbers : List ℕ
   pub each : length numbers ≡ length ps
   pub rest : List ℕ
-  pub written : output ≡ partLines 1 numbers ++ rest
+  pub written : output ≡ part_lines 1 numbers ++ rest
 
 abbrev pub WritesPartsFirst : Reporter → Type 0
 WritesPartsFirst x =
@@ -100,7 +100,7 @@ WritesPartsFirst x =
 abbrev pub ReportsFewRight : Reporter → Type 0
 ReportsFewRight x =
     (text list entries : List ℕ) → Bytes text → Bytes list → Bytes entries → (r : Restriction) → restriction text list ≡ ok r
-    → wholeIn r.keys entries ≤ mostEntries → x text list entries ≡ countOutput text list entries
+    → whole_in r.keys entries ≤ most_entries → x text list entries ≡ count_output text list entries
 
 -- the claim
 
@@ -110,4 +110,4 @@ pub record WrongCountersFail : Type 0 where
   pub spine : (x : Counter) → CountsBySpine x → ¬ CountsAllRight x
   pub cut : (x : Counter) → CountsCut x → ¬ CountsAllRight x
   pub parts_first : (x : Reporter) → WritesPartsFirst x → ¬ ReportsRight x
-  pub parts-first-is-real : (x : Reporter) × WritesPartsFirst x × ReportsFewRight x
+  pub parts_first_is_real : (x : Reporter) × WritesPartsFirst x × ReportsFewRight x

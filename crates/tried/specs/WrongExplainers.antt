@@ -8,11 +8,11 @@ use Rattle.paper.specs.Tokens.{sequel, implies, or_else, andAlso}
 use Rattle.paper.specs.Keys.{Key, keys}
 use Rattle.paper.specs.Entry.{Entry, entry_of}
 use Rattle.paper.specs.Grammar.{Tree, truth, number, key, field, attribute, prefixed, joined, compared, place_of}
-use Rattle.paper.specs.Meaning.{value_of, isTrue}
-use Rattle.paper.specs.Calls.{tree, restriction, judgeAnswer}
+use Rattle.paper.specs.Meaning.{value_of, is_true}
+use Rattle.paper.specs.Calls.{tree, restriction, judge_answer}
 use Rattle.paper.specs.BlocksRoundTrip.{All}
 use Rattle.paper.specs.Parts.{Stretch, Part, parts}
-use Rattle.paper.specs.Explained.{Reason, inPart, atKey, nothingToShow, holdsOn, firstFalse, isRecord, keyIndex, nameStretch, explainAnswer}
+use Rattle.paper.specs.Explained.{Reason, in_part, at_key, nothing_to_show, holds_on, first_false, is_record, key_index, name_stretch, explain_answer}
 use Rattle.paper.specs.ExplainedRight.{Explains}
 use Rattle.paper.specs.Promised.{Bytes}
 
@@ -31,11 +31,11 @@ Right x = (text list entry : List ℕ) → Lendable text list entry → Explains
 
 abbrev pub RightBut : Answer Bool → Explainer → Type 0
 RightBut a x =
-    (text list entry : List ℕ) → Lendable text list entry → ¬ (judgeAnswer text list entry ≡ a) → Explains text list entry (x text list entry)
+    (text list entry : List ℕ) → Lendable text list entry → ¬ (judge_answer text list entry ≡ a) → Explains text list entry (x text list entry)
 
 -- it names a part by this number, wherever it says that it stands
 abbrev pub Names : ℕ → Reason → Type 0
-Names n r = (place : ℕ) × (s : Stretch) × (r ≡ inPart n place s)
+Names n r = (place : ℕ) × (s : Stretch) × (r ≡ in_part n place s)
 
 pub record ViolatedEntry (text list entry : List ℕ) : Type 0 where
   pub lendable : Lendable text list entry
@@ -45,13 +45,13 @@ pub record ViolatedEntry (text list entry : List ℕ) : Type 0 where
   pub conforms : entry_of ks entry ≡ ok on
   pub root : Tree
   pub read : tree text ≡ ok root
-  pub judged : judgeAnswer text list entry ≡ ok false
+  pub judged : judge_answer text list entry ≡ ok false
 
 -- the last false part
 abbrev pub NamesLast : Explainer → Type 0
 NamesLast x =
     (text list entry : List ℕ) (v : ViolatedEntry text list entry) (before after : List Part) (p : Part)
-    → parts text ≡ ok (before ++ (p ∷ after)) → holdsOn v.ks v.on p ≡ false → All (λ q. holdsOn v.ks v.on q ≡ true) after
+    → parts text ≡ ok (before ++ (p ∷ after)) → holds_on v.ks v.on p ≡ false → All (λ q. holds_on v.ks v.on q ≡ true) after
     → Names p.number (x text list entry)
 
 -- the left spine of a tree: what ";" joins from the left, with parentheses or without
@@ -72,62 +72,62 @@ spine (compared at c l r) = compared at c l r ∷ []
 abbrev pub FollowsSpine : Explainer → Type 0
 FollowsSpine x =
     (text list entry : List ℕ) (v : ViolatedEntry text list entry) (before after : List Tree) (t : Tree)
-    → spine v.root ≡ before ++ (t ∷ after) → All (λ u. isTrue (value_of v.ks v.on u) ≡ true) before
-    → isTrue (value_of v.ks v.on t) ≡ false → Names (suc (length before)) (x text list entry)
+    → spine v.root ≡ before ++ (t ∷ after) → All (λ u. is_true (value_of v.ks v.on u) ≡ true) before
+    → is_true (value_of v.ks v.on t) ≡ false → Names (suc (length before)) (x text list entry)
 
 -- some key for a bad priority
 abbrev pub KeyForPriority : Explainer → Type 0
 KeyForPriority x =
-    (text list entry : List ℕ) → Lendable text list entry → judgeAnswer text list entry ≡ refused 20 inEntry 0
-    → (place k : ℕ) × (s : Stretch) × (x text list entry ≡ atKey place k s)
+    (text list entry : List ℕ) → Lendable text list entry → judge_answer text list entry ≡ refused 20 inEntry 0
+    → (place k : ℕ) × (s : Stretch) × (x text list entry ≡ at_key place k s)
 
 -- real ones: with other parts, another part of them, or another test of what is a record's place
 
-abbrev pub reasonWith : (ℕ → ℕ → Bool) → List ℕ → Answer (Option Part) → Reason
-reasonWith atRecord list (ok (some p)) = inPart p.number (place_of p.root) p.stretch
-reasonWith atRecord list (ok none) = nothingToShow (ok true)
-reasonWith atRecord list (refused n i at) =
-    cond (atRecord n at) (atKey at (keyIndex at) (nameStretch list (keyIndex at))) (nothingToShow (refused n i at))
+abbrev pub reason_with : (ℕ → ℕ → Bool) → List ℕ → Answer (Option Part) → Reason
+reason_with atRecord list (ok (some p)) = in_part p.number (place_of p.root) p.stretch
+reason_with atRecord list (ok none) = nothing_to_show (ok true)
+reason_with atRecord list (refused n i at) =
+    cond (atRecord n at) (at_key at (key_index at) (name_stretch list (key_index at))) (nothing_to_show (refused n i at))
 
-abbrev pub explainWith : (List ℕ → Answer (List Part)) → ((Part → Bool) → List Part → Option Part) → (ℕ → ℕ → Bool) → Explainer
-explainWith cut choose atRecord text list entry =
-    reasonWith atRecord list
+abbrev pub explain_with : (List ℕ → Answer (List Part)) → ((Part → Bool) → List Part → Option Part) → (ℕ → ℕ → Bool) → Explainer
+explain_with cut choose atRecord text list entry =
+    reason_with atRecord list
     (restriction text list
     >>= λ r. entry_of r.keys entry
     >>= λ e. cut text
-    >>= λ ps. ok (choose (holdsOn r.keys e) ps))
+    >>= λ ps. ok (choose (holds_on r.keys e) ps))
 
-abbrev pub orElseThis : Option Part → Option Part → Option Part
-orElseThis none o = o
-orElseThis (some p) o = some p
+abbrev pub or_else_this : Option Part → Option Part → Option Part
+or_else_this none o = o
+or_else_this (some p) o = some p
 
-abbrev pub lastFalse : (Part → Bool) → List Part → Option Part
-lastFalse holds [] = none
-lastFalse holds (p ∷ ps) = orElseThis (lastFalse holds ps) (cond (holds p) none (some p))
+abbrev pub last_false : (Part → Bool) → List Part → Option Part
+last_false holds [] = none
+last_false holds (p ∷ ps) = or_else_this (last_false holds ps) (cond (holds p) none (some p))
 
 -- each tree of the spine as a part, with the byte at its place
-abbrev pub countedTrees : ℕ → List Tree → List Part
-countedTrees n [] = []
-countedTrees n (t ∷ ts) =
-    record { number = n; root = t; stretch = record { from = place_of t; to = suc (place_of t) } } ∷ countedTrees (suc n) ts
+abbrev pub counted_trees : ℕ → List Tree → List Part
+counted_trees n [] = []
+counted_trees n (t ∷ ts) =
+    record { number = n; root = t; stretch = record { from = place_of t; to = suc (place_of t) } } ∷ counted_trees (suc n) ts
 
-abbrev pub spineParts : List ℕ → Answer (List Part)
-spineParts text = tree text >>= λ t. ok (countedTrees 1 (spine t))
+abbrev pub spine_parts : List ℕ → Answer (List Part)
+spine_parts text = tree text >>= λ t. ok (counted_trees 1 (spine t))
 
-abbrev pub anyTwenty : ℕ → ℕ → Bool
-anyTwenty n at = eqb n 20
+abbrev pub any_twenty : ℕ → ℕ → Bool
+any_twenty n at = eqb n 20
 
 -- the claims
 
 pub record WrongExplainersFail : Type 0 where
-  pub right : Right explainAnswer
-  pub last-part : (x : Explainer) → NamesLast x → ¬ Right x
-  pub left-spine : (x : Explainer) → FollowsSpine x → ¬ Right x
-  pub key-for-priority : (x : Explainer) → KeyForPriority x → ¬ Right x
+  pub right : Right explain_answer
+  pub last_part : (x : Explainer) → NamesLast x → ¬ Right x
+  pub left_spine : (x : Explainer) → FollowsSpine x → ¬ Right x
+  pub key_for_priority : (x : Explainer) → KeyForPriority x → ¬ Right x
 
 pub record WrongExplainersExist : Type 0 where
   -- with the parts, the choice and the test of the explanation it is the explanation
-  pub otherwise_same : (text list entry : List ℕ) → explainWith parts firstFalse isRecord text list entry ≡ explainAnswer text list entry
-  pub last-part : (x : Explainer) × NamesLast x × RightBut (ok false) x
-  pub left-spine : (x : Explainer) × FollowsSpine x × RightBut (ok false) x
-  pub key-for-priority : (x : Explainer) × KeyForPriority x × RightBut (refused 20 inEntry 0) x
+  pub otherwise_same : (text list entry : List ℕ) → explain_with parts first_false is_record text list entry ≡ explain_answer text list entry
+  pub last_part : (x : Explainer) × NamesLast x × RightBut (ok false) x
+  pub left_spine : (x : Explainer) × FollowsSpine x × RightBut (ok false) x
+  pub key_for_priority : (x : Explainer) × KeyForPriority x × RightBut (refused 20 inEntry 0) x

@@ -4,9 +4,9 @@
 use Rattle.std.specs.Prelude.{ℕ, ◌≤◌, ◌<◌, ◌≡◌, List, [], ◌∷◌, ◌++◌, map, length, replicate}
 use Rattle.paper.specs.declared.Fixing.{Fixing}
 use Rattle.paper.specs.declared.Fixing.TheVariants as F
-use Rattle.paper.specs.Numbers.{inBase}
-use Rattle.paper.specs.Tokens.{bytes, span, within, digitOf, mostText}
-use Rattle.paper.specs.Print.{numeralIn}
+use Rattle.paper.specs.Numbers.{in_base}
+use Rattle.paper.specs.Tokens.{bytes, span, within, digit_of, most_text}
+use Rattle.paper.specs.Print.{numeral_in}
 use Rattle.paper.specs.Calls.{over}
 use Rattle.paper.specs.Promised.{Bytes, FixResult}
 use Rattle.paper.specs.Demands.{FixesRight}
@@ -23,27 +23,27 @@ FixesAllRight x = (text buffer : List ℕ) → Bytes text → Bytes buffer → F
 abbrev pub Octal : List ℕ → Type 0
 Octal ds = (0 < length ds) × (span (within 48 55) ds ≡ length ds)
 
-abbrev pub inHex : List ℕ → List ℕ
-inHex ds = bytes "0x" ++ numeralIn 16 (inBase 8 (map digitOf ds))
+abbrev pub in_hex : List ℕ → List ℕ
+in_hex ds = bytes "0x" ++ numeral_in 16 (in_base 8 (map digit_of ds))
 
 -- these bytes are lent for that text, in a buffer that has room
 abbrev pub Makes : Fixer → List ℕ → List ℕ → Type 0
 Makes x text made =
-    (buffer : List ℕ) → Bytes buffer → length text ≤ mostText → length made ≤ length buffer
+    (buffer : List ℕ) → Bytes buffer → length text ≤ most_text → length made ≤ length buffer
     → x text buffer ≡ record { answer = F.Fixed (length made); buffer = over made buffer }
 
 -- a numeral alone in a string, and alone in a comment
 abbrev pub ChangesStrings : Fixer → Type 0
-ChangesStrings x = (ds : List ℕ) → Octal ds → Makes x (bytes "'0o" ++ ds ++ bytes "'") (bytes "'" ++ inHex ds ++ bytes "'")
+ChangesStrings x = (ds : List ℕ) → Octal ds → Makes x (bytes "'0o" ++ ds ++ bytes "'") (bytes "'" ++ in_hex ds ++ bytes "'")
 
 abbrev pub ChangesComments : Fixer → Type 0
-ChangesComments x = (ds : List ℕ) → Octal ds → Makes x (bytes "//0o" ++ ds) (bytes "//" ++ inHex ds)
+ChangesComments x = (ds : List ℕ) → Octal ds → Makes x (bytes "//0o" ++ ds) (bytes "//" ++ in_hex ds)
 
 -- as many zeros as stood there before the other digits
 abbrev pub KeepsZeros : Fixer → Type 0
 KeepsZeros x =
     (k d : ℕ) (ds : List ℕ) → Octal (d ∷ ds) → 48 < d
-    → Makes x (bytes "0o" ++ replicate k 48 ++ (d ∷ ds)) (bytes "0x" ++ replicate k 48 ++ numeralIn 16 (inBase 8 (map digitOf (d ∷ ds))))
+    → Makes x (bytes "0o" ++ replicate k 48 ++ (d ∷ ds)) (bytes "0x" ++ replicate k 48 ++ numeral_in 16 (in_base 8 (map digit_of (d ∷ ds))))
 
 -- the digits, without the letters
 abbrev pub DropsPrefix : Fixer → Type 0

@@ -3,9 +3,9 @@
 -- in WrongPrograms.
 use Rattle.std.specs.Prelude.{ℕ, ◌≤◌, ◌≡◌, ◌↔◌, Bool, true, false, not, cond, List, ◌++◌, length, eqb}
 use Rattle.paper.specs.Answers.{ok}
-use Rattle.paper.specs.Tokens.{bytes, is, span, hex, Literal, literalIn, Join, sequel, implies, or_else, andAlso, Token, tokens}
+use Rattle.paper.specs.Tokens.{bytes, is, span, hex, Literal, literal_in, Join, sequel, implies, or_else, andAlso, Token, tokens}
 use Rattle.paper.specs.Grammar.{Tree, truth, number, key, field, attribute, prefixed, joined, compared}
-use Rattle.paper.specs.Print.{bare, numeralIn, literalBytes, prefixBytes, joinBytes, comparisonBytes, spaced, tightest, left_of, rightOf, looser, enclosed, truthBytes, print}
+use Rattle.paper.specs.Print.{bare, numeral_in, literal_bytes, prefix_bytes, join_bytes, comparison_bytes, spaced, tightest, left_of, right_of, looser, enclosed, truth_bytes, print}
 use Rattle.paper.specs.Calls.{tree}
 
 -- what a text is printed as
@@ -30,63 +30,63 @@ SparesNothing p =
     → bare r ≡ bare t → length ps ≤ length ws
 
 pub record Right (p : Printer) : Type 0 where
-  pub reads-back : ReadsBack p
+  pub reads_back : ReadsBack p
   pub tells : Tells p
-  pub spares-nothing : SparesNothing p
+  pub spares_nothing : SparesNothing p
 
 -- a print with other numerals, other signs for joins, or parentheses by another rule
-abbrev pub printWith : (Literal → List ℕ) → (Join → List ℕ) → (ℕ → Tree → Bool) → Tree → List ℕ
-printWith numerals signs needs (truth at b) = truthBytes b
-printWith numerals signs needs (number at n) = numerals n
-printWith numerals signs needs (key at w) = w
-printWith numerals signs needs (field at w to f) = w ++ bytes "::" ++ f
-printWith numerals signs needs (attribute at to f) = bytes "::" ++ f
-printWith numerals signs needs (prefixed at o t) = prefixBytes o ++ enclosed (needs tightest t) (printWith numerals signs needs t)
-printWith numerals signs needs (joined at o l r) =
-    enclosed (needs (left_of o) l) (printWith numerals signs needs l)
+abbrev pub print_with : (Literal → List ℕ) → (Join → List ℕ) → (ℕ → Tree → Bool) → Tree → List ℕ
+print_with numerals signs needs (truth at b) = truth_bytes b
+print_with numerals signs needs (number at n) = numerals n
+print_with numerals signs needs (key at w) = w
+print_with numerals signs needs (field at w to f) = w ++ bytes "::" ++ f
+print_with numerals signs needs (attribute at to f) = bytes "::" ++ f
+print_with numerals signs needs (prefixed at o t) = prefix_bytes o ++ enclosed (needs tightest t) (print_with numerals signs needs t)
+print_with numerals signs needs (joined at o l r) =
+    enclosed (needs (left_of o) l) (print_with numerals signs needs l)
     ++ spaced (signs o)
-    ++ enclosed (needs (rightOf o) r) (printWith numerals signs needs r)
-printWith numerals signs needs (compared at c l r) =
-    enclosed (needs tightest l) (printWith numerals signs needs l)
-    ++ spaced (comparisonBytes c)
-    ++ enclosed (needs tightest r) (printWith numerals signs needs r)
+    ++ enclosed (needs (right_of o) r) (print_with numerals signs needs r)
+print_with numerals signs needs (compared at c l r) =
+    enclosed (needs tightest l) (print_with numerals signs needs l)
+    ++ spaced (comparison_bytes c)
+    ++ enclosed (needs tightest r) (print_with numerals signs needs r)
 
-abbrev pub withoutParentheses : Tree → List ℕ
-withoutParentheses = printWith literalBytes joinBytes (λ k t. false)
+abbrev pub without_parentheses : Tree → List ℕ
+without_parentheses = print_with literal_bytes join_bytes (λ k t. false)
 
-abbrev pub withAllParentheses : Tree → List ℕ
-withAllParentheses = printWith literalBytes joinBytes (λ k t. true)
+abbrev pub with_all_parentheses : Tree → List ℕ
+with_all_parentheses = print_with literal_bytes join_bytes (λ k t. true)
 
-abbrev pub andForSequel : Join → List ℕ
-andForSequel sequel = bytes "&&"
-andForSequel implies = bytes "->"
-andForSequel or_else = bytes "||"
-andForSequel andAlso = bytes "&&"
+abbrev pub and_for_sequel : Join → List ℕ
+and_for_sequel sequel = bytes "&&"
+and_for_sequel implies = bytes "->"
+and_for_sequel or_else = bytes "||"
+and_for_sequel andAlso = bytes "&&"
 
-abbrev pub withAndForSequel : Tree → List ℕ
-withAndForSequel = printWith literalBytes andForSequel looser
+abbrev pub with_and_for_sequel : Tree → List ℕ
+with_and_for_sequel = print_with literal_bytes and_for_sequel looser
 
 -- as before 02 e
-abbrev pub inDecimal : Tree → List ℕ
-inDecimal = printWith (λ n. numeralIn 10 n.value) joinBytes looser
+abbrev pub in_decimal : Tree → List ℕ
+in_decimal = print_with (λ n. numeral_in 10 n.value) join_bytes looser
 
-abbrev pub inHex : Tree → List ℕ
-inHex = printWith (λ n. literalBytes (literalIn hex n.value)) joinBytes looser
+abbrev pub in_hex : Tree → List ℕ
+in_hex = print_with (λ n. literal_bytes (literal_in hex n.value)) join_bytes looser
 
 -- in a text that is read, a quote stands in an address or in a comment. All numbers of such a text are written in hex
 abbrev pub quotes : List ℕ → Bool
 quotes text = not (eqb (span (λ b. not (is "'" b)) text) (length text))
 
-abbrev pub addressesInHex : List ℕ → Tree → List ℕ
-addressesInHex text t = cond (quotes text) (inHex t) (print t)
+abbrev pub addresses_in_hex : List ℕ → Tree → List ℕ
+addresses_in_hex text t = cond (quotes text) (in_hex t) (print t)
 
 pub record WrongPrintsFail : Type 0 where
   pub right : (p : Printer) → PrintsBy print p → Right p
   -- with the numerals, the signs and the rule of `print` it is the print
-  pub otherwise_same : (t : Tree) → printWith literalBytes joinBytes looser t ≡ print t
-  pub copies-text : (p : Printer) → ((text : List ℕ) (t : Tree) → tree text ≡ ok t → p text ≡ text) → ¬ Tells p
-  pub without-parentheses : (p : Printer) → PrintsBy withoutParentheses p → ¬ ReadsBack p
-  pub with-all-parentheses : (p : Printer) → PrintsBy withAllParentheses p → ¬ SparesNothing p
-  pub and-for-sequel : (p : Printer) → PrintsBy withAndForSequel p → ¬ ReadsBack p
-  pub in-decimal : (p : Printer) → PrintsBy inDecimal p → ¬ ReadsBack p
-  pub addresses-in-hex : (p : Printer) → ((text : List ℕ) (t : Tree) → tree text ≡ ok t → p text ≡ addressesInHex text t) → ¬ ReadsBack p
+  pub otherwise_same : (t : Tree) → print_with literal_bytes join_bytes looser t ≡ print t
+  pub copies_text : (p : Printer) → ((text : List ℕ) (t : Tree) → tree text ≡ ok t → p text ≡ text) → ¬ Tells p
+  pub without_parentheses_lem : (p : Printer) → PrintsBy without_parentheses p → ¬ ReadsBack p
+  pub with_all_parentheses_lem : (p : Printer) → PrintsBy with_all_parentheses p → ¬ SparesNothing p
+  pub and_for_sequel_lem : (p : Printer) → PrintsBy with_and_for_sequel p → ¬ ReadsBack p
+  pub in_decimal_lem : (p : Printer) → PrintsBy in_decimal p → ¬ ReadsBack p
+  pub addresses_in_hex_lem : (p : Printer) → ((text : List ℕ) (t : Tree) → tree text ≡ ok t → p text ≡ addresses_in_hex text t) → ¬ ReadsBack p

@@ -9,19 +9,19 @@ use Rattle.paper.specs.declared.Translation.TheVariants as T
 use Rattle.paper.specs.declared.Loading.TheVariants as L
 use Rattle.paper.specs.declared.Printing.TheVariants as W
 use Rattle.paper.specs.Answers.{ok}
-use Rattle.paper.specs.Tokens.{bytes, is, mostText}
+use Rattle.paper.specs.Tokens.{bytes, is, most_text}
 use Rattle.paper.specs.Keys.{Key, keys}
 use Rattle.paper.specs.Grammar.{Tree, nodes}
 use Rattle.paper.specs.Meaning.{both}
-use Rattle.paper.specs.Code.{pushBool, connects}
-use Rattle.paper.specs.Blocks.{blockSize, mostBlocks, blocksOf, layout}
+use Rattle.paper.specs.Code.{push_bool, connects}
+use Rattle.paper.specs.Blocks.{block_size, most_blocks, blocks_of, layout}
 use Rattle.paper.specs.Translating.{conversions, joins}
-use Rattle.paper.specs.Calls.{tree, Restriction, restriction, over, judgeAnswer, loadAnswer, runAnswer}
+use Rattle.paper.specs.Calls.{tree, Restriction, restriction, over, judge_answer, load_answer, run_answer}
 use Rattle.paper.specs.TranslationCorrect.{Carries}
-use Rattle.tried.specs.MarkedJudgements.{theKeys, theEntry}
-use Rattle.paper.specs.Explained.{explanationSays}
-use Rattle.paper.specs.Promised.{judgementOfRun, Bytes, Programs, KeepsRead, KeepsCheck, KeepsJudge, KeepsTranslate, KeepsLoad, KeepsRun, KeepsPrint, KeepsExplain, KeepsSummarize, KeepsRecheck, KeepsFix, KeepsDraft, KeepsCompare, KeepsCount, KeepsRunAll, Kept}
-use Rattle.tried.specs.WrongPrints.{withoutParentheses, withAllParentheses, withAndForSequel, inDecimal, addressesInHex}
+use Rattle.tried.specs.MarkedJudgements.{the_keys, the_entry}
+use Rattle.paper.specs.Explained.{explanation_says}
+use Rattle.paper.specs.Promised.{judgement_of_run, Bytes, Programs, KeepsRead, KeepsCheck, KeepsJudge, KeepsTranslate, KeepsLoad, KeepsRun, KeepsPrint, KeepsExplain, KeepsSummarize, KeepsRecheck, KeepsFix, KeepsDraft, KeepsCompare, KeepsCount, KeepsRunAll, Kept}
+use Rattle.tried.specs.WrongPrints.{without_parentheses, with_all_parentheses, with_and_for_sequel, in_decimal, addresses_in_hex}
 use Rattle.tried.specs.WrongExplainers.{Explainer, NamesLast, FollowsSpine, KeyForPriority}
 use Rattle.tried.specs.WrongRecheckers.{NeverReuses, AlwaysReuses, WantsEqualEntries, ForgetsPriority, ComparesReadings, CountsPriority, MissesFields}
 use Rattle.tried.specs.WrongRunners.{ReportsInstructions, LeavesOldBool, ComparesHeights}
@@ -31,7 +31,7 @@ use Rattle.tried.specs.WrongDrafters.{InvertsLast, JoinsRight, TakesInclusive, J
 use Rattle.tried.specs.WrongComparers.{AlwaysAgrees, AlwaysDiffers, MatchesFromFront, UsesTwice, IgnoresShape}
 use Rattle.tried.specs.WrongCounters.{CountsFirst, CountsRefused, CountsBySpine, CountsCut}
 use Rattle.tried.specs.WrongTables.{JudgesFirst, StopsAtRefused, ClearsLater, TellsViolated, TellsLastSteps, TakesCut}
-use Rattle.paper.specs.Demands.{Refuses, blocksWritten, DemandOne, DemandTwo, DemandThree}
+use Rattle.paper.specs.Demands.{Refuses, blocks_written, DemandOne, DemandTwo, DemandThree}
 
 -- the bytes before the first ";"
 abbrev pub part_of : List ℕ → List ℕ
@@ -62,7 +62,7 @@ FirstPartOnly p =
     → part_of first ≡ first → p.check first list ≡ C.Passed → p.check rest list ≡ C.Passed
     → (n : ℕ) → (p.translate (first ++ bytes ";" ++ rest) list buffer).answer ≡ T.Written n
     → (entry : List ℕ) → Bytes entry
-    → judgementOfRun (p.run list (blocksWritten n (p.translate (first ++ bytes ";" ++ rest) list buffer).buffer) entry)
+    → judgement_of_run (p.run list (blocks_written n (p.translate (first ++ bytes ";" ++ rest) list buffer).buffer) entry)
     ≡ p.judge first list entry
 
 -- "a loader that passes nothing"
@@ -84,14 +84,14 @@ CountsRight p =
 -- a translator that asks for as many blocks as load, whatever the text
 abbrev pub WantsAllBlocks : Programs → Type 0
 WantsAllBlocks p =
-    (text list buffer : List ℕ) → Bytes text → Bytes list → Bytes buffer → length buffer < mostBlocks * blockSize
+    (text list buffer : List ℕ) → Bytes text → Bytes list → Bytes buffer → length buffer < most_blocks * block_size
     → (n : ℕ) × (at : Place) × ((p.translate text list buffer).answer ≡ T.Refused n at)
 
 -- a printer that lends other bytes than the print, made from the text and its tree
 abbrev pub Lends : (List ℕ → Tree → List ℕ) → Programs → Type 0
 Lends made p =
-    (text buffer : List ℕ) → Bytes text → Bytes buffer → length text ≤ mostText → (t : Tree) → tree text ≡ ok t
-    → length (made text t) ≤ mostText → length (made text t) ≤ length buffer
+    (text buffer : List ℕ) → Bytes text → Bytes buffer → length text ≤ most_text → (t : Tree) → tree text ≡ ok t
+    → length (made text t) ≤ most_text → length (made text t) ≤ length buffer
     → p.print text buffer ≡ record { answer = W.Printed (length (made text t)); buffer = over (made text t) buffer }
 
 -- those of WrongPrints
@@ -100,24 +100,24 @@ abbrev pub CopiesText : Programs → Type 0
 CopiesText = Lends (λ text t. text)
 
 abbrev pub LeavesParentheses : Programs → Type 0
-LeavesParentheses = Lends (λ text t. withoutParentheses t)
+LeavesParentheses = Lends (λ text t. without_parentheses t)
 
 abbrev pub EnclosesAll : Programs → Type 0
-EnclosesAll = Lends (λ text t. withAllParentheses t)
+EnclosesAll = Lends (λ text t. with_all_parentheses t)
 
 abbrev pub WritesAndForSequel : Programs → Type 0
-WritesAndForSequel = Lends (λ text t. withAndForSequel t)
+WritesAndForSequel = Lends (λ text t. with_and_for_sequel t)
 
 abbrev pub ForgetsBases : Programs → Type 0
-ForgetsBases = Lends (λ text t. inDecimal t)
+ForgetsBases = Lends (λ text t. in_decimal t)
 
 abbrev pub WritesAddressesInHex : Programs → Type 0
-WritesAddressesInHex = Lends addressesInHex
+WritesAddressesInHex = Lends addresses_in_hex
 
 -- the three of WrongExplainers
 
 abbrev pub explainer : Programs → Explainer
-explainer p text list entry = explanationSays (p.explain text list entry)
+explainer p text list entry = explanation_says (p.explain text list entry)
 
 abbrev pub NamesLastPart : Programs → Type 0
 NamesLastPart p = NamesLast (explainer p)
@@ -238,22 +238,22 @@ CountsWithCut p = CountsCut p.count
 -- those of WrongTables
 
 abbrev pub RunsAllAsFirst : Programs → Type 0
-RunsAllAsFirst p = JudgesFirst p.runAll
+RunsAllAsFirst p = JudgesFirst p.run_all
 
 abbrev pub RunsUntilRefused : Programs → Type 0
-RunsUntilRefused p = StopsAtRefused p.runAll
+RunsUntilRefused p = StopsAtRefused p.run_all
 
 abbrev pub RunsAndClears : Programs → Type 0
-RunsAndClears p = ClearsLater p.runAll
+RunsAndClears p = ClearsLater p.run_all
 
 abbrev pub RunsRefusedAsViolated : Programs → Type 0
-RunsRefusedAsViolated p = TellsViolated p.runAll
+RunsRefusedAsViolated p = TellsViolated p.run_all
 
 abbrev pub RunsForLastSteps : Programs → Type 0
-RunsForLastSteps p = TellsLastSteps p.runAll
+RunsForLastSteps p = TellsLastSteps p.run_all
 
 abbrev pub RunsWithCut : Programs → Type 0
-RunsWithCut p = TakesCut p.runAll
+RunsWithCut p = TakesCut p.run_all
 
 -- each is real: there is such a program in which every other call keeps its promise
 
@@ -302,46 +302,46 @@ pub record WrongProgramsExist : Type 0 where
   pub confusing : ThereIs WritesAndForSequel printing
   pub forgetting : ThereIs ForgetsBases printing
   pub rewriting : ThereIs WritesAddressesInHex printing
-  pub naming-last : ThereIs NamesLastPart explaining
-  pub following-spine : ThereIs FollowsLeftSpine explaining
-  pub showing-key : ThereIs ShowsKeyForPriority explaining
-  pub never-reusing : ThereIs RechecksNever rechecking
-  pub always-reusing : ThereIs RechecksAlways rechecking
-  pub wanting-equals : ThereIs RechecksEqual rechecking
-  pub forgetting-priority : ThereIs RechecksUnranked rechecking
-  pub comparing-readings : ThereIs RechecksReadings rechecking
-  pub counting-priority : ThereIs NamesPriority summarizing
-  pub missing-fields : ThereIs NamesBareOnly summarizing
-  pub steps-by-code : ThereIs StepsByCode running
-  pub keeping-bool : ThereIs SkipsKeepBool running
-  pub landing-by-height : ThereIs LandsByHeight loading
-  pub fixing-strings : ThereIs FixesStrings fixing
-  pub fixing-comments : ThereIs FixesComments fixing
-  pub fixing-with-zeros : ThereIs FixesWithZeros fixing
-  pub fixing-to-decimal : ThereIs FixesToDecimal fixing
-  pub reducing-still : ThereIs ChecksReduced checking
-  pub looking-right : ThereIs ChecksRightOperands checking
-  pub placing-at-operator : ThereIs ChecksAtOperator checking
-  pub taking-none-below : ThereIs ChecksAboveZero checking
-  pub inverting-last : ThereIs DraftsLastInverted drafting
-  pub joining-right : ThereIs DraftsFromRight drafting
-  pub taking-inclusive : ThereIs DraftsInclusive drafting
-  pub joining-by-and : ThereIs DraftsByAnd drafting
-  pub always-agreeing : ThereIs AgreesAlways comparing
-  pub always-differing : ThereIs DiffersAlways comparing
-  pub matching-from-front : ThereIs ComparesFromFront comparing
-  pub using-twice : ThereIs ComparesTwice comparing
-  pub ignoring-shape : ThereIs ComparesAnyShape comparing
-  pub counting-first : ThereIs CountsFirstOnly totalling
-  pub counting-refused : ThereIs CountsWithRefused totalling
-  pub counting-by-spine : ThereIs CountsAlongSpine totalling
-  pub counting-cut : ThereIs CountsWithCut totalling
-  pub judging-first : ThereIs RunsAllAsFirst tabling
-  pub stopping-at-refused : ThereIs RunsUntilRefused tabling
-  pub clearing-later : ThereIs RunsAndClears tabling
-  pub telling-violated : ThereIs RunsRefusedAsViolated tabling
-  pub telling-last-steps : ThereIs RunsForLastSteps tabling
-  pub taking-cut : ThereIs RunsWithCut tabling
+  pub naming_last : ThereIs NamesLastPart explaining
+  pub following_spine : ThereIs FollowsLeftSpine explaining
+  pub showing_key : ThereIs ShowsKeyForPriority explaining
+  pub never_reusing : ThereIs RechecksNever rechecking
+  pub always_reusing : ThereIs RechecksAlways rechecking
+  pub wanting_equals : ThereIs RechecksEqual rechecking
+  pub forgetting_priority : ThereIs RechecksUnranked rechecking
+  pub comparing_readings : ThereIs RechecksReadings rechecking
+  pub counting_priority : ThereIs NamesPriority summarizing
+  pub missing_fields : ThereIs NamesBareOnly summarizing
+  pub steps_by_code : ThereIs StepsByCode running
+  pub keeping_bool : ThereIs SkipsKeepBool running
+  pub landing_by_height : ThereIs LandsByHeight loading
+  pub fixing_strings : ThereIs FixesStrings fixing
+  pub fixing_comments : ThereIs FixesComments fixing
+  pub fixing_with_zeros : ThereIs FixesWithZeros fixing
+  pub fixing_to_decimal : ThereIs FixesToDecimal fixing
+  pub reducing_still : ThereIs ChecksReduced checking
+  pub looking_right : ThereIs ChecksRightOperands checking
+  pub placing_at_operator : ThereIs ChecksAtOperator checking
+  pub taking_none_below : ThereIs ChecksAboveZero checking
+  pub inverting_last : ThereIs DraftsLastInverted drafting
+  pub joining_right : ThereIs DraftsFromRight drafting
+  pub taking_inclusive : ThereIs DraftsInclusive drafting
+  pub joining_by_and : ThereIs DraftsByAnd drafting
+  pub always_agreeing : ThereIs AgreesAlways comparing
+  pub always_differing : ThereIs DiffersAlways comparing
+  pub matching_from_front : ThereIs ComparesFromFront comparing
+  pub using_twice : ThereIs ComparesTwice comparing
+  pub ignoring_shape : ThereIs ComparesAnyShape comparing
+  pub counting_first : ThereIs CountsFirstOnly totalling
+  pub counting_refused : ThereIs CountsWithRefused totalling
+  pub counting_by_spine : ThereIs CountsAlongSpine totalling
+  pub counting_cut : ThereIs CountsWithCut totalling
+  pub judging_first : ThereIs RunsAllAsFirst tabling
+  pub stopping_at_refused : ThereIs RunsUntilRefused tabling
+  pub clearing_later_lem : ThereIs RunsAndClears tabling
+  pub telling_violated : ThereIs RunsRefusedAsViolated tabling
+  pub telling_last_steps : ThereIs RunsForLastSteps tabling
+  pub taking_cut : ThereIs RunsWithCut tabling
 
 -- what excludes each: a demand, beside the calls that it is tried with; or a promise, that of `load` by 18, or that of `check` by a place
 pub record DemandsExclude (p : Programs) : Type 0 where
@@ -359,46 +359,46 @@ pub record DemandsExclude (p : Programs) : Type 0 where
   pub confusing : DemandTwo p → ¬ WritesAndForSequel p
   pub forgetting : DemandTwo p → ¬ ForgetsBases p
   pub rewriting : DemandTwo p → ¬ WritesAddressesInHex p
-  pub naming-last : DemandTwo p → ¬ NamesLastPart p
-  pub following-spine : DemandTwo p → ¬ FollowsLeftSpine p
-  pub showing-key : DemandTwo p → ¬ ShowsKeyForPriority p
-  pub never-reusing : DemandTwo p → ¬ RechecksNever p
-  pub always-reusing : DemandTwo p → ¬ RechecksAlways p
-  pub wanting-equals : DemandTwo p → ¬ RechecksEqual p
-  pub forgetting-priority : DemandTwo p → ¬ RechecksUnranked p
-  pub comparing-readings : DemandTwo p → ¬ RechecksReadings p
-  pub counting-priority : DemandTwo p → ¬ NamesPriority p
-  pub missing-fields : DemandTwo p → ¬ NamesBareOnly p
-  pub steps-by-code : DemandTwo p → ¬ StepsByCode p
-  pub keeping-bool : DemandTwo p → ¬ SkipsKeepBool p
-  pub landing-by-height : KeepsLoad p → ¬ LandsByHeight p
-  pub fixing-strings : DemandTwo p → ¬ FixesStrings p
-  pub fixing-comments : DemandTwo p → ¬ FixesComments p
-  pub fixing-with-zeros : DemandTwo p → ¬ FixesWithZeros p
-  pub fixing-to-decimal : DemandTwo p → ¬ FixesToDecimal p
-  pub reducing-still : DemandTwo p → ¬ ChecksReduced p
-  pub looking-right : DemandTwo p → ¬ ChecksRightOperands p
-  pub placing-at-operator : KeepsCheck p → ¬ ChecksAtOperator p
-  pub taking-none-below : DemandTwo p → ¬ ChecksAboveZero p
-  pub inverting-last : DemandTwo p → ¬ DraftsLastInverted p
-  pub joining-right : DemandTwo p → ¬ DraftsFromRight p
-  pub taking-inclusive : DemandTwo p → ¬ DraftsInclusive p
-  pub joining-by-and : DemandTwo p → ¬ DraftsByAnd p
-  pub always-agreeing : DemandTwo p → ¬ AgreesAlways p
-  pub always-differing : DemandTwo p → ¬ DiffersAlways p
-  pub matching-from-front : DemandTwo p → ¬ ComparesFromFront p
-  pub using-twice : DemandTwo p → ¬ ComparesTwice p
-  pub ignoring-shape : DemandTwo p → ¬ ComparesAnyShape p
-  pub counting-first : DemandTwo p → ¬ CountsFirstOnly p
-  pub counting-refused : DemandTwo p → ¬ CountsWithRefused p
-  pub counting-by-spine : DemandTwo p → ¬ CountsAlongSpine p
-  pub counting-cut : DemandTwo p → ¬ CountsWithCut p
-  pub judging-first : DemandTwo p → ¬ RunsAllAsFirst p
-  pub stopping-at-refused : DemandTwo p → ¬ RunsUntilRefused p
-  pub clearing-later : DemandTwo p → ¬ RunsAndClears p
-  pub telling-violated : DemandTwo p → ¬ RunsRefusedAsViolated p
-  pub telling-last-steps : DemandTwo p → ¬ RunsForLastSteps p
-  pub taking-cut : DemandTwo p → ¬ RunsWithCut p
+  pub naming_last : DemandTwo p → ¬ NamesLastPart p
+  pub following_spine : DemandTwo p → ¬ FollowsLeftSpine p
+  pub showing_key : DemandTwo p → ¬ ShowsKeyForPriority p
+  pub never_reusing : DemandTwo p → ¬ RechecksNever p
+  pub always_reusing : DemandTwo p → ¬ RechecksAlways p
+  pub wanting_equals : DemandTwo p → ¬ RechecksEqual p
+  pub forgetting_priority : DemandTwo p → ¬ RechecksUnranked p
+  pub comparing_readings : DemandTwo p → ¬ RechecksReadings p
+  pub counting_priority : DemandTwo p → ¬ NamesPriority p
+  pub missing_fields : DemandTwo p → ¬ NamesBareOnly p
+  pub steps_by_code : DemandTwo p → ¬ StepsByCode p
+  pub keeping_bool : DemandTwo p → ¬ SkipsKeepBool p
+  pub landing_by_height : KeepsLoad p → ¬ LandsByHeight p
+  pub fixing_strings : DemandTwo p → ¬ FixesStrings p
+  pub fixing_comments : DemandTwo p → ¬ FixesComments p
+  pub fixing_with_zeros : DemandTwo p → ¬ FixesWithZeros p
+  pub fixing_to_decimal : DemandTwo p → ¬ FixesToDecimal p
+  pub reducing_still : DemandTwo p → ¬ ChecksReduced p
+  pub looking_right : DemandTwo p → ¬ ChecksRightOperands p
+  pub placing_at_operator : KeepsCheck p → ¬ ChecksAtOperator p
+  pub taking_none_below : DemandTwo p → ¬ ChecksAboveZero p
+  pub inverting_last : DemandTwo p → ¬ DraftsLastInverted p
+  pub joining_right : DemandTwo p → ¬ DraftsFromRight p
+  pub taking_inclusive : DemandTwo p → ¬ DraftsInclusive p
+  pub joining_by_and : DemandTwo p → ¬ DraftsByAnd p
+  pub always_agreeing : DemandTwo p → ¬ AgreesAlways p
+  pub always_differing : DemandTwo p → ¬ DiffersAlways p
+  pub matching_from_front : DemandTwo p → ¬ ComparesFromFront p
+  pub using_twice : DemandTwo p → ¬ ComparesTwice p
+  pub ignoring_shape : DemandTwo p → ¬ ComparesAnyShape p
+  pub counting_first : DemandTwo p → ¬ CountsFirstOnly p
+  pub counting_refused : DemandTwo p → ¬ CountsWithRefused p
+  pub counting_by_spine : DemandTwo p → ¬ CountsAlongSpine p
+  pub counting_cut : DemandTwo p → ¬ CountsWithCut p
+  pub judging_first : DemandTwo p → ¬ RunsAllAsFirst p
+  pub stopping_at_refused : DemandTwo p → ¬ RunsUntilRefused p
+  pub clearing_later_lem : DemandTwo p → ¬ RunsAndClears p
+  pub telling_violated : DemandTwo p → ¬ RunsRefusedAsViolated p
+  pub telling_last_steps : DemandTwo p → ¬ RunsForLastSteps p
+  pub taking_cut : DemandTwo p → ¬ RunsWithCut p
 
 abbrev pub WrongProgramsFail : Type 0
 WrongProgramsFail = (p : Programs) → DemandsExclude p
@@ -419,60 +419,60 @@ pub record Excluded (p : Programs) : Type 0 where
   pub confusing : ¬ WritesAndForSequel p
   pub forgetting : ¬ ForgetsBases p
   pub rewriting : ¬ WritesAddressesInHex p
-  pub naming-last : ¬ NamesLastPart p
-  pub following-spine : ¬ FollowsLeftSpine p
-  pub showing-key : ¬ ShowsKeyForPriority p
-  pub never-reusing : ¬ RechecksNever p
-  pub always-reusing : ¬ RechecksAlways p
-  pub wanting-equals : ¬ RechecksEqual p
-  pub forgetting-priority : ¬ RechecksUnranked p
-  pub comparing-readings : ¬ RechecksReadings p
-  pub counting-priority : ¬ NamesPriority p
-  pub missing-fields : ¬ NamesBareOnly p
-  pub steps-by-code : ¬ StepsByCode p
-  pub keeping-bool : ¬ SkipsKeepBool p
-  pub landing-by-height : ¬ LandsByHeight p
-  pub fixing-strings : ¬ FixesStrings p
-  pub fixing-comments : ¬ FixesComments p
-  pub fixing-with-zeros : ¬ FixesWithZeros p
-  pub fixing-to-decimal : ¬ FixesToDecimal p
-  pub reducing-still : ¬ ChecksReduced p
-  pub looking-right : ¬ ChecksRightOperands p
-  pub placing-at-operator : ¬ ChecksAtOperator p
-  pub taking-none-below : ¬ ChecksAboveZero p
-  pub inverting-last : ¬ DraftsLastInverted p
-  pub joining-right : ¬ DraftsFromRight p
-  pub taking-inclusive : ¬ DraftsInclusive p
-  pub joining-by-and : ¬ DraftsByAnd p
-  pub always-agreeing : ¬ AgreesAlways p
-  pub always-differing : ¬ DiffersAlways p
-  pub matching-from-front : ¬ ComparesFromFront p
-  pub using-twice : ¬ ComparesTwice p
-  pub ignoring-shape : ¬ ComparesAnyShape p
-  pub counting-first : ¬ CountsFirstOnly p
-  pub counting-refused : ¬ CountsWithRefused p
-  pub counting-by-spine : ¬ CountsAlongSpine p
-  pub counting-cut : ¬ CountsWithCut p
-  pub judging-first : ¬ RunsAllAsFirst p
-  pub stopping-at-refused : ¬ RunsUntilRefused p
-  pub clearing-later : ¬ RunsAndClears p
-  pub telling-violated : ¬ RunsRefusedAsViolated p
-  pub telling-last-steps : ¬ RunsForLastSteps p
-  pub taking-cut : ¬ RunsWithCut p
+  pub naming_last : ¬ NamesLastPart p
+  pub following_spine : ¬ FollowsLeftSpine p
+  pub showing_key : ¬ ShowsKeyForPriority p
+  pub never_reusing : ¬ RechecksNever p
+  pub always_reusing : ¬ RechecksAlways p
+  pub wanting_equals : ¬ RechecksEqual p
+  pub forgetting_priority : ¬ RechecksUnranked p
+  pub comparing_readings : ¬ RechecksReadings p
+  pub counting_priority : ¬ NamesPriority p
+  pub missing_fields : ¬ NamesBareOnly p
+  pub steps_by_code : ¬ StepsByCode p
+  pub keeping_bool : ¬ SkipsKeepBool p
+  pub landing_by_height : ¬ LandsByHeight p
+  pub fixing_strings : ¬ FixesStrings p
+  pub fixing_comments : ¬ FixesComments p
+  pub fixing_with_zeros : ¬ FixesWithZeros p
+  pub fixing_to_decimal : ¬ FixesToDecimal p
+  pub reducing_still : ¬ ChecksReduced p
+  pub looking_right : ¬ ChecksRightOperands p
+  pub placing_at_operator : ¬ ChecksAtOperator p
+  pub taking_none_below : ¬ ChecksAboveZero p
+  pub inverting_last : ¬ DraftsLastInverted p
+  pub joining_right : ¬ DraftsFromRight p
+  pub taking_inclusive : ¬ DraftsInclusive p
+  pub joining_by_and : ¬ DraftsByAnd p
+  pub always_agreeing : ¬ AgreesAlways p
+  pub always_differing : ¬ DiffersAlways p
+  pub matching_from_front : ¬ ComparesFromFront p
+  pub using_twice : ¬ ComparesTwice p
+  pub ignoring_shape : ¬ ComparesAnyShape p
+  pub counting_first : ¬ CountsFirstOnly p
+  pub counting_refused : ¬ CountsWithRefused p
+  pub counting_by_spine : ¬ CountsAlongSpine p
+  pub counting_cut : ¬ CountsWithCut p
+  pub judging_first : ¬ RunsAllAsFirst p
+  pub stopping_at_refused : ¬ RunsUntilRefused p
+  pub clearing_later_lem : ¬ RunsAndClears p
+  pub telling_violated : ¬ RunsRefusedAsViolated p
+  pub telling_last_steps : ¬ RunsForLastSteps p
+  pub taking_cut : ¬ RunsWithCut p
 
 abbrev pub NoWrongProgram : Type 0
 NoWrongProgram = (p : Programs) → Kept p → Excluded p
 
 -- one of the paddings, for `true; v == 0`: its blocks load, and accept an entry that the text calls violated
 
-abbrev pub paddedText : List ℕ
-paddedText = bytes "true; v == 0"
+abbrev pub padded_text : List ℕ
+padded_text = bytes "true; v == 0"
 
-abbrev pub paddedBlocks : List ℕ
-paddedBlocks = blocksOf 5 (pushBool true ∷ pushBool true ∷ connects both ∷ [])
+abbrev pub padded_blocks : List ℕ
+padded_blocks = blocks_of 5 (push_bool true ∷ push_bool true ∷ connects both ∷ [])
 
 pub record PaddingSeen : Type 0 where
-  pub loads : loadAnswer theKeys paddedBlocks ≡ ok 3
-  pub runs : runAnswer theKeys paddedBlocks theEntry ≡ ok (record { accepted = true; steps = 3 })
-  pub judged : judgeAnswer paddedText theKeys theEntry ≡ ok false
-  pub not_carried : (n : ℕ) → ¬ Carries paddedText theKeys paddedBlocks n
+  pub loads : load_answer the_keys padded_blocks ≡ ok 3
+  pub runs : run_answer the_keys padded_blocks the_entry ≡ ok (record { accepted = true; steps = 3 })
+  pub judged : judge_answer padded_text the_keys the_entry ≡ ok false
+  pub not_carried : (n : ℕ) → ¬ Carries padded_text the_keys padded_blocks n

@@ -9,13 +9,13 @@ use Rattle.paper.specs.declared.Summarizing.{Summarizing}
 use Rattle.paper.specs.declared.Summarizing.TheVariants as S
 use Rattle.paper.specs.declared.Rechecking.{Rechecking}
 use Rattle.paper.specs.declared.Rechecking.TheVariants as K
-use Rattle.paper.specs.Answers.{ok, judgementSays}
-use Rattle.paper.specs.Keys.{Key, find, mostKeys}
-use Rattle.paper.specs.Entry.{matchAt, priorityOf}
+use Rattle.paper.specs.Answers.{ok, judgement_says}
+use Rattle.paper.specs.Keys.{Key, find, most_keys}
+use Rattle.paper.specs.Entry.{match_at, priority_of}
 use Rattle.paper.specs.Grammar.{Tree, truth, number, key, field, attribute, prefixed, joined, compared}
 use Rattle.paper.specs.Calls.{Restriction, restriction}
-use Rattle.paper.specs.Named.{isIt, names, marked, Summary, summarizingSays}
-use Rattle.paper.specs.Rechecking.{recheckingSays}
+use Rattle.paper.specs.Named.{is_it, names, marked, Summary, summarizing_says}
+use Rattle.paper.specs.Rechecking.{rechecking_says}
 use Rattle.paper.specs.RecheckedRight.{bit_at, Summarizes, BothConform, Rechecks}
 use Rattle.paper.specs.Promised.{Bytes}
 
@@ -31,7 +31,7 @@ Lendable text list old new = Bytes text × Bytes list × Bytes old × Bytes new
 abbrev pub RechecksRight : Rechecker → Type 0
 RechecksRight x =
     (text list old : List ℕ) (earlier : Judgement) (new : List ℕ) → Lendable text list old new
-    → Rechecks text list old (judgementSays earlier) new (recheckingSays (x text list old earlier new))
+    → Rechecks text list old (judgement_says earlier) new (rechecking_says (x text list old earlier new))
 
 -- it reuses, and it judges, whatever the earlier answer was
 
@@ -54,7 +54,7 @@ WantsEqualEntries x = (text list old new : List ℕ) → Lendable text list old 
 abbrev pub ForgetsPriority : Rechecker → Type 0
 ForgetsPriority x =
     (text list old new : List ℕ) → Lendable text list old new → (b : BothConform text list old new)
-    → ((k : ℕ) → names b.rule.keys b.rule.root k ≡ true → matchAt old k ≡ matchAt new k)
+    → ((k : ℕ) → names b.rule.keys b.rule.root k ≡ true → match_at old k ≡ match_at new k)
     → Reuses x text list old new
 
 -- what a named key reads as: absent, and the same spelled out, read alike
@@ -62,7 +62,7 @@ abbrev pub ComparesReadings : Rechecker → Type 0
 ComparesReadings x =
     (text list old new : List ℕ) → Lendable text list old new → (b : BothConform text list old new)
     → ((k : ℕ) → names b.rule.keys b.rule.root k ≡ true → get_elem? b.was.matches k ≡ get_elem? b.is.matches k)
-    → (marked b.rule.root ≡ true → priorityOf old ≡ priorityOf new)
+    → (marked b.rule.root ≡ true → priority_of old ≡ priority_of new)
     → Reuses x text list old new
 
 -- what is answered for a text and a list
@@ -73,7 +73,7 @@ Summarizer = List ℕ → List ℕ → Summarizing
 abbrev pub SummarizesRight : Summarizer → Type 0
 SummarizesRight x =
     (text list : List ℕ) → Bytes text → Bytes list → (r : Restriction) → restriction text list ≡ ok r
-    → (s : Summary) × (summarizingSays (x text list) ≡ ok s) × Summarizes r.keys r.root s
+    → (s : Summary) × (summarizing_says (x text list) ≡ ok s) × Summarizes r.keys r.root s
 
 -- a set with this bit, or without it
 abbrev pub HasBit : Summarizing → ℕ → Bool → Type 0
@@ -83,31 +83,31 @@ HasBit r k b = (keys : ℕ) × (priority : Bool) × (r ≡ S.Summary keys priori
 abbrev pub CountsPriority : Summarizer → Type 0
 CountsPriority x =
     (text list : List ℕ) → Bytes text → Bytes list → (r : Restriction) → restriction text list ≡ ok r
-    → length r.keys < mostKeys → marked r.root ≡ true → HasBit (x text list) (length r.keys) true
+    → length r.keys < most_keys → marked r.root ≡ true → HasBit (x text list) (length r.keys) true
 
 -- the keys that stand bare in a tree
-abbrev pub bareNames : List Key → Tree → ℕ → Bool
-bareNames ks (truth at b) k = false
-bareNames ks (number at n) k = false
-bareNames ks (key at w) k = isIt k (find ks w)
-bareNames ks (field at w to f) k = false
-bareNames ks (attribute at to f) k = false
-bareNames ks (prefixed at o t) k = bareNames ks t k
-bareNames ks (joined at o l r) k = bareNames ks l k || bareNames ks r k
-bareNames ks (compared at c l r) k = bareNames ks l k || bareNames ks r k
+abbrev pub bare_names : List Key → Tree → ℕ → Bool
+bare_names ks (truth at b) k = false
+bare_names ks (number at n) k = false
+bare_names ks (key at w) k = is_it k (find ks w)
+bare_names ks (field at w to f) k = false
+bare_names ks (attribute at to f) k = false
+bare_names ks (prefixed at o t) k = bare_names ks t k
+bare_names ks (joined at o l r) k = bare_names ks l k || bare_names ks r k
+bare_names ks (compared at c l r) k = bare_names ks l k || bare_names ks r k
 
 abbrev pub MissesFields : Summarizer → Type 0
 MissesFields x =
     (text list : List ℕ) → Bytes text → Bytes list → (r : Restriction) → restriction text list ≡ ok r
-    → (k : ℕ) → bareNames r.keys r.root k ≡ false → HasBit (x text list) k false
+    → (k : ℕ) → bare_names r.keys r.root k ≡ false → HasBit (x text list) k false
 
 -- the claim
 
 pub record WrongRecheckersFail : Type 0 where
   pub never : (x : Rechecker) → NeverReuses x → ¬ RechecksRight x
   pub always : (x : Rechecker) → AlwaysReuses x → ¬ RechecksRight x
-  pub equal-entries : (x : Rechecker) → WantsEqualEntries x → ¬ RechecksRight x
-  pub priority-forgotten : (x : Rechecker) → ForgetsPriority x → ¬ RechecksRight x
+  pub equal_entries : (x : Rechecker) → WantsEqualEntries x → ¬ RechecksRight x
+  pub priority_forgotten : (x : Rechecker) → ForgetsPriority x → ¬ RechecksRight x
   pub readings : (x : Rechecker) → ComparesReadings x → ¬ RechecksRight x
-  pub priority-counted : (x : Summarizer) → CountsPriority x → ¬ SummarizesRight x
-  pub fields-missed : (x : Summarizer) → MissesFields x → ¬ SummarizesRight x
+  pub priority_counted : (x : Summarizer) → CountsPriority x → ¬ SummarizesRight x
+  pub fields_missed : (x : Summarizer) → MissesFields x → ¬ SummarizesRight x

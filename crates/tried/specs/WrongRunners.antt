@@ -11,10 +11,10 @@ use Rattle.paper.specs.Keys.{Key, keys}
 use Rattle.paper.specs.Entry.{Entry}
 use Rattle.paper.specs.Types.{Ty}
 use Rattle.paper.specs.Meaning.{Value}
-use Rattle.paper.specs.Code.{Skip, Instruction, Action, takesOne, act, Walk, fails, ends, goOn, walk, typeAction, valueAction, actionOf, skipOf}
+use Rattle.paper.specs.Code.{Skip, Instruction, Action, takes_one, act, Walk, fails, ends, go_on, walk, type_action, value_action, action_of, skip_of}
 use Rattle.paper.specs.Blocks.{layout}
-use Rattle.paper.specs.Loading.{program, loadCheck, passed, Run, done, carryOn, run_from, leftTrue, stepsTaken}
-use Rattle.paper.specs.Promised.{verdictIn, Bytes, LoadPromised}
+use Rattle.paper.specs.Loading.{program, load_check, passed, Run, done, carry_on, run_from, left_true, steps_taken}
+use Rattle.paper.specs.Promised.{verdict_in, Bytes, LoadPromised}
 use Rattle.paper.specs.Demands.{Runnable, RanRight}
 
 -- what is answered for a list, blocks and an entry
@@ -29,47 +29,47 @@ RunsRight x = (list blocks entry : List ℕ) → Bytes list → Bytes blocks →
 abbrev pub ReportsInstructions : Runner → Type 0
 ReportsInstructions x =
     (list blocks entry : List ℕ) → Bytes list → Bytes blocks → Bytes entry → (j : Runnable list blocks entry)
-    → (b : Bool) × (x list blocks entry ≡ verdictIn b j.count)
+    → (b : Bool) × (x list blocks entry ≡ verdict_in b j.count)
 
 -- a skip that leaves the bool as it finds it
 
-abbrev pub keptBy : Option Skip → Action Value → Action Value
-keptBy none a = a
-keptBy (some s) a = takesOne (λ v. some v)
+abbrev pub kept_by : Option Skip → Action Value → Action Value
+kept_by none a = a
+kept_by (some s) a = takes_one (λ v. some v)
 
-unfoldable pub keepingFrom : List Key → Entry → List (Option Instruction) → ℕ → ℕ → List Value → Run
-keepingFrom ks e [] n i held = done [] held
-keepingFrom ks e (x ∷ xs) zero i held =
-    carryOn (record { at = i; held = held }) (act (keptBy (skipOf x) (actionOf (valueAction ks e) x)) held)
-    (keepingFrom ks e xs (passed (skipOf x) held) (i + 1))
-keepingFrom ks e (x ∷ xs) (suc n) i held = keepingFrom ks e xs n (i + 1) held
+unfoldable pub keeping_from : List Key → Entry → List (Option Instruction) → ℕ → ℕ → List Value → Run
+keeping_from ks e [] n i held = done [] held
+keeping_from ks e (x ∷ xs) zero i held =
+    carry_on (record { at = i; held = held }) (act (kept_by (skip_of x) (action_of (value_action ks e) x)) held)
+    (keeping_from ks e xs (passed (skip_of x) held) (i + 1))
+keeping_from ks e (x ∷ xs) (suc n) i held = keeping_from ks e xs n (i + 1) held
 
-abbrev pub keepingAnswer : List Key → Entry → List ℕ → Running
-keepingAnswer ks e blocks =
-    let r = keepingFrom ks e (program blocks) 0 0 [] in
-    verdictIn (leftTrue r) (stepsTaken r)
+abbrev pub keeping_answer : List Key → Entry → List ℕ → Running
+keeping_answer ks e blocks =
+    let r = keeping_from ks e (program blocks) 0 0 [] in
+    verdict_in (left_true r) (steps_taken r)
 
 abbrev pub LeavesOldBool : Runner → Type 0
 LeavesOldBool x =
     (list blocks entry : List ℕ) → Bytes list → Bytes blocks → Bytes entry → (j : Runnable list blocks entry)
-    → x list blocks entry ≡ keepingAnswer j.ks j.on blocks
+    → x list blocks entry ≡ keeping_answer j.ks j.on blocks
 
 -- a landing where as many values are held as at the skip, of whatever types
 
-abbrev pub asHigh : List Ty → Walk Ty → Bool
-asHigh held (fails i) = true
-asHigh held (ends there) = eqb (length held) (length there)
+abbrev pub as_high : List Ty → Walk Ty → Bool
+as_high held (fails i) = true
+as_high held (ends there) = eqb (length held) (length there)
 
-abbrev pub landsHigh : List Key → Option Skip → List (Option Instruction) → List Ty → Bool
-landsHigh ks none rest held = true
-landsHigh ks (some s) rest held = asHigh held (walk 0 (map (actionOf (typeAction ks)) (take s.over rest)) held)
+abbrev pub lands_high : List Key → Option Skip → List (Option Instruction) → List Ty → Bool
+lands_high ks none rest held = true
+lands_high ks (some s) rest held = as_high held (walk 0 (map (action_of (type_action ks)) (take s.over rest)) held)
 
-unfoldable pub heightsFrom : List Key → ℕ → List (Option Instruction) → List Ty → Walk Ty
+unfoldable pub heights_from : List Key → ℕ → List (Option Instruction) → List Ty → Walk Ty
 unfolding walk
-heightsFrom ks i [] held = ends held
-heightsFrom ks i (x ∷ xs) held =
-    goOn i (act (actionOf (typeAction ks) x) held)
-    (λ later. cond (landsHigh ks (skipOf x) xs later) (heightsFrom ks (i + 1) xs later) (fails i))
+heights_from ks i [] held = ends held
+heights_from ks i (x ∷ xs) held =
+    go_on i (act (action_of (type_action ks) x) held)
+    (λ later. cond (lands_high ks (skip_of x) xs later) (heights_from ks (i + 1) xs later) (fails i))
 
 -- what is answered for a list and blocks
 abbrev pub Loader : Type 0
@@ -82,11 +82,11 @@ LoadsRight x = (list blocks : List ℕ) → Bytes list → Bytes blocks → Load
 abbrev pub ComparesHeights : Loader → Type 0
 ComparesHeights x =
     (list blocks : List ℕ) → Bytes list → Bytes blocks → (ks : List Key) → keys list ≡ ok ks → layout (length ks) blocks ≡ ok tt
-    → loadCheck (length blocks) (heightsFrom ks 0 (program blocks) []) ≡ ok tt → (n : ℕ) × (x list blocks ≡ L.Loaded n)
+    → load_check (length blocks) (heights_from ks 0 (program blocks) []) ≡ ok tt → (n : ℕ) × (x list blocks ≡ L.Loaded n)
 
 -- the claim
 
 pub record WrongRunnersFail : Type 0 where
   pub instructions : (x : Runner) → ReportsInstructions x → ¬ RunsRight x
-  pub old-bool : (x : Runner) → LeavesOldBool x → ¬ RunsRight x
+  pub old_bool : (x : Runner) → LeavesOldBool x → ¬ RunsRight x
   pub heights : (x : Loader) → ComparesHeights x → ¬ LoadsRight x

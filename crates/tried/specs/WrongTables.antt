@@ -7,8 +7,8 @@ use Rattle.paper.specs.Answers.{ok}
 use Rattle.paper.specs.Keys.{Key, keys}
 use Rattle.paper.specs.Loading.{loaded}
 use Rattle.paper.specs.Calls.{over}
-use Rattle.paper.specs.Counting.{wholeIn, cut_in, entriesIn}
-use Rattle.paper.specs.RunAll.{ranOn, verdictByte, stepsOn, runningAllSays}
+use Rattle.paper.specs.Counting.{whole_in, cut_in, entries_in}
+use Rattle.paper.specs.RunAll.{ran_on, verdict_byte, steps_on, running_all_says}
 use Rattle.paper.specs.Promised.{Bytes, RunAllResult}
 use Rattle.paper.specs.Demands.{AllRunnable, RunAllRight}
 
@@ -31,54 +31,54 @@ abbrev pub WritesBy : Rule → TableRunner → Type 0
 WritesBy rule x =
     (list blocks entries answers : List ℕ) → Bytes list → Bytes blocks → Bytes entries → Bytes answers
     → (j : AllRunnable list blocks entries answers)
-    → (x list blocks entries answers).bytes ≡ rule j.ks blocks (entriesIn j.ks entries) answers
+    → (x list blocks entries answers).bytes ≡ rule j.ks blocks (entries_in j.ks entries) answers
 
 abbrev pub byte_of : List Key → List ℕ → List ℕ → ℕ
-byte_of ks blocks entry = verdictByte (ranOn ks blocks entry)
+byte_of ks blocks entry = verdict_byte (ran_on ks blocks entry)
 
 -- every entry as the first
 
-abbrev pub asTheFirst : List Key → List ℕ → List (List ℕ) → List ℕ
-asTheFirst ks blocks [] = []
-asTheFirst ks blocks (e ∷ es) = byte_of ks blocks e ∷ map (λ _. byte_of ks blocks e) es
+abbrev pub as_the_first : List Key → List ℕ → List (List ℕ) → List ℕ
+as_the_first ks blocks [] = []
+as_the_first ks blocks (e ∷ es) = byte_of ks blocks e ∷ map (λ _. byte_of ks blocks e) es
 
-abbrev pub firstForAll : Rule
-firstForAll ks blocks es answers = over (asTheFirst ks blocks es) answers
+abbrev pub first_for_all : Rule
+first_for_all ks blocks es answers = over (as_the_first ks blocks es) answers
 
 abbrev pub JudgesFirst : TableRunner → Type 0
-JudgesFirst = WritesBy firstForAll
+JudgesFirst = WritesBy first_for_all
 
 -- up to the first that is refused: the bytes after it stay as they were
 
-abbrev pub upToRefused : List ℕ → List ℕ
-upToRefused [] = []
-upToRefused (b ∷ bs) =
-    let more = b ∷ upToRefused bs in
+abbrev pub up_to_refused : List ℕ → List ℕ
+up_to_refused [] = []
+up_to_refused (b ∷ bs) =
+    let more = b ∷ up_to_refused bs in
     cond (eqb b 0) (b ∷ []) more
 
-abbrev pub untilRefused : Rule
-untilRefused ks blocks es answers = over (upToRefused (map (byte_of ks blocks) es)) answers
+abbrev pub until_refused : Rule
+until_refused ks blocks es answers = over (up_to_refused (map (byte_of ks blocks) es)) answers
 
 abbrev pub StopsAtRefused : TableRunner → Type 0
-StopsAtRefused = WritesBy untilRefused
+StopsAtRefused = WritesBy until_refused
 
 -- zeros in the later answers
-abbrev pub clearingLater : Rule
-clearingLater ks blocks es answers = map (byte_of ks blocks) es ++ replicate (length answers - length es) 0
+abbrev pub clearing_later : Rule
+clearing_later ks blocks es answers = map (byte_of ks blocks) es ++ replicate (length answers - length es) 0
 
 abbrev pub ClearsLater : TableRunner → Type 0
-ClearsLater = WritesBy clearingLater
+ClearsLater = WritesBy clearing_later
 
 -- 2 for 0
 
-abbrev pub orViolated : ℕ → ℕ
-orViolated b = cond (eqb b 0) 2 b
+abbrev pub or_violated : ℕ → ℕ
+or_violated b = cond (eqb b 0) 2 b
 
-abbrev pub refusedAsViolated : Rule
-refusedAsViolated ks blocks es answers = over (map (λ e. orViolated (byte_of ks blocks e)) es) answers
+abbrev pub refused_as_violated : Rule
+refused_as_violated ks blocks es answers = over (map (λ e. or_violated (byte_of ks blocks e)) es) answers
 
 abbrev pub TellsViolated : TableRunner → Type 0
-TellsViolated = WritesBy refusedAsViolated
+TellsViolated = WritesBy refused_as_violated
 
 -- the steps of the last entry alone
 
@@ -86,23 +86,23 @@ abbrev pub last_of : ℕ → List ℕ → ℕ
 last_of n [] = n
 last_of n (m ∷ ms) = last_of m ms
 
-abbrev pub lastSteps : List Key → List ℕ → List (List ℕ) → ℕ
-lastSteps ks blocks es = last_of 0 (map (λ e. stepsOn (ranOn ks blocks e)) es)
+abbrev pub last_steps : List Key → List ℕ → List (List ℕ) → ℕ
+last_steps ks blocks es = last_of 0 (map (λ e. steps_on (ran_on ks blocks e)) es)
 
 abbrev pub TellsLastSteps : TableRunner → Type 0
 TellsLastSteps x =
     (list blocks entries answers : List ℕ) → Bytes list → Bytes blocks → Bytes entries → Bytes answers
     → (j : AllRunnable list blocks entries answers)
-    → runningAllSays (x list blocks entries answers).answer
-    ≡ ok (record { entries = wholeIn j.ks entries; steps = lastSteps j.ks blocks (entriesIn j.ks entries) })
+    → running_all_says (x list blocks entries answers).answer
+    ≡ ok (record { entries = whole_in j.ks entries; steps = last_steps j.ks blocks (entries_in j.ks entries) })
 
 -- a cut entry is one more, whatever it reads for the bytes that are missing
 abbrev pub TakesCut : TableRunner → Type 0
 TakesCut x =
     (list blocks entries answers : List ℕ) → Bytes list → Bytes blocks → Bytes entries → Bytes answers
     → (ks : List Key) → keys list ≡ ok ks → (count : ℕ) → loaded ks blocks ≡ ok count
-    → 0 < cut_in ks entries → suc (wholeIn ks entries) ≤ length answers
-    → (steps : ℕ) × ((x list blocks entries answers).answer ≡ U.Ran (suc (wholeIn ks entries)) steps)
+    → 0 < cut_in ks entries → suc (whole_in ks entries) ≤ length answers
+    → (steps : ℕ) × ((x list blocks entries answers).answer ≡ U.Ran (suc (whole_in ks entries)) steps)
 
 -- the claim
 
@@ -110,6 +110,6 @@ pub record WrongTablesFail : Type 0 where
   pub first : (x : TableRunner) → JudgesFirst x → ¬ RunsTablesRight x
   pub stopping : (x : TableRunner) → StopsAtRefused x → ¬ RunsTablesRight x
   pub clearing : (x : TableRunner) → ClearsLater x → ¬ RunsTablesRight x
-  pub as-violated : (x : TableRunner) → TellsViolated x → ¬ RunsTablesRight x
-  pub last-steps : (x : TableRunner) → TellsLastSteps x → ¬ RunsTablesRight x
+  pub as_violated : (x : TableRunner) → TellsViolated x → ¬ RunsTablesRight x
+  pub last_steps_lem : (x : TableRunner) → TellsLastSteps x → ¬ RunsTablesRight x
   pub cut : (x : TableRunner) → TakesCut x → ¬ RunsTablesRight x

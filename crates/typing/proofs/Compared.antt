@@ -2,25 +2,25 @@
 use Prim.Native.Nat.{ℕ}
 use mathlib.Core.Path.{◌≡◌, sym, ◌∙◌, ap}
 use mathlib.Core.Bool.{true, false}
-use Rattle.paper.specs.Answers.{Answer, ok, refused, ◌>>=◌, Input, inText}
+use Rattle.paper.specs.Answers.{Answer, ok, refused, ◌>>=◌, Input, InText}
 use Rattle.paper.specs.Grammar.{Tree, place_of}
-use Rattle.paper.specs.Types.{Ty, keepsBits, bitsKept, operatorType}
+use Rattle.paper.specs.Types.{Ty, keeps_bits, bits_kept, operator_type}
 use Rattle.trees.specs.declared.node.Join.{Join}
 use Rattle.trees.specs.declared.node.Comparison.{Comparison}
 use Rattle.trees.specs.declared.node.Operator.{Operator}
 use Rattle.trees.specs.declared.node.Operator.TheVariants.{Joins, Compares}
-use Rattle.typing.specs.Says.{operatorMade, operatorSays}
+use Rattle.typing.specs.Says.{operator_made, operator_says}
 
 module _ (at : ℕ) (l r : Tree) (a b : Ty) where
   abbrev made : Operator → Answer Ty
-  made o = operatorType at (operatorMade o a b)
+  made o = operator_type at (operator_made o a b)
 
   -- types that do not suit it
-  pub unsuited : (o : Operator) (n : ℕ) (i : Input) (p : ℕ) → made o ≡ refused n i p → refused n i p ≡ operatorSays at o l r a b
+  pub unsuited : (o : Operator) (n : ℕ) (i : Input) (p : ℕ) → made o ≡ refused n i p → refused n i p ≡ operator_says at o l r a b
   unsuited (Joins o) n i p e = sym e
-  unsuited (Compares c) n i p e = sym (ap (λ (x : Answer Ty). x >>= λ t. bitsKept l b >>= λ _. bitsKept r a >>= λ _. ok t) e)
+  unsuited (Compares c) n i p e = sym (ap (λ (x : Answer Ty). x >>= λ t. bits_kept l b >>= λ _. bits_kept r a >>= λ _. ok t) e)
 
-  pub joined : {o : Operator} (j : Join) → o ≡ Joins j → made o ≡ operatorSays at o l r a b
+  pub joined : {o : Operator} (j : Join) → o ≡ Joins j → made o ≡ operator_says at o l r a b
   joined j e = rw e
 
   -- a comparison that takes the types
@@ -28,11 +28,11 @@ module _ (at : ℕ) (l r : Tree) (a b : Ty) where
     takes : made (Compares c) ≡ ok t
     takes = ap made (sym compares) ∙ suited
 
-    pub left-lost : keepsBits l b ≡ false → refused 23 inText (place_of l) ≡ operatorSays at o l r a b
-    left-lost h = rw (compares, takes, h)
+    pub left_lost : keeps_bits l b ≡ false → refused 23 InText (place_of l) ≡ operator_says at o l r a b
+    left_lost h = rw (compares, takes, h)
 
-    pub right-lost : keepsBits l b ≡ true → keepsBits r a ≡ false → refused 23 inText (place_of r) ≡ operatorSays at o l r a b
-    right-lost h k = rw (compares, takes, h, k)
+    pub right_lost : keeps_bits l b ≡ true → keeps_bits r a ≡ false → refused 23 InText (place_of r) ≡ operator_says at o l r a b
+    right_lost h k = rw (compares, takes, h, k)
 
-    pub both-kept : keepsBits l b ≡ true → keepsBits r a ≡ true → ok t ≡ operatorSays at o l r a b
-    both-kept h k = rw (compares, takes, h, k)
+    pub both_kept : keeps_bits l b ≡ true → keeps_bits r a ≡ true → ok t ≡ operator_says at o l r a b
+    both_kept h k = rw (compares, takes, h, k)

@@ -3,10 +3,10 @@
 // A type's code is its number, and types have the codes below PLACES. A refusal's code is its number and one, times PLACES, and its place
 // under it. Every number is the code of something, so that nothing is asked of one that is read.
 ghost use Rattle.std.specs.Prelude.{◌≡◌, ◌<◌};
-ghost use Rattle.paper.specs.Answers.{ok, refused, inText, offset_of};
-ghost use Rattle.values.specs.Typed.{tyMeant, typingMeant};
-ghost use Rattle.typing.specs.Says.{typedSays, typedOr};
-ghost use Rattle.typing.specs.Coded.{places, tyIn, is_type, codeSays, Codable};
+ghost use Rattle.paper.specs.Answers.{ok, refused, InText, offset_of};
+ghost use Rattle.values.specs.Typed.{ty_meant, typing_meant};
+ghost use Rattle.typing.specs.Says.{typed_says, typed_or};
+ghost use Rattle.typing.specs.Coded.{places, ty_in, is_type, code_says, Codable};
 
 use crate::leaf::Typed;
 use paper::Place;
@@ -22,7 +22,7 @@ const REFUSALS: usize = 256;
 // The code of a refusal at a place of the text.
 pub(crate) fn refusal_code(number: u8, at: usize) -> usize
     requires { at < places }
-    ensures { codeSays result ≡ refused number inText at }
+    ensures { code_says result ≡ refused number InText at }
 {
     (number as usize + 1) * PLACES + at
 }
@@ -44,8 +44,8 @@ fn offset(place: Place) -> usize
 
 // The code of a type, or of a refusal in the text.
 pub(crate) fn coded(t: Typed) -> usize
-    requires { Codable (typedSays t) }
-    ensures { codeSays result ≡ typedSays t }
+    requires { Codable (typed_says t) }
+    ensures { code_says result ≡ typed_says t }
 {
     match t {
         Typed::Is(a) => numbering::number_of(a) as usize,
@@ -56,7 +56,7 @@ pub(crate) fn coded(t: Typed) -> usize
 // The code of a type, or where there is none of a refusal at a place of the text.
 pub(crate) fn coded_or(t: Typing, number: u8, at: usize) -> usize
     requires { at < places }
-    ensures { codeSays result ≡ typedOr number at (typingMeant t) }
+    ensures { code_says result ≡ typed_or number at (typing_meant t) }
 {
     match t {
         Typing::Is(a) => numbering::number_of(a) as usize,
@@ -73,14 +73,14 @@ pub(crate) fn is_type(code: usize) -> bool
 
 // The type of a type's code.
 pub(crate) fn type_in(code: usize) -> Type
-    ensures { tyMeant result ≡ tyIn code }
+    ensures { ty_meant result ≡ ty_in code }
 {
     numbering::numbered((code % PLACES) as u32)
 }
 
 // What a code stands for.
 pub(crate) fn typed_in(code: usize) -> Typed
-    ensures { typedSays result ≡ codeSays code }
+    ensures { typed_says result ≡ code_says code }
 {
     if is_type(code) {
         return Typed::Is(type_in(code));

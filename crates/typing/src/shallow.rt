@@ -2,11 +2,11 @@
 ghost use Rattle.std.specs.Prelude.{◌≡◌, false, List, ℕ, ◌+◌, ◌*◌, ◌≤◌, length};
 ghost use Rattle.paper.specs.Answers.{ok};
 ghost use Rattle.paper.specs.Types.{Ty, type_of};
-ghost use Rattle.keys.specs.Says.{keysIn};
-ghost use Rattle.trees.specs.Nodes.{nodeAt};
-ghost use Rattle.trees.specs.Standing.{treeAt};
+ghost use Rattle.keys.specs.Says.{keys_in};
+ghost use Rattle.trees.specs.Nodes.{node_at};
+ghost use Rattle.trees.specs.Standing.{tree_at};
 ghost use Rattle.trees.specs.Marks.{Marked};
-ghost use Rattle.typing.specs.Says.{typedSays, isMinus};
+ghost use Rattle.typing.specs.Says.{typed_says, is_minus};
 
 use crate::leaf;
 use crate::leaf::Typed;
@@ -14,7 +14,7 @@ use trees::{Node, Prefix};
 use values::types::Type;
 
 pub(crate) fn is_minus(n: Node) -> bool
-    ensures { result ≡ isMinus n }
+    ensures { result ≡ is_minus n }
 {
     match n {
         Node::Without => false,
@@ -28,9 +28,9 @@ pub(crate) fn is_minus(n: Node) -> bool
 
 // Of a node that is no "-": a leaf's own type, and every other operator's is bool.
 fn outer_type(list: &[u8], nodes: &[u32], i: usize) -> Typed
-    requires { (i * 8 + 8 ≤ length nodes.now) × (isMinus (nodeAt nodes.now i) ≡ false) }
-    ensures { (text : List ℕ) → Marked (keysIn list.now) text nodes.now (i + 1) → (a : Ty)
-        → type_of (keysIn list.now) (treeAt text nodes.now i) ≡ ok a → typedSays result ≡ ok a }
+    requires { (i * 8 + 8 ≤ length nodes.now) × (is_minus (node_at nodes.now i) ≡ false) }
+    ensures { (text : List ℕ) → Marked (keys_in list.now) text nodes.now (i + 1) → (a : Ty)
+        → type_of (keys_in list.now) (tree_at text nodes.now i) ≡ ok a → typed_says result ≡ ok a }
 {
     let n = Node::read(nodes, i);
     match n {
@@ -43,8 +43,8 @@ fn outer_type(list: &[u8], nodes: &[u32], i: usize) -> Typed
 // The type of the tree at a node, where it has one: "-" has its operand's.
 pub fn shallow_type(list: &[u8], nodes: &[u32], at: usize) -> Typed
     requires { at * 8 + 8 ≤ length nodes.now }
-    ensures { (text : List ℕ) → Marked (keysIn list.now) text nodes.now (at + 1) → (a : Ty)
-        → type_of (keysIn list.now) (treeAt text nodes.now at) ≡ ok a → typedSays result ≡ ok a }
+    ensures { (text : List ℕ) → Marked (keys_in list.now) text nodes.now (at + 1) → (a : Ty)
+        → type_of (keys_in list.now) (tree_at text nodes.now at) ≡ ok a → typed_says result ≡ ok a }
 {
     let mut i = at;
     while is_minus(Node::read(nodes, i)) {

@@ -5,23 +5,23 @@ use Rattle.paper.specs.Numbers.{modulo}
 use Rattle.paper.specs.Keys.{kind_of}
 use Rattle.paper.specs.Entry.{Match}
 use Rattle.paper.specs.Types.{Ty, same_ty, when, takes}
-use Rattle.paper.specs.Meaning.{Value, truth, whole, matched, ty_of, inType, Connective, both, either, ifThen}
+use Rattle.paper.specs.Meaning.{Value, truth, whole, matched, ty_of, in_type, Connective, both, either, ifThen}
 use Rattle.number.specs.Values.{value, signed}
 use Rattle.number.specs.declared.magnitude.Magnitude.{Magnitude}
 use Rattle.values.specs.declared.cell.Cell.{Cell}
 use Rattle.values.specs.declared.cell.Sort as S
 use Rattle.values.specs.declared.cell.Sort.TheVariants.{Truth, Whole, Match as Matches}
 
-abbrev pub matchFrom : Magnitude → Magnitude → ℕ → Match
-matchFrom first second length = record { first = value first; second = value second; length = length }
+abbrev pub match_from : Magnitude → Magnitude → ℕ → Match
+match_from first second length = record { first = value first; second = value second; length = length }
 
-abbrev pub heldAs : S.«Sort» → Cell → Value
-heldAs (Truth b) c = truth b
-heldAs (Whole negative) c = whole (signed negative (value c.first))
-heldAs (Matches kind) c = matched (kind_of kind) (min c.width 128) (matchFrom c.first c.second c.length)
+abbrev pub held_as : S.«Sort» → Cell → Value
+held_as (Truth b) c = truth b
+held_as (Whole negative) c = whole (signed negative (value c.first))
+held_as (Matches kind) c = matched (kind_of kind) (min c.width 128) (match_from c.first c.second c.length)
 
 abbrev pub held : Cell → Value
-held c = heldAs c.sort c
+held c = held_as c.sort c
 
 -- what an operation gives, where the paper gives a value
 abbrev pub Is : Option Value → Value → Type 0
@@ -36,9 +36,9 @@ as_number w (whole z) = modulo z (2 ^ w)
 as_number w (matched k x m) = m.first
 
 -- a value in a type that it has or converts to
-abbrev pub likeValue : Ty → Value → Option Value
-likeValue t a = when (same_ty (ty_of a) t || takes t (ty_of a)) (inType t a)
+abbrev pub like_value : Ty → Value → Option Value
+like_value t a = when (same_ty (ty_of a) t || takes t (ty_of a)) (in_type t a)
 
 -- of a number up to 2
-abbrev pub connectiveOf : ℕ → Connective
-connectiveOf n = cond (eqb n 0) both (cond (eqb n 1) either ifThen)
+abbrev pub connective_of : ℕ → Connective
+connective_of n = cond (eqb n 0) both (cond (eqb n 1) either ifThen)

@@ -4,10 +4,10 @@ ghost use Rattle.std.proofs.Math.Option.{some};
 ghost use Rattle.paper.specs.Keys.{kind_of};
 ghost use Rattle.paper.specs.Code.{field_of};
 ghost use Rattle.paper.specs.Meaning as paper;
-ghost use Rattle.paper.specs.Meaning.{ty_of, oneValue, fieldIn, isTrue};
-ghost use Rattle.number.specs.Values.{value, signed, wholeOf};
-ghost use Rattle.values.specs.Typed.{tyMeant};
-ghost use Rattle.values.specs.Held.{held, matchFrom};
+ghost use Rattle.paper.specs.Meaning.{ty_of, one_value, field_in, is_true};
+ghost use Rattle.number.specs.Values.{value, signed, whole_of};
+ghost use Rattle.values.specs.Typed.{ty_meant};
+ghost use Rattle.values.specs.Held.{held, match_from};
 
 use crate::types::Type;
 use keys::KeyRecord;
@@ -51,7 +51,7 @@ impl Cell {
 
     // The cell of a whole number.
     pub(crate) fn of_whole(n: Whole) -> Cell
-        ensures { held result ≡ paper.whole (wholeOf n) }
+        ensures { held result ≡ paper.whole (whole_of n) }
     {
         let size = n.size;
         let none = Magnitude::zero();
@@ -74,7 +74,7 @@ impl Cell {
     // The cell of a match of a kind and a width.
     pub fn matched(kind: u8, width: u8, first: Magnitude, second: Magnitude, length: u8) -> Cell
         requires { width ≤ 128 }
-        ensures { held result ≡ paper.matched (kind_of kind) width (matchFrom first second length) }
+        ensures { held result ≡ paper.matched (kind_of kind) width (match_from first second length) }
     {
         Cell {
             sort: Sort::Match(kind),
@@ -88,7 +88,7 @@ impl Cell {
     // The cell of the match of one value.
     pub(crate) fn one_value(kind: u8, width: u8, n: Magnitude) -> Cell
         requires { width ≤ 128 }
-        ensures { held result ≡ paper.matched (kind_of kind) width (oneValue (kind_of kind) width (value n)) }
+        ensures { held result ≡ paper.matched (kind_of kind) width (one_value (kind_of kind) width (value n)) }
     {
         match kind {
             kinds::EXACT => Cell::matched(kind, width, n, Magnitude::zero(), 0),
@@ -101,7 +101,7 @@ impl Cell {
     // The cell of a field of a match, by its number in document 01.
     pub fn field(field: u8, width: u8, first: Magnitude, second: Magnitude, length: u8) -> Cell
         requires { width ≤ 128 }
-        ensures { held result ≡ fieldIn width (field_of field) (matchFrom first second length) }
+        ensures { held result ≡ field_in width (field_of field) (match_from first second length) }
     {
         match field {
             fields::VALUE => Cell::one_value(kinds::EXACT, width, first),
@@ -114,7 +114,7 @@ impl Cell {
 
     // Whether the cell holds the bool true.
     pub fn is_true(self) -> bool
-        ensures { result ≡ isTrue (some (held self)) }
+        ensures { result ≡ is_true (some (held self)) }
     {
         let sort = self.sort;
         match sort {
@@ -126,7 +126,7 @@ impl Cell {
 
     // The type of what the cell holds.
     pub(crate) fn type_of(self) -> Type
-        ensures { tyMeant result ≡ ty_of (held self) }
+        ensures { ty_meant result ≡ ty_of (held self) }
     {
         let sort = self.sort;
         match sort {
@@ -149,7 +149,7 @@ impl Cell {
 
     // The whole number of this sign and the cell's size.
     pub(crate) fn as_whole(self, negative: bool) -> Whole
-        ensures { wholeOf result ≡ signed negative (value self.first) }
+        ensures { whole_of result ≡ signed negative (value self.first) }
     {
         let size = self.first;
         Whole {

@@ -1,17 +1,17 @@
 // Comparisons of two values.
 ghost use Rattle.std.specs.Prelude.{◌≡◌};
-ghost use Rattle.paper.specs.Code.{comparisonOf};
+ghost use Rattle.paper.specs.Code.{comparison_of};
 ghost use Rattle.paper.specs.Meaning as paper;
-ghost use Rattle.paper.specs.Meaning.{ty_of, sameValue, lessValue, compareValue, comparisonValue};
+ghost use Rattle.paper.specs.Meaning.{ty_of, same_value, less_value, compare_value, comparison_value};
 ghost use Rattle.values.specs.declared.cell.Sort.TheVariants as sort;
-ghost use Rattle.values.specs.Held.{held, heldAs, likeValue, Is};
+ghost use Rattle.values.specs.Held.{held, held_as, like_value, Is};
 
 use crate::cell::{Cell, Sort};
 use crate::types;
 use paper::comparisons;
 
 fn same_truth(truth: bool, b: Cell) -> bool
-    ensures { result ≡ sameValue (paper.truth truth) (held b) }
+    ensures { result ≡ same_value (paper.truth truth) (held b) }
 {
     let other = b.sort;
     match other {
@@ -22,7 +22,7 @@ fn same_truth(truth: bool, b: Cell) -> bool
 }
 
 fn same_whole(negative: bool, a: Cell, b: Cell) -> bool
-    ensures { result ≡ sameValue (heldAs (sort.Whole negative) a) (held b) }
+    ensures { result ≡ same_value (held_as (sort.Whole negative) a) (held b) }
 {
     let other = b.sort;
     match other {
@@ -33,7 +33,7 @@ fn same_whole(negative: bool, a: Cell, b: Cell) -> bool
 }
 
 fn same_match(kind: u8, a: Cell, b: Cell) -> bool
-    ensures { result ≡ sameValue (heldAs (sort.Match kind) a) (held b) }
+    ensures { result ≡ same_value (held_as (sort.Match kind) a) (held b) }
 {
     let other = b.sort;
     match other {
@@ -46,7 +46,7 @@ fn same_match(kind: u8, a: Cell, b: Cell) -> bool
 }
 
 fn less_whole(negative: bool, a: Cell, b: Cell) -> bool
-    ensures { result ≡ lessValue (heldAs (sort.Whole negative) a) (held b) }
+    ensures { result ≡ less_value (held_as (sort.Whole negative) a) (held b) }
 {
     let other = b.sort;
     match other {
@@ -57,7 +57,7 @@ fn less_whole(negative: bool, a: Cell, b: Cell) -> bool
 }
 
 fn less_match(kind: u8, a: Cell, b: Cell) -> bool
-    ensures { result ≡ lessValue (heldAs (sort.Match kind) a) (held b) }
+    ensures { result ≡ less_value (held_as (sort.Match kind) a) (held b) }
 {
     let other = b.sort;
     match other {
@@ -69,7 +69,7 @@ fn less_match(kind: u8, a: Cell, b: Cell) -> bool
 
 impl Cell {
     fn same(self, other: Cell) -> bool
-        ensures { result ≡ sameValue (held self) (held other) }
+        ensures { result ≡ same_value (held self) (held other) }
     {
         let sort = self.sort;
         match sort {
@@ -80,7 +80,7 @@ impl Cell {
     }
 
     fn less(self, other: Cell) -> bool
-        ensures { result ≡ lessValue (held self) (held other) }
+        ensures { result ≡ less_value (held self) (held other) }
     {
         let sort = self.sort;
         match sort {
@@ -91,7 +91,7 @@ impl Cell {
     }
 
     fn holds(self, comparison: u8, right: Cell) -> bool
-        ensures { result ≡ paper.holds (comparisonOf comparison) (held self) (held right) }
+        ensures { result ≡ paper.holds (comparison_of comparison) (held self) (held right) }
     {
         match comparison {
             comparisons::EQUAL => self.same(right),
@@ -105,14 +105,14 @@ impl Cell {
 
     // The bool that a comparison makes of two operands of one type.
     pub fn compared(self, comparison: u8, right: Cell) -> Cell
-        ensures { Is (compareValue (comparisonOf comparison) (held self) (held right)) (held result) }
+        ensures { Is (compare_value (comparison_of comparison) (held self) (held right)) (held result) }
     {
         Cell::truth(self.holds(comparison, right))
     }
 
     // In the type of the other.
     fn like(self, other: Cell) -> Cell
-        ensures { Is (likeValue (ty_of (held other)) (held self)) (held result) }
+        ensures { Is (like_value (ty_of (held other)) (held self)) (held result) }
     {
         if types::same(self.type_of(), other.type_of()) {
             return self;
@@ -128,7 +128,7 @@ impl Cell {
     // Whether a comparison of two operands that meet in one type is true: the one that the other's type takes is converted
     // first.
     pub fn compares(self, comparison: u8, right: Cell) -> bool
-        ensures { Is (comparisonValue (comparisonOf comparison) (held self) (held right)) (paper.truth result) }
+        ensures { Is (comparison_value (comparison_of comparison) (held self) (held right)) (paper.truth result) }
     {
         if types::same(self.type_of(), right.type_of()) {
             return self.holds(comparison, right);
@@ -141,7 +141,7 @@ impl Cell {
 
     // The same as a cell. It is no call of the other, which has one caller and so is compiled into it: a judgement takes 3 % less.
     pub fn comparison(self, comparison: u8, right: Cell) -> Cell
-        ensures { Is (comparisonValue (comparisonOf comparison) (held self) (held right)) (held result) }
+        ensures { Is (comparison_value (comparison_of comparison) (held self) (held right)) (held result) }
     {
         if types::takes(right.type_of(), self.type_of()) {
             return self.like(right).compared(comparison, right);

@@ -1,8 +1,8 @@
 // Types by number, so that one stands in a word with something else: 0 is bool. Every number is read as a type, so that nothing is asked
 // of one that is read.
 ghost use Rattle.std.specs.Prelude.{◌≡◌, ◌<◌};
-ghost use Rattle.values.specs.Typed.{tyMeant};
-ghost use Rattle.values.specs.Numbered.{numbers, tyNumbered};
+ghost use Rattle.values.specs.Typed.{ty_meant};
+ghost use Rattle.values.specs.Numbered.{numbers, ty_numbered};
 
 use crate::types::Type;
 
@@ -20,7 +20,7 @@ const KINDS: u32 = 256;
 
 // The number of a type.
 pub fn number_of(a: Type) -> u32
-    ensures { (tyNumbered result ≡ tyMeant a) × (result < numbers) }
+    ensures { (ty_numbered result ≡ ty_meant a) × (result < numbers) }
 {
     match a {
         Type::Bool => BOOL,
@@ -31,7 +31,7 @@ pub fn number_of(a: Type) -> u32
 
 // The type that a number is read as.
 pub fn numbered(number: u32) -> Type
-    ensures { tyMeant result ≡ tyNumbered number }
+    ensures { ty_meant result ≡ ty_numbered number }
 {
     if number == BOOL {
         return Type::Bool;

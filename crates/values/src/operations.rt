@@ -2,9 +2,9 @@
 ghost use Rattle.std.specs.Prelude.{◌≡◌, ◌≤◌};
 ghost use Rattle.paper.specs.Keys.{kind_of};
 ghost use Rattle.paper.specs.Meaning as paper;
-ghost use Rattle.paper.specs.Meaning.{notValue, negateValue, joinValue, convertValue};
+ghost use Rattle.paper.specs.Meaning.{not_value, negate_value, join_value, convert_value};
 ghost use Rattle.number.specs.Values.{value};
-ghost use Rattle.values.specs.Held.{held, Is, as_number, connectiveOf};
+ghost use Rattle.values.specs.Held.{held, Is, as_number, connective_of};
 
 use crate::cell::{Cell, Sort};
 use crate::connectives;
@@ -12,7 +12,7 @@ use number::Magnitude;
 
 // Any number over the last is read as the last.
 fn connect(connective: u8, a: bool, b: bool) -> bool
-    ensures { result ≡ paper.connect (connectiveOf connective) a b }
+    ensures { result ≡ paper.connect (connective_of connective) a b }
 {
     match connective {
         connectives::BOTH => a & b,
@@ -24,14 +24,14 @@ fn connect(connective: u8, a: bool, b: bool) -> bool
 impl Cell {
     // What "!" makes of the cell.
     pub fn inverted(self) -> Cell
-        ensures { Is (notValue (held self)) (held result) }
+        ensures { Is (not_value (held self)) (held result) }
     {
         Cell::truth(!self.is_true())
     }
 
     // What "-" makes of the cell.
     pub fn negated(self) -> Cell
-        ensures { Is (negateValue (held self)) (held result) }
+        ensures { Is (negate_value (held self)) (held result) }
     {
         let sort = self.sort;
         let first = self.first;
@@ -47,7 +47,7 @@ impl Cell {
 
     // What a connective makes of two cells.
     pub fn connected(self, connective: u8, right: Cell) -> Cell
-        ensures { Is (joinValue (connectiveOf connective) (held self) (held right)) (held result) }
+        ensures { Is (join_value (connective_of connective) (held self) (held right)) (held result) }
     {
         Cell::truth(connect(connective, self.is_true(), right.is_true()))
     }
@@ -67,7 +67,7 @@ impl Cell {
     // The cell converted to a kind and a width.
     pub fn converted(self, kind: u8, width: u8) -> Cell
         requires { width ≤ 128 }
-        ensures { Is (convertValue (kind_of kind) width (held self)) (held result) }
+        ensures { Is (convert_value (kind_of kind) width (held self)) (held result) }
     {
         Cell::one_value(kind, width, self.as_number(width))
     }

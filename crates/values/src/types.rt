@@ -1,9 +1,9 @@
 // Types: which are the same, which one converts to which, and where two of them meet.
 ghost use Rattle.std.specs.Prelude.{◌≡◌};
-ghost use Rattle.paper.specs.Keys.{kind_of, kindNo};
+ghost use Rattle.paper.specs.Keys.{kind_of, kind_no};
 ghost use Rattle.paper.specs.Types as paper;
 ghost use Rattle.paper.specs.Types.{bool, int, of, same_ty};
-ghost use Rattle.values.specs.Typed.{tyMeant, typingMeant};
+ghost use Rattle.values.specs.Typed.{ty_meant, typing_meant};
 
 use paper::kinds;
 
@@ -25,7 +25,7 @@ pub enum Typing {
 
 // The number of the kind that a number is read as.
 pub fn kind_number(kind: u8) -> u8
-    ensures { result ≡ kindNo (kind_of kind) }
+    ensures { result ≡ kind_no (kind_of kind) }
 {
     if kind < kinds::OPTIONAL {
         kind
@@ -36,7 +36,7 @@ pub fn kind_number(kind: u8) -> u8
 
 // Whether a type is bool.
 pub fn is_bool(a: Type) -> bool
-    ensures { result ≡ same_ty (tyMeant a) bool }
+    ensures { result ≡ same_ty (ty_meant a) bool }
 {
     match a {
         Type::Bool => true,
@@ -47,7 +47,7 @@ pub fn is_bool(a: Type) -> bool
 
 // Whether a type is int.
 fn is_int(a: Type) -> bool
-    ensures { result ≡ same_ty (tyMeant a) int }
+    ensures { result ≡ same_ty (ty_meant a) int }
 {
     match a {
         Type::Bool => false,
@@ -57,7 +57,7 @@ fn is_int(a: Type) -> bool
 }
 
 fn is_of(a: Type, kind: u8, width: u8) -> bool
-    ensures { result ≡ same_ty (tyMeant a) (of (kind_of kind) width) }
+    ensures { result ≡ same_ty (ty_meant a) (of (kind_of kind) width) }
 {
     match a {
         Type::Bool => false,
@@ -68,7 +68,7 @@ fn is_of(a: Type, kind: u8, width: u8) -> bool
 
 // Whether two types are equal in all fields.
 pub fn same(a: Type, b: Type) -> bool
-    ensures { result ≡ same_ty (tyMeant a) (tyMeant b) }
+    ensures { result ≡ same_ty (ty_meant a) (ty_meant b) }
 {
     match b {
         Type::Bool => is_bool(a),
@@ -79,7 +79,7 @@ pub fn same(a: Type, b: Type) -> bool
 
 // Whether a value of type b converts to type a.
 pub(crate) fn takes(a: Type, b: Type) -> bool
-    ensures { result ≡ paper.takes (tyMeant a) (tyMeant b) }
+    ensures { result ≡ paper.takes (ty_meant a) (ty_meant b) }
 {
     match a {
         Type::Bool => false,
@@ -91,14 +91,14 @@ pub(crate) fn takes(a: Type, b: Type) -> bool
 
 // A type, where a condition holds.
 pub(crate) fn when(right: bool, a: Type) -> Typing
-    ensures { typingMeant result ≡ paper.when right (tyMeant a) }
+    ensures { typing_meant result ≡ paper.when right (ty_meant a) }
 {
     if right { Typing::Is(a) } else { Typing::Wrong }
 }
 
 // The type in which two operands meet: their own, or that of the one to which the other is converted.
 pub fn meet(a: Type, b: Type) -> Typing
-    ensures { typingMeant result ≡ paper.meet (tyMeant a) (tyMeant b) }
+    ensures { typing_meant result ≡ paper.meet (ty_meant a) (ty_meant b) }
 {
     if same(a, b) {
         return Typing::Is(a);

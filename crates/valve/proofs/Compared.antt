@@ -11,65 +11,65 @@ use Rattle.paper.specs.declared.Checking.{Checking}
 use Rattle.paper.specs.declared.Checking.TheVariants as C
 use Rattle.paper.specs.declared.Judgement.{Judgement}
 use Rattle.paper.specs.declared.Judgement.TheVariants as J
-use Rattle.paper.specs.Answers.{Answer, checkingSays}
+use Rattle.paper.specs.Answers.{Answer, checking_says}
 use Rattle.paper.specs.Grammar as G
 use Rattle.paper.specs.Keys.{Key}
 use Rattle.paper.specs.Entry.{entry_of}
-use Rattle.paper.specs.Calls.{Restriction, judgeAnswer}
+use Rattle.paper.specs.Calls.{Restriction, judge_answer}
 use Rattle.paper.specs.Named.{names, marked}
-use Rattle.paper.specs.Rechecking.{reused, judged, passes, sameFrom, samePriority, reusesBy, recheckAnswer}
+use Rattle.paper.specs.Rechecking.{reused, judged, passes, same_from, same_priority, reuses_by, recheck_answer}
 use Rattle.paper.specs.Promised.{JudgePromised}
-use Rattle.keys.specs.Says.{keysIn, conforms}
+use Rattle.keys.specs.Says.{keys_in, conforms}
 use Rattle.keys.proofs.Conforming as K
 use Rattle.operands.specs.Conforming.{Conforming}
-use Rattle.trees.specs.Standing.{treeAt}
+use Rattle.trees.specs.Standing.{tree_at}
 use Rattle.reading.specs.Restricted.{Rooted, Restricts}
-use Rattle.reading.proofs.Stages.{not-restricted}
+use Rattle.reading.proofs.Stages.{not_restricted}
 use Rattle.valve.specs.declared.rechecks.Beside.TheVariants.{Same, Other}
-use Rattle.valve.specs.Beside.{Compared, sameIn}
+use Rattle.valve.specs.Beside.{Compared, same_in}
 use Rattle.valve.proofs.Verdicts as verdicts
 
 module _ (text list old new : List ℕ) where
-  by-test : {b : Bool} → sameIn text list old new ≡ b → (earlier : Answer Bool)
-      → recheckAnswer text list old earlier new ≡ cond b (reused earlier) (judged (judgeAnswer text list new))
-  unfolding recheckAnswer
-  by-test e earlier = rw e
+  by_test : {b : Bool} → same_in text list old new ≡ b → (earlier : Answer Bool)
+      → recheck_answer text list old earlier new ≡ cond b (reused earlier) (judged (judge_answer text list new))
+  unfolding recheck_answer
+  by_test e earlier = rw e
 
-  pub reused-as-given : sameIn text list old new ≡ true → Compared text list old new Same
-  reused-as-given e earlier = sym (by-test e earlier)
+  pub reused_as_given : same_in text list old new ≡ true → Compared text list old new Same
+  reused_as_given e earlier = sym (by_test e earlier)
 
-  pub judged-afresh : sameIn text list old new ≡ false → (j : Judgement) → JudgePromised text list new j → Compared text list old new (Other j)
-  judged-afresh e j right earlier = ap judged right ∙ sym (by-test e earlier)
+  pub judged_afresh : same_in text list old new ≡ false → (j : Judgement) → JudgePromised text list new j → Compared text list old new (Other j)
+  judged_afresh e j right earlier = ap judged right ∙ sym (by_test e earlier)
 
   -- where text or list are refused, and where an entry is, nothing is reused
 
-  pub not-passed : (nodes : List ℕ) (r : Counted) → Restricts text list nodes r
+  pub not_passed : (nodes : List ℕ) (r : Counted) → Restricts text list nodes r
       → {n : ℕ} {p : Place} → r ≡ S.Refused n p → Compared text list old new (Other (J.Refused n p))
-  not-passed nodes r told {n} {p} e =
-      judged-afresh (ap (λ (x : Answer Restriction). reusesBy x old new) (not-restricted text list nodes r told e)) (J.Refused n p) (verdicts.not-passed text list new nodes r told e)
+  not_passed nodes r told {n} {p} e =
+      judged_afresh (ap (λ (x : Answer Restriction). reuses_by x old new) (not_restricted text list nodes r told e)) (J.Refused n p) (verdicts.not_passed text list new nodes r told e)
 
   module _ (nodes : List ℕ) (k : ℕ) (r : Rooted text list nodes k) where
     abbrev ks : List Key
-    ks = keysIn list
+    ks = keys_in list
 
     abbrev root : G.Tree
-    root = treeAt text nodes k
+    root = tree_at text nodes k
 
     -- no named record differs and, if marked, the priority is the same
-    abbrev pub sameNamed : Bool
-    sameNamed = sameFrom (names ks root) old new 0 (length ks) && samePriority (marked root) old new
+    abbrev pub same_named : Bool
+    same_named = same_from (names ks root) old new 0 (length ks) && same_priority (marked root) old new
 
-    tests : (a b : Bool) → passes (entry_of ks old) ≡ a → passes (entry_of ks new) ≡ b → sameIn text list old new ≡ (a && b && sameFrom (names ks root) old new 0 (length ks) && samePriority (marked root) old new)
+    tests : (a b : Bool) → passes (entry_of ks old) ≡ a → passes (entry_of ks new) ≡ b → same_in text list old new ≡ (a && b && same_from (names ks root) old new 0 (length ks) && same_priority (marked root) old new)
     tests a b e f = rw (r.passed, e, f)
 
-    pub new-refused : (x : Checking) → checkingSays x ≡ conforms ks new
+    pub new_refused : (x : Checking) → checking_says x ≡ conforms ks new
         → {n : ℕ} {p : Place} → x ≡ C.Refused n p → Compared text list old new (Other (J.Refused n p))
-    new-refused x says {n} {p} e =
-        let stop : passes (entry_of ks new) ≡ false = ap passes (K.not_entered ks new (sym says ∙ ap checkingSays e)) in
-        judged-afresh (tests _ false refl stop ∙ rw (and-false (passes (entry_of ks old)))) (J.Refused n p) (verdicts.not_entered text list new nodes k r x says e)
+    new_refused x says {n} {p} e =
+        let stop : passes (entry_of ks new) ≡ false = ap passes (K.not_entered ks new (sym says ∙ ap checking_says e)) in
+        judged_afresh (tests _ false refl stop ∙ rw (and-false (passes (entry_of ks old)))) (J.Refused n p) (verdicts.not_entered text list new nodes k r x says e)
 
-    pub old-refused : (x : Checking) → checkingSays x ≡ conforms ks old → {n : ℕ} {p : Place} → x ≡ C.Refused n p → false ≡ sameIn text list old new
-    old-refused x says e = sym (tests false _ (ap passes (K.not_entered ks old (sym says ∙ ap checkingSays e))) refl)
+    pub old_refused : (x : Checking) → checking_says x ≡ conforms ks old → {n : ℕ} {p : Place} → x ≡ C.Refused n p → false ≡ same_in text list old new
+    old_refused x says e = sym (tests false _ (ap passes (K.not_entered ks old (sym says ∙ ap checking_says e))) refl)
 
-    pub both-enter : Conforming list old → Conforming list new → sameNamed ≡ sameIn text list old new
-    both-enter was is = sym (tests true true (ap passes was.entered) (ap passes is.entered))
+    pub both_enter : Conforming list old → Conforming list new → same_named ≡ same_in text list old new
+    both_enter was is = sym (tests true true (ap passes was.entered) (ap passes is.entered))

@@ -13,12 +13,12 @@ use Rattle.paper.specs.declared.Place.TheVariants as P
 use Rattle.paper.specs.declared.Counted.{Counted}
 use Rattle.paper.specs.declared.Counted.TheVariants as S
 use Rattle.paper.specs.declared.Fixing.TheVariants as F
-use Rattle.paper.specs.Answers.{Answer, ok, refused, ◌>>=◌, inText, inBuffer, input_of, offset_of, countedSays}
-use Rattle.paper.specs.Tokens.{Token, mostText}
+use Rattle.paper.specs.Answers.{Answer, ok, refused, ◌>>=◌, InText, inBuffer, input_of, offset_of, counted_says}
+use Rattle.paper.specs.Tokens.{Token, most_text}
 use Rattle.paper.specs.Calls.{over, laid, lends}
-use Rattle.paper.specs.Fixing.{oldTokens, fixed, fixable, fixAnswer, fixBuffer, fixingSays}
+use Rattle.paper.specs.Fixing.{old_tokens, fixed, fixable, fix_answer, fix_buffer, fixing_says}
 use Rattle.paper.specs.Promised.{FixResult, FixPromised}
-use Rattle.paper.proofs.NeverLonger.{never-longer}
+use Rattle.paper.proofs.NeverLonger.{never_longer}
 use Rattle.tokens.specs.Fixes.{StandsFirst, Fixes}
 
 -- a refusal leaves the buffer
@@ -27,64 +27,64 @@ refusal n p buffer = record { answer = F.Refused n p; buffer = buffer }
 
 -- by what the call is to lend, or the refusal in its place
 promised : {text buffer : List ℕ} {a : Answer (List ℕ)} → fixable text buffer ≡ a → (r : FixResult)
-    → fixingSays r.answer ≡ (a >>= λ s. ok (length s)) → r.buffer ≡ laid a buffer → FixPromised text buffer r
-unfolding fixAnswer fixBuffer
+    → fixing_says r.answer ≡ (a >>= λ s. ok (length s)) → r.buffer ≡ laid a buffer → FixPromised text buffer r
+unfolding fix_answer fix_buffer
 promised e r says holds = record { says = rw e says; holds = rw e holds }
 
-pub too_long : (text buffer : List ℕ) → mostText < length text → FixPromised text buffer (refusal 1 (P.Text mostText) buffer)
+pub too_long : (text buffer : List ℕ) → most_text < length text → FixPromised text buffer (refusal 1 (P.Text most_text) buffer)
 unfolding fixable
 too_long text buffer h =
-    let past : fixable text buffer ≡ refused 1 inText mostText = rw (lt-leb (length text) mostText h) in
+    let past : fixable text buffer ≡ refused 1 InText most_text = rw (lt-leb (length text) most_text h) in
     promised past _ refl refl
 
 -- the result stands first in the scratch
 pub record Fixed (text scratch : List ℕ) (n : ℕ) : Type 0 where
   pub tokens : List Token
-  pub cut : oldTokens text ≡ ok tokens
+  pub cut : old_tokens text ≡ ok tokens
   pub count : n ≡ length (fixed text)
   pub bytes : take n scratch ≡ fixed text
   pub short : n ≤ length text
 
 module _ (text scratch : List ℕ) (r : Counted) (fixes : Fixes text scratch r) where
-  pub not-fixed : {n : ℕ} {p : Place} (buffer : List ℕ) → length text ≤ mostText → r ≡ S.Refused n p → FixPromised text buffer (refusal n p buffer)
+  pub not_fixed : {n : ℕ} {p : Place} (buffer : List ℕ) → length text ≤ most_text → r ≡ S.Refused n p → FixPromised text buffer (refusal n p buffer)
   unfolding fixable
-  not-fixed {n} {p} buffer few e = go (oldTokens text) refl (ap countedSays (sym e) ∙ fixes.says)
+  not_fixed {n} {p} buffer few e = go (old_tokens text) refl (ap counted_says (sym e) ∙ fixes.says)
     where
-      go : (a : Answer (List Token)) → oldTokens text ≡ a → refused n (input_of p) (offset_of p) ≡ (a >>= λ _. ok (length (fixed text)))
+      go : (a : Answer (List Token)) → old_tokens text ≡ a → refused n (input_of p) (offset_of p) ≡ (a >>= λ _. ok (length (fixed text)))
           → FixPromised text buffer (refusal n p buffer)
       go (ok ts) o f = let z : ◌≡◌ {A = ℕ} 0 1 = cc in absurd (omega arith)
       go (refused m i at) o f =
-          let old : fixable text buffer ≡ refused m i at = rw (le-leb (length text) mostText few, o) in
+          let old : fixable text buffer ≡ refused m i at = rw (le-leb (length text) most_text few, o) in
           promised old _ f refl
 
-  pub is-fixed : {n : ℕ} → r ≡ S.Count n → Fixed text scratch n
-  is-fixed {n} e = go (oldTokens text) refl (ap countedSays (sym e) ∙ fixes.says) (subst (StandsFirst (fixed text) scratch) e fixes.holds)
+  pub is_fixed : {n : ℕ} → r ≡ S.Count n → Fixed text scratch n
+  is_fixed {n} e = go (old_tokens text) refl (ap counted_says (sym e) ∙ fixes.says) (subst (StandsFirst (fixed text) scratch) e fixes.holds)
     where
-      go : (a : Answer (List Token)) → oldTokens text ≡ a → ok n ≡ (a >>= λ _. ok (length (fixed text))) → take n scratch ≡ fixed text → Fixed text scratch n
+      go : (a : Answer (List Token)) → old_tokens text ≡ a → ok n ≡ (a >>= λ _. ok (length (fixed text))) → take n scratch ≡ fixed text → Fixed text scratch n
       go (ok ts) o f s =
           let count : n ≡ length (fixed text) = cc in
-          record { tokens = ts; cut = o; count = count; bytes = s; short = omega (arith, never-longer text) }
+          record { tokens = ts; cut = o; count = count; bytes = s; short = omega (arith, never_longer text) }
       go (refused m i at) o f s = let z : ◌≡◌ {A = ℕ} 0 1 = cc in absurd (omega arith)
 
-module _ {text scratch : List ℕ} {n : ℕ} (f : Fixed text scratch n) (few : length text ≤ mostText) (buffer : List ℕ) where
-  lends-it : {a : Answer (List ℕ)} → lends (fixed text) buffer ≡ a → fixable text buffer ≡ a
+module _ {text scratch : List ℕ} {n : ℕ} (f : Fixed text scratch n) (few : length text ≤ most_text) (buffer : List ℕ) where
+  lends_it : {a : Answer (List ℕ)} → lends (fixed text) buffer ≡ a → fixable text buffer ≡ a
   unfolding fixable
-  lends-it e = rw (le-leb (length text) mostText few, f.cut) e
+  lends_it e = rw (le-leb (length text) most_text few, f.cut) e
 
-  within-limit : leb (length (fixed text)) mostText ≡ true
-  within-limit = le-leb (length (fixed text)) mostText (omega (arith, f.count, f.short))
+  within_limit : leb (length (fixed text)) most_text ≡ true
+  within_limit = le-leb (length (fixed text)) most_text (omega (arith, f.count, f.short))
 
   pub no_room : length buffer < n → FixPromised text buffer (refusal 21 (P.Buffer (length buffer)) buffer)
   no_room h =
       let past : lends (fixed text) buffer ≡ refused 21 inBuffer (length buffer) =
-      rw (within-limit, lt-leb (length (fixed text)) (length buffer) (omega (arith, f.count)))
+      rw (within_limit, lt-leb (length (fixed text)) (length buffer) (omega (arith, f.count)))
       in
-      promised (lends-it past) _ refl refl
+      promised (lends_it past) _ refl refl
 
   pub lent : (exit : List ℕ) → n ≤ length buffer → exit ≡ over (take n scratch) buffer
       → FixPromised text buffer (record { answer = F.Fixed n; buffer = exit })
   lent exit h e =
       let fits : lends (fixed text) buffer ≡ ok (fixed text) =
-      rw (within-limit, le-leb (length (fixed text)) (length buffer) (omega (arith, f.count)))
+      rw (within_limit, le-leb (length (fixed text)) (length buffer) (omega (arith, f.count)))
       in
-      promised (lends-it fits) _ (ap ok f.count) (rw f.bytes at e)
+      promised (lends_it fits) _ (ap ok f.count) (rw f.bytes at e)

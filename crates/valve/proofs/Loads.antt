@@ -6,49 +6,49 @@ use lib.ListN.{length}
 use Rattle.paper.specs.declared.Place.{Place}
 use Rattle.paper.specs.declared.Counted.{Counted}
 use Rattle.paper.specs.declared.Counted.TheVariants as S
-use Rattle.paper.specs.Answers.{Answer, ok, refused, ◌>>=◌, Input, input_of, offset_of, countedSays}
+use Rattle.paper.specs.Answers.{Answer, ok, refused, ◌>>=◌, Input, input_of, offset_of, counted_says}
 use Rattle.paper.specs.Keys.{Key}
-use Rattle.paper.specs.Blocks.{totalOf, layout}
-use Rattle.paper.specs.Loading.{instructionsFrom, typesAlong, loadCheck, loaded}
-use Rattle.paper.specs.Calls.{loadAnswer}
-use Rattle.paper.proofs.Stages.{refused-up, counted-on}
-use Rattle.keys.specs.Says.{keysIn, keyCount}
+use Rattle.paper.specs.Blocks.{total_of, layout}
+use Rattle.paper.specs.Loading.{instructions_from, types_along, load_check, loaded}
+use Rattle.paper.specs.Calls.{load_answer}
+use Rattle.paper.proofs.Stages.{refused_up, counted_on}
+use Rattle.keys.specs.Says.{keys_in, key_count}
 use Rattle.keys.proofs.Records.{keys_length}
 use Rattle.keys.proofs.Checked.{listed, not_listed}
-use Rattle.blocks.specs.Layout.{laidOut}
+use Rattle.blocks.specs.Layout.{laid_out}
 
 module _ (ks : List Key) (blocks : List ℕ) where
   -- the load check of n instructions
-  abbrev typesOk : ℕ → Answer (Unit {0})
-  typesOk n = loadCheck (length blocks) (typesAlong ks (instructionsFrom blocks 0 n))
+  abbrev types_ok : ℕ → Answer (Unit {0})
+  types_ok n = load_check (length blocks) (types_along ks (instructions_from blocks 0 n))
 
   total_kept : (a : Answer (Unit {0})) (n : ℕ) →
-      (a >>= λ _. typesOk n >>= λ _. ok n) ≡ ((a >>= λ _. ok n) >>= λ m. typesOk m >>= λ _. ok m)
+      (a >>= λ _. types_ok n >>= λ _. ok n) ≡ ((a >>= λ _. ok n) >>= λ m. types_ok m >>= λ _. ok m)
   total_kept (ok u) n = refl
   total_kept (refused k i at) n = refl
 
-  staged : loaded ks blocks ≡ (laidOut (length ks) blocks >>= λ m. typesOk m >>= λ _. ok m)
+  staged : loaded ks blocks ≡ (laid_out (length ks) blocks >>= λ m. types_ok m >>= λ _. ok m)
   unfolding loaded
-  staged = total_kept (layout (length ks) blocks) (totalOf blocks)
+  staged = total_kept (layout (length ks) blocks) (total_of blocks)
 
   -- the layout's answer: a refusal is passed up, a count goes on to the types
-  module _ (r : Counted) (says : countedSays r ≡ laidOut (length ks) blocks) where
-    pub layout-refused : {k : ℕ} {p : Place} → r ≡ S.Refused k p → refused k (input_of p) (offset_of p) ≡ loaded ks blocks
-    layout-refused e = refused-up (λ m. typesOk m >>= λ _. ok m) r says e ∙ sym staged
+  module _ (r : Counted) (says : counted_says r ≡ laid_out (length ks) blocks) where
+    pub layout_refused : {k : ℕ} {p : Place} → r ≡ S.Refused k p → refused k (input_of p) (offset_of p) ≡ loaded ks blocks
+    layout_refused e = refused_up (λ m. types_ok m >>= λ _. ok m) r says e ∙ sym staged
 
-    pub types-told : {n : ℕ} {a : Answer (Unit {0})} → r ≡ S.Count n → typesOk n ≡ a → (a >>= λ _. ok n) ≡ loaded ks blocks
-    types-told {n} e f =
-        sym (ap (λ (x : Answer (Unit {0})). x >>= λ _. ok n) f) ∙ counted-on (λ m. typesOk m >>= λ _. ok m) r says e ∙ sym staged
+    pub types_told : {n : ℕ} {a : Answer (Unit {0})} → r ≡ S.Count n → types_ok n ≡ a → (a >>= λ _. ok n) ≡ loaded ks blocks
+    types_told {n} e f =
+        sym (ap (λ (x : Answer (Unit {0})). x >>= λ _. ok n) f) ∙ counted_on (λ m. types_ok m >>= λ _. ok m) r says e ∙ sym staged
 
 module _ (list blocks : List ℕ) where
-  pub list-refused : {k : ℕ} {i : Input} {at : ℕ} → keyCount list ≡ refused k i at → refused k i at ≡ loadAnswer list blocks
-  unfolding loadAnswer
-  list-refused e = sym (ap (λ (x : Answer (List Key)). x >>= λ ks. loaded ks blocks) (not_listed list e))
+  pub list_refused : {k : ℕ} {i : Input} {at : ℕ} → key_count list ≡ refused k i at → refused k i at ≡ load_answer list blocks
+  unfolding load_answer
+  list_refused e = sym (ap (λ (x : Answer (List Key)). x >>= λ ks. loaded ks blocks) (not_listed list e))
 
-  module _ {n : ℕ} (e : keyCount list ≡ ok n) where
-    pub keys-counted : n ≡ length (keysIn list)
-    keys-counted = (listed list e).1 ∙ sym (keys_length list 0 _)
+  module _ {n : ℕ} (e : key_count list ≡ ok n) where
+    pub keys_counted : n ≡ length (keys_in list)
+    keys_counted = (listed list e).1 ∙ sym (keys_length list 0 _)
 
-    pub list-passed : loaded (keysIn list) blocks ≡ loadAnswer list blocks
-    unfolding loadAnswer
-    list-passed = sym (ap (λ (x : Answer (List Key)). x >>= λ ks. loaded ks blocks) (listed list e).0)
+    pub list_passed : loaded (keys_in list) blocks ≡ load_answer list blocks
+    unfolding load_answer
+    list_passed = sym (ap (λ (x : Answer (List Key)). x >>= λ ks. loaded ks blocks) (listed list e).0)

@@ -11,15 +11,15 @@ use Rattle.paper.specs.declared.Counted.{Counted}
 use Rattle.paper.specs.declared.Counted.TheVariants as S
 use Rattle.paper.specs.declared.Printing.{Printing}
 use Rattle.paper.specs.declared.Printing.TheVariants as W
-use Rattle.paper.specs.Answers.{Answer, ok, refused, ◌>>=◌, inText, input_of, offset_of}
-use Rattle.paper.specs.Tokens.{mostText}
+use Rattle.paper.specs.Answers.{Answer, ok, refused, ◌>>=◌, InText, input_of, offset_of}
+use Rattle.paper.specs.Tokens.{most_text}
 use Rattle.paper.specs.Grammar.{Tree}
 use Rattle.paper.specs.Print.{rung, looser, enclosed, print}
-use Rattle.paper.specs.Calls.{tree, over, lends, laid, printable, printAnswer, printBuffer}
+use Rattle.paper.specs.Calls.{tree, over, lends, laid, printable, print_answer, print_buffer}
 use Rattle.paper.specs.Promised.{PrintResult, PrintPromised}
-use Rattle.trees.specs.Standing.{treeAt}
+use Rattle.trees.specs.Standing.{tree_at}
 use Rattle.printing.specs.Writing.{Wrote}
-use Rattle.printing.proofs.FromTheStart.{Whole, came-to-the-end, came-past-the-room}
+use Rattle.printing.proofs.FromTheStart.{Whole, came_to_the_end, came_past_the_room}
 use Rattle.reading.specs.Grown.{Planted, Grows}
 use Rattle.valve.specs.Lent.{Lent}
 
@@ -30,71 +30,71 @@ refusal n p buffer = record { answer = W.Refused n p; buffer = buffer }
 -- bytes that are lent, or not
 
 module _ (new buffer : List ℕ) where
-  pub over-scratch : mostText < length new → Lent new buffer (refusal 21 (P.Buffer (length buffer)) buffer)
-  over-scratch h = record { says = rw (lt-leb (length new) mostText h); holds = rw (lt-leb (length new) mostText h) }
+  pub over_scratch : most_text < length new → Lent new buffer (refusal 21 (P.Buffer (length buffer)) buffer)
+  over_scratch h = record { says = rw (lt-leb (length new) most_text h); holds = rw (lt-leb (length new) most_text h) }
 
-  pub over-buffer : length new ≤ mostText → length buffer < length new → Lent new buffer (refusal 21 (P.Buffer (length buffer)) buffer)
-  over-buffer few h =
+  pub over_buffer : length new ≤ most_text → length buffer < length new → Lent new buffer (refusal 21 (P.Buffer (length buffer)) buffer)
+  over_buffer few h =
       record {
-        says = rw (le-leb (length new) mostText few, lt-leb (length new) (length buffer) h);
-        holds = rw (le-leb (length new) mostText few, lt-leb (length new) (length buffer) h);
+        says = rw (le-leb (length new) most_text few, lt-leb (length new) (length buffer) h);
+        holds = rw (le-leb (length new) most_text few, lt-leb (length new) (length buffer) h);
       }
 
-  pub lent-whole : length new ≤ mostText → length new ≤ length buffer
+  pub lent_whole : length new ≤ most_text → length new ≤ length buffer
       → Lent new buffer (record { answer = W.Printed (length new); buffer = over new buffer })
-  lent-whole few room =
+  lent_whole few room =
       record {
-        says = rw (le-leb (length new) mostText few, le-leb (length new) (length buffer) room);
-        holds = rw (le-leb (length new) mostText few, le-leb (length new) (length buffer) room);
+        says = rw (le-leb (length new) most_text few, le-leb (length new) (length buffer) room);
+        holds = rw (le-leb (length new) most_text few, le-leb (length new) (length buffer) room);
       }
 
 -- a print written to a scratch of the limit's length, as far as that went
-module _ {scratch written : List ℕ} {n : ℕ} (t : Tree) (limit : length scratch ≡ mostText)
+module _ {scratch written : List ℕ} {n : ℕ} (t : Tree) (limit : length scratch ≡ most_text)
     (writes : Wrote scratch 0 (enclosed (looser 0 t) (print t)) written n) (buffer : List ℕ) where
   -- nothing is looser than the loosest rung
-  writes-print : Wrote scratch 0 (print t) written n
-  writes-print = subst (λ b. Wrote scratch 0 (enclosed b (print t)) written n) (le-ltb (rung t) 0 (omega arith)) writes
+  writes_print : Wrote scratch 0 (print t) written n
+  writes_print = subst (λ b. Wrote scratch 0 (enclosed b (print t)) written n) (le-ltb (rung t) 0 (omega arith)) writes
 
-  whole : n ≤ mostText → Whole scratch (print t) written n
-  whole few = came-to-the-end writes-print (omega (arith, limit, few))
+  whole : n ≤ most_text → Whole scratch (print t) written n
+  whole few = came_to_the_end writes_print (omega (arith, limit, few))
 
-  pub past-the-limit : mostText < n → (answer : Printing) → answer ≡ W.Refused 21 (P.Buffer (length buffer))
+  pub past_the_limit : most_text < n → (answer : Printing) → answer ≡ W.Refused 21 (P.Buffer (length buffer))
       → Lent (print t) buffer (record { answer = answer; buffer = buffer })
-  past-the-limit many answer e =
-      let over-it = came-past-the-room writes-print (omega (arith, limit, many)) in
-      rw e (over-scratch (print t) buffer (omega (arith, limit, over-it)))
+  past_the_limit many answer e =
+      let over-it = came_past_the_room writes_print (omega (arith, limit, many)) in
+      rw e (over_scratch (print t) buffer (omega (arith, limit, over-it)))
 
-  pub past-the-buffer : n ≤ mostText → length buffer < n → (answer : Printing) → answer ≡ W.Refused 21 (P.Buffer (length buffer))
+  pub past_the_buffer : n ≤ most_text → length buffer < n → (answer : Printing) → answer ≡ W.Refused 21 (P.Buffer (length buffer))
       → Lent (print t) buffer (record { answer = answer; buffer = buffer })
-  past-the-buffer few h answer e =
+  past_the_buffer few h answer e =
       let w = whole few in
-      rw e (over-buffer (print t) buffer (omega (arith, limit, w.room)) (omega (arith, h, w.count)))
+      rw e (over_buffer (print t) buffer (omega (arith, limit, w.room)) (omega (arith, h, w.count)))
 
   -- what is written fits the scratch
-  pub written-there : n ≤ mostText → n ≤ length written
-  written-there few = omega (arith, few, limit, writes.kept)
+  pub written_there : n ≤ most_text → n ≤ length written
+  written_there few = omega (arith, few, limit, writes.kept)
 
-  pub lent-first : n ≤ mostText → n ≤ length buffer → (exit : List ℕ) → exit ≡ over (take n written) buffer
+  pub lent_first : n ≤ most_text → n ≤ length buffer → (exit : List ℕ) → exit ≡ over (take n written) buffer
       → Lent (print t) buffer (record { answer = W.Printed n; buffer = exit })
-  lent-first few h exit e =
+  lent_first few h exit e =
       let w = whole few in
-      rw (e, w.bytes, w.count) (lent-whole (print t) buffer (omega (arith, limit, w.room)) (omega (arith, h, w.count)))
+      rw (e, w.bytes, w.count) (lent_whole (print t) buffer (omega (arith, limit, w.room)) (omega (arith, h, w.count)))
 
 -- by the stages of the call
 module _ (text buffer : List ℕ) where
-  pub too_long : mostText < length text → PrintPromised text buffer (refusal 1 (P.Text mostText) buffer)
-  unfolding printAnswer printBuffer printable
-  too_long h = record { says = rw (lt-leb (length text) mostText h); holds = rw (lt-leb (length text) mostText h) }
+  pub too_long : most_text < length text → PrintPromised text buffer (refusal 1 (P.Text most_text) buffer)
+  unfolding print_answer print_buffer printable
+  too_long h = record { says = rw (lt-leb (length text) most_text h); holds = rw (lt-leb (length text) most_text h) }
 
-  module _ (h : length text ≤ mostText) (nodes : List ℕ) (r : Counted) (grows : Grows text nodes r) where
-    pub not-printed : {n : ℕ} {p : Place} → r ≡ S.Refused n p → PrintPromised text buffer (refusal n p buffer)
-    unfolding printAnswer printBuffer printable
-    not-printed {n} {p} e =
+  module _ (h : length text ≤ most_text) (nodes : List ℕ) (r : Counted) (grows : Grows text nodes r) where
+    pub not_printed : {n : ℕ} {p : Place} → r ≡ S.Refused n p → PrintPromised text buffer (refusal n p buffer)
+    unfolding print_answer print_buffer printable
+    not_printed {n} {p} e =
         let g : tree text ≡ refused n (input_of p) (offset_of p) = subst (Grows text nodes) e grows in
-        record { says = rw (le-leb (length text) mostText h, g); holds = rw (le-leb (length text) mostText h, g) }
+        record { says = rw (le-leb (length text) most_text h, g); holds = rw (le-leb (length text) most_text h, g) }
 
-  pub is-printed : length text ≤ mostText → {nodes : List ℕ} {m : ℕ} → Planted text nodes m → (result : PrintResult)
-      → Lent (print (treeAt text nodes (m - 1))) buffer result → PrintPromised text buffer result
-  unfolding printAnswer printBuffer printable
-  is-printed h g result lent =
-      record { says = rw (le-leb (length text) mostText h, g.read) lent.says; holds = rw (le-leb (length text) mostText h, g.read) lent.holds }
+  pub is_printed : length text ≤ most_text → {nodes : List ℕ} {m : ℕ} → Planted text nodes m → (result : PrintResult)
+      → Lent (print (tree_at text nodes (m - 1))) buffer result → PrintPromised text buffer result
+  unfolding print_answer print_buffer printable
+  is_printed h g result lent =
+      record { says = rw (le-leb (length text) most_text h, g.read) lent.says; holds = rw (le-leb (length text) most_text h, g.read) lent.holds }

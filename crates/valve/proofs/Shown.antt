@@ -112,11 +112,11 @@ module _ {M : Type 1} {𝓤 : Ura M} (𝓛 : Logic 𝓤) (mem : Memory → SProp
   Explain = triple_of 𝓛 explain.signature (explain.spec 𝓛 mem run)
 
   module _ (x : Loan) where
-    abbrev to-explain : Explain.Ghost
-    to-explain = ((κs x, qs x, tt, slices x, vals x), tt)
+    abbrev to_explain : Explain.Ghost
+    to_explain = ((κs x, qs x, tt, slices x, vals x), tt)
 
-    ask-explain : ent 𝓤 (Entered 𝓛 x) (Explain.pre to-explain)
-    ask-explain = qed 𝓛 (tokens 𝓛 x ∷ ‵ (OwnAll x) ∷ []) ∵ join ! $ frame ! $ done !
+    ask_explain : ent 𝓤 (Entered 𝓛 x) (Explain.pre to_explain)
+    ask_explain = qed 𝓛 (tokens 𝓛 x ∷ ‵ (OwnAll x) ∷ []) ∵ join ! $ frame ! $ done !
 
     abbrev Ensured : Explained → SProp 𝓤
     Ensured r = ensured 𝓛 explain.ended (explain.clauses 𝓛 mem run) (κs x) (slices x) tt r
@@ -139,16 +139,16 @@ module _ {M : Type 1} {𝓤 : Ura M} (𝓛 : Logic 𝓤) (mem : Memory → SProp
       (Post : Val → SProp 𝓤) (exits : (r : Explained) → Said x r → ent 𝓤 (⋆ 𝓛 (left r)) (Post (value_of x k r))) (C : Calls 𝓤 H) (Λ : Loops 𝓤 H) (fm : FmC 𝓤 H 𝓛.laws C) (known : Triple 𝓤 (C #explain) (Explain 𝓛 mem run)) where
     pub walk : Is (Bytes 0 x.κ) x.text (at x.text ∷ []) → Is (Bytes 1 x.κ') x.list (at x.list ∷ []) → Is (Bytes 2 x.κ'') x.entry (at x.entry ∷ [])
         → ent 𝓤 (Entered 𝓛 x) (WpFn 𝓤 H C Λ (handing k) (at x.text ∷ at x.list ∷ at x.entry ∷ []) Post)
-    walk is-text is-list is-entry =
+    walk is-text is-list is_entry =
         qed 𝓛 (raw (Entered 𝓛 x) ∷ []) ∵ enter ! C Λ (handing k) (at x.text ∷ at x.list ∷ at x.entry ∷ []) _ $
         alloc1 ! (λ l₀. alloc1 ! (λ l₁. alloc1 ! (λ l₂. alloc1 ! (λ l₃. alloc1 ! (λ l₄. alloc0 ! $ params1 ! $
         pass1 ! (init ! 6 refl ((shr_slice_Lawful 𝓛 (named 0) x.κ u8).typed x.text _ is-text).0) $
         pass1 ! (init ! 4 refl ((shr_slice_Lawful 𝓛 (named 1) x.κ' u8).typed x.list _ is-list).0) $
-        pass1 ! (init ! 2 refl ((shr_slice_Lawful 𝓛 (named 2) x.κ'' u8).typed x.entry _ is-entry).0) $ pass0 ! $
-        move ! (10 ∷ []) $ use1 𝓛 (raw ((Explain 𝓛 mem run).pre (to-explain 𝓛 mem run x)) ⊛ ‵ (OwnEntry x) ⊛ ‵ (OwnList x) ⊛ ‵ (OwnText x)) (passed_on 𝓛 x ((Explain 𝓛 mem run).pre (to-explain 𝓛 mem run x)) (ask-explain 𝓛 mem run x)) $
+        pass1 ! (init ! 2 refl ((shr_slice_Lawful 𝓛 (named 2) x.κ'' u8).typed x.entry _ is_entry).0) $ pass0 ! $
+        move ! (10 ∷ []) $ use1 𝓛 (raw ((Explain 𝓛 mem run).pre (to_explain 𝓛 mem run x)) ⊛ ‵ (OwnEntry x) ⊛ ‵ (OwnList x) ⊛ ‵ (OwnText x)) (passed_on 𝓛 x ((Explain 𝓛 mem run).pre (to_explain 𝓛 mem run x)) (ask_explain 𝓛 mem run x)) $
         split ! $ move ! (1 ∷ []) $ split ! $ move ! (1 ∷ []) $ split ! $ move ! (3 ∷ 2 ∷ 0 ∷ 1 ∷ []) $
         -- [what is asked; entry; list; text; _4; …]
-        calls_at ! fm (Explain 𝓛 mem run) known (to-explain 𝓛 mem run x) (and_then ! (load ! (from ! (stop !)) (look ! 10 refl)) (and_then ! (load ! (from ! (stop !)) (look ! 8 refl)) (and_then ! (load ! (from ! (stop !)) (look ! 6 refl)) (no_more !)))) (λ u.
+        calls_at ! fm (Explain 𝓛 mem run) known (to_explain 𝓛 mem run x) (and_then ! (load ! (from ! (stop !)) (look ! 10 refl)) (and_then ! (load ! (from ! (stop !)) (look ! 8 refl)) (and_then ! (load ! (from ! (stop !)) (look ! 6 refl)) (no_more !)))) (λ u.
         use1 𝓛 (answered 𝓛 mem run x u) (id⊢ 𝓤 _) $ await ! tt $ pick ! (λ r.
         split ! $ move ! (1 ∷ []) $ use1 𝓛 (raw (fact 𝓤 (Said x r))) (said 𝓛 mem run x r) $ heard ! (Said x r) (λ promised. split ! $ move ! (1 ∷ []) $
         -- [struct; tokens; entry; list; text; _4; …]

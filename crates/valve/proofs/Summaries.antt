@@ -7,11 +7,11 @@ use Rattle.paper.specs.declared.Counted.{Counted}
 use Rattle.paper.specs.declared.Counted.TheVariants as S
 use Rattle.paper.specs.Answers.{ok, refused, input_of, offset_of}
 use Rattle.paper.specs.Named as P
-use Rattle.paper.specs.Named.{names, marked, summaryAnswer}
-use Rattle.keys.specs.Says.{keysIn}
-use Rattle.trees.specs.Standing.{treeAt}
+use Rattle.paper.specs.Named.{names, marked, summary_answer}
+use Rattle.keys.specs.Says.{keys_in}
+use Rattle.trees.specs.Standing.{tree_at}
 use Rattle.reading.specs.Restricted.{Rooted, Restricts}
-use Rattle.reading.proofs.Stages.{not-restricted}
+use Rattle.reading.proofs.Stages.{not_restricted}
 use Rattle.summarizing.specs.declared.set.Summary.{Summary}
 use Rattle.summarizing.specs.Sums.{Sums}
 
@@ -20,12 +20,12 @@ abbrev pub meant : Summary → P.Summary
 meant s = record { keys = s.keys; priority = s.priority }
 
 module _ (text list : List ℕ) where
-  pub not-passed : (nodes : List ℕ) (r : Counted) → Restricts text list nodes r
-      → {n : ℕ} {p : Place} → r ≡ S.Refused n p → refused n (input_of p) (offset_of p) ≡ summaryAnswer text list
-  unfolding summaryAnswer
-  not-passed nodes r told e = rw (not-restricted text list nodes r told e)
+  pub not_passed : (nodes : List ℕ) (r : Counted) → Restricts text list nodes r
+      → {n : ℕ} {p : Place} → r ≡ S.Refused n p → refused n (input_of p) (offset_of p) ≡ summary_answer text list
+  unfolding summary_answer
+  not_passed nodes r told e = rw (not_restricted text list nodes r told e)
 
-  pub summed-up : (nodes : List ℕ) (k : ℕ) → Rooted text list nodes k → (s : Summary)
-      → Sums (names (keysIn list) (treeAt text nodes k)) (marked (treeAt text nodes k)) s → ok (meant s) ≡ summaryAnswer text list
-  unfolding summaryAnswer
-  summed-up nodes k r s h = rw (r.passed, h.keys, h.priority)
+  pub summed_up : (nodes : List ℕ) (k : ℕ) → Rooted text list nodes k → (s : Summary)
+      → Sums (names (keys_in list) (tree_at text nodes k)) (marked (tree_at text nodes k)) s → ok (meant s) ≡ summary_answer text list
+  unfolding summary_answer
+  summed_up nodes k r s h = rw (r.passed, h.keys, h.priority)

@@ -1,12 +1,12 @@
 // Blocks of another translator against a text: the refusals of a check, then those of the blocks, then whether they agree.
 ghost use Rattle.std.specs.Prelude.{◌≡◌, List, ℕ, ◌*◌, ◌≤◌};
 ghost use Rattle.paper.specs.Answers.{ok};
-ghost use Rattle.paper.specs.Blocks.{in_block, blocksIn};
-ghost use Rattle.paper.specs.Comparing.{agreementSays};
+ghost use Rattle.paper.specs.Blocks.{in_block, blocks_in};
+ghost use Rattle.paper.specs.Comparing.{agreement_says};
 ghost use Rattle.paper.specs.Promised.{ComparePromised};
 ghost use Rattle.reading.specs.Grown.{RowRoom};
 ghost use Rattle.reading.specs.Parted.{PassedParts, RestrictsParts};
-ghost use Rattle.valve.specs.Divided.{fitsParts};
+ghost use Rattle.valve.specs.Divided.{fits_parts};
 
 use crate::loading;
 use blocks::Block;
@@ -25,7 +25,7 @@ const CODE: usize = NODE_CODE * reading::MOST_NODES + FIRST_JOINED;
 const STARTS: usize = parts::MOST_PARTS + 1;
 
 fn agreement(agrees: bool) -> Agreement
-    ensures { agreementSays result ≡ ok agrees }
+    ensures { agreement_says result ≡ ok agrees }
 {
     if agrees {
         return Agreement::Agrees;
@@ -42,10 +42,10 @@ fn agrees_by(
     rows: &[u32],
     n: usize,
 ) -> bool
-    requires count_bound { count ≤ in_block * blocksIn blocks.now }
+    requires count_bound { count ≤ in_block * blocks_in blocks.now }
     requires by_index { (text : List ℕ) × PassedParts text list.now nodes.now rows.now n }
     ensures { (text : List ℕ) → PassedParts text list.now nodes.now rows.now n
-        → result ≡ fitsParts text list.now nodes.now rows.now n blocks.now count }
+        → result ≡ fits_parts text list.now nodes.now rows.now n blocks.now count }
 {
     let mut code = [0u8; CODE];
     let mut starts = [0u32; STARTS];

@@ -1,6 +1,6 @@
 // A text on file with its octal numerals in hex: refusal 1, then 5 to 7 by the old rules, then 21.
 ghost use Rattle.std.specs.Prelude.{◌≤◌, length};
-ghost use Rattle.paper.specs.Tokens.{mostText};
+ghost use Rattle.paper.specs.Tokens.{most_text};
 ghost use Rattle.paper.specs.Promised.{FixPromised};
 ghost use Rattle.reading.specs.Grown.{Short};
 
@@ -10,7 +10,7 @@ use tokens::fixing;
 
 // It is written to a scratch first, so that the buffer is known to be large enough before its first byte changes.
 fn fix_in(text: &[u8], scratch: &mut [u8], buffer: &mut [u8]) -> Fixing
-    requires text_len_bound { length text.now ≤ mostText }
+    requires text_len_bound { length text.now ≤ most_text }
     requires text_in_bounds { length text.now ≤ length scratch.old }
     ensures { FixPromised text.now buffer.old (record { answer = result; buffer = buffer.new }) }
 {
@@ -36,7 +36,7 @@ fn fix_short(text: &[u8], buffer: &mut [u8]) -> Fixing
 }
 
 fn fix_long(text: &[u8], buffer: &mut [u8]) -> Fixing
-    requires { length text.now ≤ mostText }
+    requires { length text.now ≤ most_text }
     ensures { FixPromised text.now buffer.old (record { answer = result; buffer = buffer.new }) }
 {
     let mut scratch = [0u8; reading::MOST_TEXT];

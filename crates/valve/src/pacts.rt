@@ -1,11 +1,11 @@
 // A Pact contract into a text: the refusals of its names, then 24 of its table and of its bytes, then 21.
 ghost use Rattle.std.specs.Prelude.{◌≡◌, ◌+◌, ◌*◌, ◌≤◌, length};
-ghost use Rattle.paper.specs.Pact.{mostIndices};
+ghost use Rattle.paper.specs.Pact.{most_indices};
 ghost use Rattle.paper.specs.Print.{print};
 ghost use Rattle.paper.specs.Promised.{DraftPromised};
-ghost use Rattle.trees.specs.Standing.{treeAt};
+ghost use Rattle.trees.specs.Standing.{tree_at};
 ghost use Rattle.drafting.specs.Assertions.{Named};
-ghost use Rattle.drafting.specs.Fronts.{mostNodes};
+ghost use Rattle.drafting.specs.Fronts.{most_nodes};
 ghost use Rattle.valve.specs.Lent.{LentDraft};
 
 use crate::style;
@@ -18,7 +18,7 @@ const MOST_USERS: usize = 16;
 // The text of the tree at a node, whose names lie in the list.
 fn lend_text(names: &[u8], nodes: &[u32], node: usize, buffer: &mut [u8]) -> Drafting
     requires { node * 8 + 8 ≤ length nodes.now }
-    ensures { LentDraft (print (treeAt names.now nodes.now node)) buffer.old (record { answer = result; buffer = buffer.new }) }
+    ensures { LentDraft (print (tree_at names.now nodes.now node)) buffer.old (record { answer = result; buffer = buffer.new }) }
 {
     let lent = style::lend_print(names, nodes, node, buffer);
     match lent {
@@ -35,8 +35,8 @@ fn pact_in(
     nodes: &mut [u32],
     buffer: &mut [u8],
 ) -> Drafting
-    requires named { Named names.now × (length table.now ≤ mostIndices) }
-    requires most_nodes_in_bounds { mostNodes * 8 ≤ length nodes.old }
+    requires named { Named names.now × (length table.now ≤ most_indices) }
+    requires most_nodes_in_bounds { most_nodes * 8 ≤ length nodes.old }
     ensures { DraftPromised contract.now table.now names.now buffer.old (record { answer = result; buffer = buffer.new }) }
 {
     let drawn = drafting::draft(contract, table, names, nodes);

@@ -1,6 +1,6 @@
 // What broke for an entry, handed back as the piece itself: a stretch of the text or the name in the key list, where it lies. Nothing is
 // copied, and each piece lives as long as the input that it lies in.
-ghost use Rattle.paper.specs.Pieces.{inText, inList, ExplainedPromised};
+ghost use Rattle.paper.specs.Pieces.{InText, InList, ExplainedPromised};
 ghost use Rattle.valve.specs.Shown.{TextShown, ListShown};
 
 use crate::reason;
@@ -16,7 +16,7 @@ pub struct Explained<'t, 'l> {
 
 // What an explanation names of the text.
 pub fn text_piece<'t>(text: &'t [u8], why: Explanation) -> &'t [u8]
-    ensures { inText why text.entry result }
+    ensures { InText why text.entry result }
 {
     match why {
         Explanation::Part(_, _, from, to) => trees::stretch(text, from, to),
@@ -27,7 +27,7 @@ pub fn text_piece<'t>(text: &'t [u8], why: Explanation) -> &'t [u8]
 
 // What an explanation names of the key list.
 pub fn list_piece<'l>(list: &'l [u8], why: Explanation) -> &'l [u8]
-    ensures { inList why list.entry result }
+    ensures { InList why list.entry result }
 {
     match why {
         Explanation::Part(_, _, _, _) => trees::stretch(list, 0, 0),

@@ -3,7 +3,7 @@ ghost use Rattle.std.specs.Prelude.{◌≡◌, List, ℕ, ◌+◌, ◌*◌, ◌�
 ghost use Rattle.paper.specs.Promised.{RecheckPromised};
 ghost use Rattle.operands.specs.Conforming.{Conforming};
 ghost use Rattle.reading.specs.Restricted.{Rooted, Restricts};
-ghost use Rattle.valve.specs.Beside.{Compared, sameIn};
+ghost use Rattle.valve.specs.Beside.{Compared, same_in};
 
 use crate::verdict;
 use paper::{Checking, Counted, Judgement, Rechecking};
@@ -24,7 +24,7 @@ fn same_by(list: &[u8], old: &[u8], new: &[u8], nodes: &[u32], root: usize) -> b
     requires by_index { (text : List ℕ) × Rooted text list.now nodes.now root }
     requires conforming { Conforming list.now new.now }
     ensures { (text : List ℕ) → Rooted text list.now nodes.now root
-        → result ≡ sameIn text list.now old.now new.now }
+        → result ≡ same_in text list.now old.now new.now }
 {
     let entered = keys::check_entry(list, old);
     match entered {

@@ -4,15 +4,15 @@ ghost use Rattle.paper.specs.Answers.{ok};
 ghost use Rattle.paper.specs.Keys.{keys};
 ghost use Rattle.paper.specs.Loading.{loaded};
 ghost use Rattle.paper.specs.Promised.{RunPromised, RunAllPromised};
-ghost use Rattle.keys.specs.Says.{keysIn};
+ghost use Rattle.keys.specs.Says.{keys_in};
 
 use crate::loading;
 use paper::{Checking, Loading, Place, Running, RunningAll, refused};
 
 // One entry, as a table of its own. Only one that is refused is checked once more, for its place.
 fn run_one(list: &[u8], blocks: &[u8], entry: &[u8], n: usize) -> Running
-    requires list_value { keys list.now ≡ ok (keysIn list.now) }
-    requires blocks_value { loaded (keysIn list.now) blocks.now ≡ ok n }
+    requires list_value { keys list.now ≡ ok (keys_in list.now) }
+    requires blocks_value { loaded (keys_in list.now) blocks.now ≡ ok n }
     ensures { RunPromised list.now blocks.now entry.now result }
 {
     let length = entry.len();
@@ -47,8 +47,8 @@ pub fn run(list: &[u8], blocks: &[u8], entry: &[u8]) -> Running
 
 // A table, by blocks that are loaded: 19 and 15, then a byte for each entry.
 fn run_table(list: &[u8], blocks: &[u8], entries: &[u8], n: usize, answers: &mut [u8]) -> RunningAll
-    requires list_value { keys list.now ≡ ok (keysIn list.now) }
-    requires blocks_value { loaded (keysIn list.now) blocks.now ≡ ok n }
+    requires list_value { keys list.now ≡ ok (keys_in list.now) }
+    requires blocks_value { loaded (keys_in list.now) blocks.now ≡ ok n }
     ensures { RunAllPromised list.now blocks.now entries.now answers.old (record { answer = result; bytes = answers.new }) }
 {
     let size = keys::entry_size(list);

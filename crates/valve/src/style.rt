@@ -2,11 +2,11 @@
 ghost use Rattle.std.specs.Prelude.{◌≡◌, ◌+◌, ◌*◌, ◌≤◌, length, take};
 ghost use Rattle.paper.specs.declared.Place.TheVariants as P;
 ghost use Rattle.paper.specs.declared.Printing.TheVariants as W;
-ghost use Rattle.paper.specs.Tokens.{mostText};
+ghost use Rattle.paper.specs.Tokens.{most_text};
 ghost use Rattle.paper.specs.Print.{print};
 ghost use Rattle.paper.specs.Calls.{over};
 ghost use Rattle.paper.specs.Promised.{PrintPromised};
-ghost use Rattle.trees.specs.Standing.{treeAt};
+ghost use Rattle.trees.specs.Standing.{tree_at};
 ghost use Rattle.reading.specs.Grown.{Grows};
 ghost use Rattle.valve.specs.Lent.{Lent};
 
@@ -33,7 +33,7 @@ fn too_long(buffer: &[u8]) -> Printing
 // changes.
 pub(crate) fn lend_print(text: &[u8], nodes: &[u32], node: usize, buffer: &mut [u8]) -> Printing
     requires { node * 8 + 8 ≤ length nodes.now }
-    ensures { Lent (print (treeAt text.now nodes.now node)) buffer.old (record { answer = result; buffer = buffer.new }) }
+    ensures { Lent (print (tree_at text.now nodes.now node)) buffer.old (record { answer = result; buffer = buffer.new }) }
 {
     let mut scratch = [0u8; reading::MOST_TEXT];
     let n = printing::write_tree(text, nodes, node, Rung::Sequel, 0, &mut scratch);
@@ -49,7 +49,7 @@ pub(crate) fn lend_print(text: &[u8], nodes: &[u32], node: usize, buffer: &mut [
 
 // By what was answered of a text that is not too long, with the tree in nodes that are lent.
 fn print_told(text: &[u8], nodes: &[u32], grown: Counted, buffer: &mut [u8]) -> Printing
-    requires text_len_bound { length text.now ≤ mostText }
+    requires text_len_bound { length text.now ≤ most_text }
     requires grows { Grows text.now nodes.now grown }
     ensures { PrintPromised text.now buffer.old (record { answer = result; buffer = buffer.new }) }
 {
@@ -60,7 +60,7 @@ fn print_told(text: &[u8], nodes: &[u32], grown: Counted, buffer: &mut [u8]) -> 
 }
 
 fn print_long(text: &[u8], buffer: &mut [u8]) -> Printing
-    requires { length text.now ≤ mostText }
+    requires { length text.now ≤ most_text }
     ensures { PrintPromised text.now buffer.old (record { answer = result; buffer = buffer.new }) }
 {
     let mut nodes = [0u32; reading::NODE_WORDS];

@@ -1,7 +1,7 @@
 // A text alone, and a text against a key list. As every call that makes a text's tree, these two first lend nodes for few tokens: most texts have
 // no more, and less is cleared. Only where these may be too few is the text looked at again, with nodes for any text.
 ghost use Rattle.std.specs.Prelude.{List, ℕ, ◌≤◌, length};
-ghost use Rattle.paper.specs.Tokens.{mostText};
+ghost use Rattle.paper.specs.Tokens.{most_text};
 ghost use Rattle.paper.specs.Promised.{ReadPromised, CheckPromised};
 ghost use Rattle.reading.specs.Grown.{Grows};
 ghost use Rattle.reading.specs.Restricted.{Restricts};
@@ -11,7 +11,7 @@ use reading::Tried;
 
 // By what was answered of a text that is not too long.
 fn read_told(grown: Counted) -> Reading
-    ensures { (text nodes : List ℕ) → length text ≤ mostText → Grows text nodes grown → ReadPromised text result }
+    ensures { (text nodes : List ℕ) → length text ≤ most_text → Grows text nodes grown → ReadPromised text result }
 {
     match grown {
         Counted::Refused(number, place) => Reading::Refused(number, place),
@@ -20,7 +20,7 @@ fn read_told(grown: Counted) -> Reading
 }
 
 fn read_long(text: &[u8]) -> Reading
-    requires { length text.now ≤ mostText }
+    requires { length text.now ≤ most_text }
     ensures { ReadPromised text.now result }
 {
     let mut nodes = [0u32; reading::NODE_WORDS];

@@ -1,6 +1,6 @@
 // An entry against a text.
 ghost use Rattle.std.specs.Prelude.{◌≡◌, List, ℕ, ◌+◌, ◌*◌, ◌≤◌, length};
-ghost use Rattle.paper.specs.Answers.{ok, judgementSays};
+ghost use Rattle.paper.specs.Answers.{ok, judgement_says};
 ghost use Rattle.paper.specs.Promised.{JudgePromised};
 ghost use Rattle.operands.specs.Conforming.{Conforming};
 ghost use Rattle.reading.specs.Grown.{Brief};
@@ -10,7 +10,7 @@ use paper::{Checking, Counted, Judgement};
 use reading::Tried;
 
 pub(crate) fn verdict(accepted: bool) -> Judgement
-    ensures { judgementSays result ≡ ok accepted }
+    ensures { judgement_says result ≡ ok accepted }
 {
     if accepted {
         return Judgement::Accepted;

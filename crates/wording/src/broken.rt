@@ -1,8 +1,8 @@
 // What is said of one entry, and what broke for it.
 ghost use Rattle.std.specs.Prelude.{◌≡◌};
-ghost use Rattle.paper.specs.Answers.{judgementSays};
-ghost use Rattle.paper.specs.Explained.{explanationSays};
-ghost use Rattle.paper.specs.ExplainedRight.{judgementOf};
+ghost use Rattle.paper.specs.Answers.{judgement_says};
+ghost use Rattle.paper.specs.Explained.{explanation_says};
+ghost use Rattle.paper.specs.ExplainedRight.{judgement_of};
 
 use crate::caret;
 use crate::refusals::entry_refused;
@@ -13,7 +13,7 @@ use paper::{Explanation, Judgement, Place};
 
 // The judgement that an explanation is of.
 pub fn judged_as(why: Explanation) -> Judgement
-    ensures { judgementSays result ≡ judgementOf (explanationSays why) }
+    ensures { judgement_says result ≡ judgement_of (explanation_says why) }
 {
     match why {
         Explanation::Part(_, _, _, _) => Judgement::Violated,

@@ -1,6 +1,6 @@
 // The line that a place or a stretch of a text stands in, with carets under it.
 ghost use Rattle.std.specs.Prelude.{◌+◌, ◌≤◌, min, ◌≡◌, length};
-ghost use Rattle.wording.specs.Lines.{seen_at, LineOf, Window, shownAs, carets};
+ghost use Rattle.wording.specs.Lines.{seen_at, LineOf, Window, shown_as, carets};
 
 use crate::say::{say_number, say_two};
 use lines::{say, start};
@@ -93,7 +93,7 @@ fn window(line: Line, at: usize) -> Stretch
 
 // One column for each byte, so that the caret stands right.
 fn shown_as(byte: u8) -> u8
-    ensures { result ≡ shownAs byte }
+    ensures { result ≡ shown_as byte }
 {
     if byte == b'\t' {
         return b' ';

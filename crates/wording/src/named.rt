@@ -1,6 +1,6 @@
 // What a text names: each key by its name, and ::priority.
 ghost use Rattle.std.specs.Prelude.{◌≤◌, ◌/◌, length};
-ghost use Rattle.paper.specs.Keys.{recordSize};
+ghost use Rattle.paper.specs.Keys.{record_size};
 
 use crate::say::say_count;
 use keys::KeyRecord;
@@ -8,7 +8,7 @@ use lines::say;
 
 // A line for each of the first n keys whose bit is set, the lowest bit for the first key.
 fn say_keys(list: &[u8], set: u32, n: usize)
-    requires { n ≤ length list.now / recordSize }
+    requires { n ≤ length list.now / record_size }
 {
     let mut rest = set;
     let mut k = 0;

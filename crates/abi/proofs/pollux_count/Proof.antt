@@ -6,5 +6,5 @@ use Rattle.abi.proofs.pollux_count.Tie as tie
 returns : tie.Need-returns
 returns c = record { result = c.before.count.result; promised = c.before.count.ensures; same = c.of-counting.ensures }
 
-pub pollux-count-spec : {M : Type 1} → statement M
-pollux-count-spec = tie.close (tie.spec (λ c κs. search rules) (λ c κs. search rules) returns)
+pub pollux_count_spec : {M : Type 1} → statement M
+pollux_count_spec = tie.close (tie.spec (λ c κs. search rules) (λ c κs. search rules) returns)

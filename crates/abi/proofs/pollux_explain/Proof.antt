@@ -6,5 +6,5 @@ use Rattle.abi.proofs.pollux_explain.Tie as tie
 returns : tie.Need-returns
 returns c = record { result = c.before.reason.result; promised = c.before.reason.ensures; same = c.of-explanation.ensures }
 
-pub pollux-explain-spec : {M : Type 1} → statement M
-pollux-explain-spec = tie.close (tie.spec (λ c κs. search rules) (λ c κs. search rules) returns)
+pub pollux_explain_spec : {M : Type 1} → statement M
+pollux_explain_spec = tie.close (tie.spec (λ c κs. search rules) (λ c κs. search rules) returns)

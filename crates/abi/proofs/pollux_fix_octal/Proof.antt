@@ -17,6 +17,6 @@ returns c =
     let t = c.before.before.before.fix-octal in
     record { result = t.result; promised = t.ensures; same = c.of-fixing.ensures }
 
-pub pollux-fix-octal-spec : {M : Type 1} → statement M
-pollux-fix-octal-spec =
+pub pollux_fix_octal_spec : {M : Type 1} → statement M
+pollux_fix_octal_spec =
     tie.close (tie.spec fix-octal-requires of-fixing-requires same_length returns)

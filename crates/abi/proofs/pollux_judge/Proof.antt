@@ -6,5 +6,5 @@ use Rattle.abi.proofs.pollux_judge.Tie as tie
 returns : tie.Need-returns
 returns c = record { result = c.before.judge.result; promised = c.before.judge.ensures; same = c.of-judgement.ensures }
 
-pub pollux-judge-spec : {M : Type 1} → statement M
-pollux-judge-spec = tie.close (tie.spec (λ c κs. search rules) (λ c κs. search rules) returns)
+pub pollux_judge_spec : {M : Type 1} → statement M
+pollux_judge_spec = tie.close (tie.spec (λ c κs. search rules) (λ c κs. search rules) returns)

@@ -17,6 +17,6 @@ returns c =
     let t = c.before.before.before.pact in
     record { result = t.result; promised = t.ensures; same = c.of-drafting.ensures }
 
-pub pollux-pact-spec : {M : Type 1} → statement M
-pollux-pact-spec =
+pub pollux_pact_spec : {M : Type 1} → statement M
+pollux_pact_spec =
     tie.close (tie.spec pact-requires of-drafting-requires same_length returns)

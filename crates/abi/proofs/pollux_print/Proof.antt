@@ -17,6 +17,6 @@ returns c =
     let t = c.before.before.before.print in
     record { result = t.result; promised = t.ensures; same = c.of-printing.ensures }
 
-pub pollux-print-spec : {M : Type 1} → statement M
-pollux-print-spec =
+pub pollux_print_spec : {M : Type 1} → statement M
+pollux_print_spec =
     tie.close (tie.spec print-requires of-printing-requires same_length returns)

@@ -6,5 +6,5 @@ use Rattle.abi.proofs.pollux_read.Tie as tie
 returns : tie.Need-returns
 returns c = record { result = c.before.read.result; promised = c.before.read.ensures; same = c.of-reading.ensures }
 
-pub pollux-read-spec : {M : Type 1} → statement M
-pollux-read-spec = tie.close (tie.spec (λ c κs. search rules) (λ c κs. search rules) returns)
+pub pollux_read_spec : {M : Type 1} → statement M
+pollux_read_spec = tie.close (tie.spec (λ c κs. search rules) (λ c κs. search rules) returns)

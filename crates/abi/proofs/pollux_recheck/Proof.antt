@@ -20,8 +20,8 @@ returns c =
       result = r;
       promised =
           subst (λ (j : Judgement). RecheckPromised a.text.now a.list.now a.old.now j a.new.now r) heard.judgement.ensures answered.recheck.ensures;
-      same = c.of-rechecking.ensures;
+      same = c.of_rechecking.ensures;
     }
 
-pub pollux-recheck-spec : {M : Type 1} → statement M
-pollux-recheck-spec = tie.close (tie.spec (λ c κs. search rules) (λ c κs. search rules) (λ c κs. search rules) returns)
+pub pollux_recheck_spec : {M : Type 1} → statement M
+pollux_recheck_spec = tie.close (tie.spec (λ c κs. search rules) (λ c κs. search rules) (λ c κs. search rules) returns)

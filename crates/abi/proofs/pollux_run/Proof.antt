@@ -4,7 +4,7 @@ use Rattle.abi.proofs.pollux_run.Statement.{statement}
 use Rattle.abi.proofs.pollux_run.Tie as tie
 
 returns : tie.Need-returns
-returns c = record { result = c.before.run.result; promised = c.before.run.ensures; same = c.of-running.ensures }
+returns c = record { result = c.before.run.result; promised = c.before.run.ensures; same = c.of_running.ensures }
 
-pub pollux-run-spec : {M : Type 1} → statement M
-pollux-run-spec = tie.close (tie.spec (λ c κs. search rules) (λ c κs. search rules) returns)
+pub pollux_run_spec : {M : Type 1} → statement M
+pollux_run_spec = tie.close (tie.spec (λ c κs. search rules) (λ c κs. search rules) returns)

@@ -8,5 +8,5 @@ returns c =
     let ran = c.before.before.before.run-all in
     record { result = ran.result; promised = ran.ensures; same = c.of-running-all.ensures }
 
-pub pollux-run-all-spec : {M : Type 1} → statement M
-pollux-run-all-spec = tie.close (tie.spec (λ c κs. search rules) (λ c κs. search rules) (λ c. search rules) returns)
+pub pollux_run_all_spec : {M : Type 1} → statement M
+pollux_run_all_spec = tie.close (tie.spec (λ c κs. search rules) (λ c κs. search rules) (λ c. search rules) returns)

@@ -1,9 +1,9 @@
 -- `addresses::scheme_of` meets its contract: the three words of the definition are tried in its order, and a word is told once those before
--- it were found to be others (`not-ipv4`, `not-ipv6`).
+-- it were found to be others (`not_ipv4`, `not_ipv6`).
 use mathlib.Core.Bool.{false}
 use mathlib.Core.Path.{◌≡◌, sym, ◌∙◌}
 use borrow.Author.Rules.{rules}
-use Rattle.paper.specs.Tokens.{bytes, sameBytes}
+use Rattle.paper.specs.Tokens.{bytes, same_bytes}
 use Rattle.addresses.proofs.scheme_of.Statement.{statement}
 use Rattle.addresses.proofs.scheme_of.Tie as tie
 
@@ -12,33 +12,33 @@ use Rattle.addresses.proofs.scheme_of.Tie as tie
 abbrev start : tie.Else1 → tie.Start
 start c = c.before.before.before.before
 
-not-ipv4 : (c : tie.Else1) → sameBytes (start c).args.word.now (bytes "ipv4") ≡ false
-not-ipv4 c = sym c.before.same_bytes.ensures ∙ c.if1.false
+not_ipv4 : (c : tie.Else1) → same_bytes (start c).args.word.now (bytes "ipv4") ≡ false
+not_ipv4 c = sym c.before.same_bytes.ensures ∙ c.if1.false
 
-abbrev past-ipv4 : tie.Else2 → tie.Else1
-past-ipv4 c = c.before.before.before
+abbrev past_ipv4 : tie.Else2 → tie.Else1
+past_ipv4 c = c.before.before.before
 
-not-ipv6 : (c : tie.Else2) → sameBytes (start (past-ipv4 c)).args.word.now (bytes "ipv6") ≡ false
-not-ipv6 c = sym c.before.same-bytes2.ensures ∙ c.if2.false
+not_ipv6 : (c : tie.Else2) → same_bytes (start (past_ipv4 c)).args.word.now (bytes "ipv6") ≡ false
+not_ipv6 c = sym c.before.same-bytes2.ensures ∙ c.if2.false
 
-is-ipv6 : tie.Need-returns-2
-is-ipv6 c = rw (not-ipv4 c.before.before.before, sym c.before.same-bytes2.ensures ∙ c.if2.true)
+is_ipv6 : tie.Need-returns-2
+is_ipv6 c = rw (not_ipv4 c.before.before.before, sym c.before.same-bytes2.ensures ∙ c.if2.true)
 
-abbrev past-ipv6 : tie.After-same-bytes3 → tie.Else2
-past-ipv6 c = c.before.before
+abbrev past_ipv6 : tie.After-same-bytes3 → tie.Else2
+past_ipv6 c = c.before.before
 
-is-mac : tie.Need-returns-3
-is-mac c =
-    let p = past-ipv6 c.before in
-    rw (not-ipv4 (past-ipv4 p), not-ipv6 p, sym c.before.same-bytes3.ensures ∙ c.if3.true)
+is_mac : tie.Need-returns-3
+is_mac c =
+    let p = past_ipv6 c.before in
+    rw (not_ipv4 (past_ipv4 p), not_ipv6 p, sym c.before.same-bytes3.ensures ∙ c.if3.true)
 
-is-other : tie.Need-returns-4
-is-other c =
-    let p = past-ipv6 c.before in
-    rw (not-ipv4 (past-ipv4 p), not-ipv6 p, sym c.before.same-bytes3.ensures ∙ c.if3.false)
+is_other : tie.Need-returns-4
+is_other c =
+    let p = past_ipv6 c.before in
+    rw (not_ipv4 (past_ipv4 p), not_ipv6 p, sym c.before.same-bytes3.ensures ∙ c.if3.false)
 
-pub scheme-of-spec : {M : Type 1} → statement M
-scheme-of-spec =
+pub scheme_of_spec : {M : Type 1} → statement M
+scheme_of_spec =
     tie.close
     (tie.spec
     (λ c. search rules)
@@ -46,8 +46,8 @@ scheme-of-spec =
     (λ c. rw (sym c.before.same_bytes.ensures ∙ c.if1.true))
     (λ c. search rules)
     (λ c κs. search rules)
-    is-ipv6
+    is_ipv6
     (λ c. search rules)
     (λ c κs. search rules)
-    is-mac
-    is-other)
+    is_mac
+    is_other)

@@ -20,8 +20,8 @@ large-buffer-requires-2 c κs = search rules
 large-buffer-requires-3 : tie.Need-large-buffer-requires-3 invariant-loop decreases-loop
 large-buffer-requires-3 c κs = search rules
 
-loop-holds : tie.Need-loop-init invariant-loop decreases-loop
-loop-holds c = search rules
+loop_holds : tie.Need-loop-init invariant-loop decreases-loop
+loop_holds c = search rules
 
 slice-aggregate-request : tie.Need-slice-aggregate-request invariant-loop decreases-loop
 slice-aggregate-request c = search rules
@@ -35,14 +35,14 @@ slice-aggregate-request-3 c = search rules
 request-requires : tie.Need-request-requires invariant-loop decreases-loop
 request-requires c κs = search rules
 
-sub-turns : tie.Need-overflow-sub-turns invariant-loop decreases-loop
-sub-turns c = search rules
+sub_turns : tie.Need-overflow-sub-turns invariant-loop decreases-loop
+sub_turns c = search rules
 
-loop-less : tie.Need-loop-smaller invariant-loop decreases-loop
-loop-less c = search rules
+loop_less : tie.Need-loop-smaller invariant-loop decreases-loop
+loop_less c = search rules
 
-loop-again : tie.Need-loop-preserved invariant-loop decreases-loop
-loop-again c = search rules
+loop_again : tie.Need-loop-preserved invariant-loop decreases-loop
+loop_again c = search rules
 
 returns : tie.Need-returns invariant-loop decreases-loop
 returns c = search rules
@@ -59,13 +59,13 @@ main_spec =
     large-buffer-requires
     large-buffer-requires-2
     large-buffer-requires-3
-    loop-holds
+    loop_holds
     slice-aggregate-request
     slice-aggregate-request-2
     slice-aggregate-request-3
     request-requires
-    sub-turns
-    loop-less
-    loop-again
+    sub_turns
+    loop_less
+    loop_again
     returns
     returns-2)

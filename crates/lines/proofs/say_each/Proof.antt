@@ -11,8 +11,8 @@ invariant-loop numbers i₀ blank i = Unit {0}
 abbrev decreases-loop : tie.decreases-loop
 decreases-loop numbers i₀ blank i = length numbers - i
 
-pub say-each-spec : {M : Type 1} → statement M
-say-each-spec =
+pub say_each_spec : {M : Type 1} → statement M
+say_each_spec =
     tie.close
     (tie.spec
     invariant-loop

@@ -11,6 +11,6 @@ fits c κs =
     let s : tie.Start = c.before.before.before.before.before in
     (s.requires.0, (s.requires.1, omega (arith, c.before.if1.false)))
 
-pub find-parts-spec : {M : Type 1} → statement M
-find-parts-spec =
+pub find_parts_spec : {M : Type 1} → statement M
+find_parts_spec =
     tie.close (tie.spec no_room fits (λ c. omega (arith, c.before.before.find.auto)) (λ c lent. c.before.before.find.ensures))

@@ -1,28 +1,28 @@
--- `reading::read_brief` meets its contract: its tape has as many rows as a brief text has tokens at most, so that it is not too small (`room-for-brief`).
+-- `reading::read_brief` meets its contract: its tape has as many rows as a brief text has tokens at most, so that it is not too small (`room_for_brief`).
 use native.Mathlib.Omega.{arith}
 use borrow.Author.Rules.{rules}
 use Rattle.reading.specs.Grown.{CutOn}
-use Rattle.reading.proofs.Rooms.{room-for-brief, all_fit}
+use Rattle.reading.proofs.Rooms.{room_for_brief, all_fit}
 use Rattle.reading.proofs.read_brief.Statement.{statement}
 use Rattle.reading.proofs.read_brief.Tie as tie
 
 -- a brief text is not too long
-not-too-long : tie.Need-tokenize-requires
-not-too-long c κs =
+not_too_long : tie.Need-tokenize-requires
+not_too_long c κs =
     let s : tie.Start = c.before.before.before.before in
     omega (arith, s.requires.0)
 
 -- what was cut from the text stands on the tape
-cut-there : tie.Need-grow-requires
-cut-there c κs =
+cut_there : tie.Need-grow-requires
+cut_there c κs =
     let cut : tie.After-tokenize = c.before.before.before.before in
     let s : tie.Start = cut.before.before.before.before.before in
     let on : CutOn s.args.text.now _ cut.tokenize.result = record { says = cut.tokenize.ensures.0; placed = cut.tokenize.ensures.1 } in
     (on, all_fit s.args.text.now _ s.args.nodes.now cut.tokenize.result on s.requires.1)
 
 -- where `grow` has answered
-abbrev grown-at : tie.After-slice-known4 → tie.After-grow
-grown-at c = c.before.before.before.before
+abbrev grown_at : tie.After-slice-known4 → tie.After-grow
+grown_at c = c.before.before.before.before
 
 -- and from there where the text was cut, and what the function was given
 
@@ -34,18 +34,18 @@ start c = c.before.before.before.before.before
 
 read : tie.Need-returns
 read c =
-    let t = (grown-at c).grow.ensures in
-    let cut = cut_at (grown-at c) in
-    ((t.0.0 (room-for-brief (start cut).args.text.now _ cut.tokenize.kept.1.0 (start cut).pre.0), t.0.1), t.1)
+    let t = (grown_at c).grow.ensures in
+    let cut = cut_at (grown_at c) in
+    ((t.0.0 (room_for_brief (start cut).args.text.now _ cut.tokenize.kept.1.0 (start cut).pre.0), t.0.1), t.1)
 
-pub read-brief-spec : {M : Type 1} → statement M
-read-brief-spec =
+pub read_brief_spec : {M : Type 1} → statement M
+read_brief_spec =
     tie.close
     (tie.spec
     (λ c. search rules)
-    not-too-long
+    not_too_long
     (λ c. search rules)
-    cut-there
-    (λ c. omega (arith, (grown-at c).grow.auto))
-    (λ c. omega (arith, (grown-at c).grow.auto))
+    cut_there
+    (λ c. omega (arith, (grown_at c).grow.auto))
+    (λ c. omega (arith, (grown_at c).grow.auto))
     read)

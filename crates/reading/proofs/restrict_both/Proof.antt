@@ -3,7 +3,7 @@
 use native.Mathlib.Omega.{arith}
 use borrow.Author.Rules.{rules}
 use Rattle.keys.proofs.Checked.{most_bytes}
-use Rattle.reading.specs.Grown.{ofTree}
+use Rattle.reading.specs.Grown.{of_tree}
 use Rattle.paper.specs.declared.Counted.TheVariants.{Refused}
 use Rattle.reading.proofs.Stages.{settles, too_long, not_listed, good, restricts}
 use Rattle.reading.proofs.restrict_both.Statement.{statement}
@@ -13,16 +13,16 @@ use Rattle.reading.proofs.restrict_both.Tie as tie
 abbrev start : tie.After-slice-known2 → tie.Start
 start c = c.before.before.before.before
 
-long-text : tie.Need-returns
-long-text c = ((settles (start c.before).args.scratch (Refused _ _), too_long _ _ c.if1.true), tt)
+long_text : tie.Need-returns
+long_text c = ((settles (start c.before).args.scratch (Refused _ _), too_long _ _ c.if1.true), tt)
 
-no-list : tie.Need-returns-2
-no-list c =
+no_list : tie.Need-returns-2
+no_list c =
     let at-list : tie.After-check-list = c.before.before.before in
     ((settles (start at-list.before.before).args.scratch (Refused _ _), not_listed _ _ at-list.before.if1.false at-list.check-list.result at-list.check-list.ensures c.before.listed.given.1), tt)
 
-good-list : tie.Need-typed-root-requires
-good-list c κs =
+good_list : tie.Need-typed-root-requires
+good_list c κs =
     let told : tie.After-enum-told = c.before.before in
     let at-list : tie.After-check-list = told.before.before in
     let given = start at-list.before.before in (
@@ -42,18 +42,18 @@ typed c =
     let told : tie.After-enum-told = (typed_at c).before.before.before in
     let at-list : tie.After-check-list = told.before.before in
     let t = (typed_at c).typed-root in
-    ((t.ensures.0.0, restricts _ _ at-list.before.if1.left at-list.check-list.result at-list.check-list.ensures told.enum_told.given.1 _ (ofTree t.result) t.ensures.0.1), t.ensures.1)
+    ((t.ensures.0.0, restricts _ _ at-list.before.if1.left at-list.check-list.result at-list.check-list.ensures told.enum_told.given.1 _ (of_tree t.result) t.ensures.0.1), t.ensures.1)
 
-pub restrict-both-spec : {M : Type 1} → statement M
-restrict-both-spec =
+pub restrict_both_spec : {M : Type 1} → statement M
+restrict_both_spec =
     tie.close
     (tie.spec
-    long-text
+    long_text
     (λ c κs. search rules)
     (λ c. search rules)
     (λ c. search rules)
-    good-list
-    no-list
+    good_list
+    no_list
     (λ c. omega (arith, (typed_at c).typed-root.auto))
     (λ c. omega (arith, (typed_at c).typed-root.auto))
     typed)

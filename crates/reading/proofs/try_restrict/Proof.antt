@@ -5,19 +5,19 @@ use Rattle.reading.proofs.try_restrict.Statement.{statement}
 use Rattle.reading.proofs.try_restrict.Tie as tie
 
 -- where text and list have been looked at
-abbrev looked-at : tie.After-of-tree → tie.After-restrict-both
-looked-at c = c.before.before.before.before
+abbrev looked_at : tie.After-of-tree → tie.After-restrict-both
+looked_at c = c.before.before.before.before
 
 answered : tie.Need-returns-2
-answered c = rw c.of_Tree.ensures (looked-at c).restrict-both.ensures.0.1
+answered c = rw c.of_Tree.ensures (looked_at c).restrict-both.ensures.0.1
 
-pub try-restrict-spec : {M : Type 1} → statement M
-try-restrict-spec =
+pub try_restrict_spec : {M : Type 1} → statement M
+try_restrict_spec =
     tie.close
     (tie.spec
     (λ c. tt)
     (λ c. search rules)
     (λ c κs. search rules)
     (λ c κs. search rules)
-    (λ c. omega (arith, (looked-at c).restrict-both.auto))
+    (λ c. omega (arith, (looked_at c).restrict-both.auto))
     answered)

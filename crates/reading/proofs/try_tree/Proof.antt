@@ -11,8 +11,8 @@ read_at c = c.before.before.before.before
 answered : tie.Need-returns-2
 answered c = rw c.of_Tree.ensures (read_at c).read-parts.ensures.0.1
 
-pub try-tree-spec : {M : Type 1} → statement M
-try-tree-spec =
+pub try_tree_spec : {M : Type 1} → statement M
+try_tree_spec =
     tie.close
     (tie.spec
     (λ c. tt)

@@ -1,5 +1,5 @@
--- `reading::typed_root` meets its contract: a text that is over, or its refusal passed up (`not-grown`); or the text's tree, then its names
--- resolved, which changes no tree (`still-planted`, `still-sown`); then the check of its types, or that one's refusal; and where the types are
+-- `reading::typed_root` meets its contract: a text that is over, or its refusal passed up (`not_grown`); or the text's tree, then its names
+-- resolved, which changes no tree (`still_planted`, `still_sown`); then the check of its types, or that one's refusal; and where the types are
 -- right, parts that can be judged (`ready`).
 use Prim.Native.Nat.{ℕ, ◌-◌, ◌≤◌}
 use native.Mathlib.Omega.{arith}
@@ -7,12 +7,12 @@ use mathlib.Core.Path.{◌≡◌}
 use mathlib.Core.List.{List}
 use borrow.Author.Rules.{rules}
 use Rattle.paper.specs.declared.Counted.TheVariants.{Count, Refused}
-use Rattle.keys.specs.Says.{keysIn}
-use Rattle.trees.proofs.Marking.{marked-below}
+use Rattle.keys.specs.Says.{keys_in}
+use Rattle.trees.proofs.Marking.{marked_below}
 use Rattle.reading.specs.declared.grown.Grown.TheVariants as R
 use Rattle.reading.specs.declared.tried.Scratch.{Scratch}
-use Rattle.reading.proofs.Stages.{settles, still-over, grown, still-planted, not-grown, not-typed, right-types}
-use Rattle.reading.proofs.Parted.{sown-told, still-sown, ready}
+use Rattle.reading.proofs.Stages.{settles, still_over, grown, still_planted, not_grown, not_typed, right_types}
+use Rattle.reading.proofs.Parted.{sown_told, still_sown, ready}
 use Rattle.reading.proofs.typed_root.Statement.{statement}
 use Rattle.reading.proofs.typed_root.Tie as tie
 
@@ -31,25 +31,25 @@ scratch c = (start c).args.scratch
 
 -- where the text is over
 
-abbrev over-at : tie.After-enum-told → tie.After-read-parts
-over-at c = c.before.before.before.before.before.before
+abbrev over_at : tie.After-enum-told → tie.After-read-parts
+over_at c = c.before.before.before.before.before.before
 
 over : tie.Need-returns
 over c =
-    let t = (over-at c).read-parts in
-    ((still-over (scratch (over-at c)) t.result c.enum_told.given.1 t.ensures.0.0, tt), tt)
+    let t = (over_at c).read-parts in
+    ((still_over (scratch (over_at c)) t.result c.enum_told.given.1 t.ensures.0.0, tt), tt)
 
 -- where there is no tree
 
-abbrev unread-at : tie.After-known-told → tie.After-read-parts
-unread-at c = c.before.before.before.before.before.before.before
+abbrev unread_at : tie.After-known-told → tie.After-read-parts
+unread_at c = c.before.before.before.before.before.before.before
 
-no-tree : tie.Need-returns-2
-no-tree c =
-    let at_read = unread-at c in
+no_tree : tie.Need-returns-2
+no_tree c =
+    let at_read = unread_at c in
     let t = at_read.read-parts in
     let e = c.before.grown.given.1 in
-    ((settles (scratch at_read) (Refused _ _), not-grown _ _ t.result t.ensures.0.1 (list at_read) e), tt)
+    ((settles (scratch at_read) (Refused _ _), not_grown _ _ t.result t.ensures.0.1 (list at_read) e), tt)
 
 -- where there is one, of so many nodes, and so many parts
 
@@ -65,28 +65,28 @@ size c = c.before.grown2.given.0.0
 abbrev found : Known → ℕ
 found c = c.before.grown2.given.0.1.0
 
-grown-told : (c : Known) → (read_at c).read-parts.result ≡ R.Tree (size c) (found c)
-grown-told c = c.before.grown2.given.1
+grown_told : (c : Known) → (read_at c).read-parts.result ≡ R.Tree (size c) (found c)
+grown_told c = c.before.grown2.given.1
 
 names_stand : tie.Need-resolve-requires
 names_stand c κs =
     let known : Known = c.before in
     let t = (read_at known).read-parts in
-    ((start (read_at known)).requires.1.0, (grown _ _ t.result t.ensures.0.1 (grown-told known)).has)
+    ((start (read_at known)).requires.1.0, (grown _ _ t.result t.ensures.0.1 (grown_told known)).has)
 
 -- where its names are resolved
 
 abbrev known_at : tie.After-slice-known5 → Known
 known_at c = c.before.before.before.before
 
-some-nodes : (c : tie.After-slice-known5) → 1 ≤ size (known_at c)
-some-nodes c = let t = (read_at (known_at c)).read-parts in (grown _ _ t.result t.ensures.0.1 (grown-told (known_at c))).some
+some_nodes : (c : tie.After-slice-known5) → 1 ≤ size (known_at c)
+some_nodes c = let t = (read_at (known_at c)).read-parts in (grown _ _ t.result t.ensures.0.1 (grown_told (known_at c))).some
 
 root_stands : tie.Need-check-types-requires
 root_stands c κs =
     let at_Names = c.before in
     let t = (read_at (known_at at_Names)).read-parts in
-    let p = grown _ _ t.result t.ensures.0.1 (grown-told (known_at at_Names)) in
+    let p = grown _ _ t.result t.ensures.0.1 (grown_told (known_at at_Names)) in
     omega (arith, at_Names.before.before.resolve.auto, p.has, p.some)
 
 -- where its types are checked
@@ -94,45 +94,45 @@ root_stands c κs =
 abbrev names_at : tie.After-check-types → tie.After-slice-known5
 names_at c = c.before.before
 
-wrong-types : tie.Need-returns-3
-wrong-types c =
-    let at-check : tie.After-check-types = c.before.before.before in
-    let known = known_at (names_at at-check) in
+wrong_types : tie.Need-returns-3
+wrong_types c =
+    let at_check : tie.After-check-types = c.before.before.before in
+    let known = known_at (names_at at_check) in
     let at_read = read_at known in
-    let names = (names_at at-check).before.before.resolve in
-    let u = at-check.check-types in
-    let p = grown _ _ at_read.read-parts.result at_read.read-parts.ensures.0.1 (grown-told known) in
-    let some = some-nodes (names_at at-check) in (
+    let names = (names_at at_check).before.before.resolve in
+    let u = at_check.check-types in
+    let p = grown _ _ at_read.read-parts.result at_read.read-parts.ensures.0.1 (grown_told known) in
+    let some = some_nodes (names_at at_check) in (
       (
         settles (scratch at_read) (Refused _ _),
-        not-typed (text at_read) (list at_read) _ (size known) (still-planted (text at_read) (list at_read) _ _ (size known) names.ensures p)
-            u.result (u.ensures (text at_read) (marked-below (keysIn (list at_read)) (text at_read) _ (omega arith) names.ensures.marked)) c.before.checked.given.1,
+        not_typed (text at_read) (list at_read) _ (size known) (still_planted (text at_read) (list at_read) _ _ (size known) names.ensures p)
+            u.result (u.ensures (text at_read) (marked_below (keys_in (list at_read)) (text at_read) _ (omega arith) names.ensures.marked)) c.before.checked.given.1,
       ),
       tt,
     )
 
 right : tie.Need-returns-4
 right c =
-    let at-check : tie.After-check-types = c.before.before in
-    let known = known_at (names_at at-check) in
+    let at_check : tie.After-check-types = c.before.before in
+    let known = known_at (names_at at_check) in
     let at_read = read_at known in
     let t = at_read.read-parts in
-    let names = (names_at at-check).before.before.resolve in
-    let u = at-check.check-types in
-    let p = grown _ _ t.result t.ensures.0.1 (grown-told known) in
-    let some = some-nodes (names_at at-check) in
-    let typed = right-types (text at_read) (list at_read) _ (size known) (still-planted (text at_read) (list at_read) _ _ (size known) names.ensures p)
-    u.result (u.ensures (text at_read) (marked-below (keysIn (list at_read)) (text at_read) _ (omega arith) names.ensures.marked))
-    (marked-below (keysIn (list at_read)) (text at_read) _ (omega arith) names.ensures.marked) c.enum-told2.given.1 in (
+    let names = (names_at at_check).before.before.resolve in
+    let u = at_check.check-types in
+    let p = grown _ _ t.result t.ensures.0.1 (grown_told known) in
+    let some = some_nodes (names_at at_check) in
+    let typed = right_types (text at_read) (list at_read) _ (size known) (still_planted (text at_read) (list at_read) _ _ (size known) names.ensures p)
+    u.result (u.ensures (text at_read) (marked_below (keys_in (list at_read)) (text at_read) _ (omega arith) names.ensures.marked))
+    (marked_below (keys_in (list at_read)) (text at_read) _ (omega arith) names.ensures.marked) c.enum-told2.given.1 in (
       (settles (scratch at_read) (Count _), typed),
       λ lent.
-          let parts = sown-told _ _ _ t.result t.ensures.1 (grown-told known) lent in
+          let parts = sown_told _ _ _ t.result t.ensures.1 (grown_told known) lent in
           ready (text at_read) (list at_read) _ _ (size known) (found known) typed (omega (arith, names.kept, p.has))
-          (still-sown (text at_read) (list at_read) _ _ _ (size known) (found known) names.ensures parts) lent,
+          (still_sown (text at_read) (list at_read) _ _ _ (size known) (found known) names.ensures parts) lent,
     )
 
-pub typed-root-spec : {M : Type 1} → statement M
-typed-root-spec =
+pub typed_root_spec : {M : Type 1} → statement M
+typed_root_spec =
     tie.close
     (tie.spec
     (λ c κs. search rules)
@@ -140,19 +140,19 @@ typed-root-spec =
     (λ c. search rules)
     (λ c. search rules)
     names_stand
-    some-nodes
+    some_nodes
     root_stands
     (λ c. search rules)
     (λ c. search rules)
-    (λ c. omega (arith, (over-at c).read-parts.auto))
-    (λ c. omega (arith, (over-at c).read-parts.auto))
+    (λ c. omega (arith, (over_at c).read-parts.auto))
+    (λ c. omega (arith, (over_at c).read-parts.auto))
     over
-    (λ c. omega (arith, (unread-at c).read-parts.auto))
-    (λ c. omega (arith, (unread-at c).read-parts.auto))
-    no-tree
+    (λ c. omega (arith, (unread_at c).read-parts.auto))
+    (λ c. omega (arith, (unread_at c).read-parts.auto))
+    no_tree
     (λ c. let names = names_at c.before.before.before in omega (arith, (read_at (known_at names)).read-parts.auto, names.before.before.resolve.kept))
     (λ c. let names = names_at c.before.before.before in omega (arith, (read_at (known_at names)).read-parts.auto))
-    wrong-types
+    wrong_types
     (λ c. let names = names_at c.before.before in omega (arith, (read_at (known_at names)).read-parts.auto, names.before.before.resolve.kept))
     (λ c. let names = names_at c.before.before in omega (arith, (read_at (known_at names)).read-parts.auto))
     right)

@@ -1,6 +1,6 @@
 -- `resolving::priority_mark` meets its contract: the bit of the test.
 use mathlib.Core.Path.{◌≡◌, sym, ◌∙◌, ap}
-use Rattle.paper.specs.Tokens.{bytes, sameBytes}
+use Rattle.paper.specs.Tokens.{bytes, same_bytes}
 use Rattle.paper.specs.Code.{bit}
 use Rattle.trees.specs.Standing.{spelling}
 use borrow.Author.Rules.{rules}
@@ -11,11 +11,11 @@ use Rattle.resolving.proofs.priority_mark.Tie as tie
 abbrev start : tie.After-is-priority → tie.Start
 start c = c.before.before.before
 
-answer : (c : tie.After-is-priority) → bit c.is-priority.result ≡ bit (sameBytes (spelling (start c).args.text.now (start c).args.f) (bytes "priority"))
+answer : (c : tie.After-is-priority) → bit c.is-priority.result ≡ bit (same_bytes (spelling (start c).args.text.now (start c).args.f) (bytes "priority"))
 answer c = rw (← c.before.spelled.ensures) (ap bit c.is-priority.ensures)
 
-pub priority-mark-spec : {M : Type 1} → statement M
-priority-mark-spec =
+pub priority_mark_spec : {M : Type 1} → statement M
+priority_mark_spec =
     tie.close
     (tie.spec
     (λ c κs. search rules)

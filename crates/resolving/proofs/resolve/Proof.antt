@@ -3,14 +3,14 @@
 use Prim.Native.Nat.{◌-◌, ◌≤◌}
 use native.Mathlib.Omega.{arith}
 use mathlib.Core.Path.{◌≡◌}
-use Rattle.keys.specs.Says.{keysIn}
+use Rattle.keys.specs.Says.{keys_in}
 use Rattle.resolving.specs.Resolved.{Resolves}
-use Rattle.resolving.proofs.Marked.{none-resolved, one_more}
+use Rattle.resolving.proofs.Marked.{none_resolved, one_more}
 use Rattle.resolving.proofs.resolve.Statement.{statement}
 use Rattle.resolving.proofs.resolve.Tie as tie
 
 abbrev invariant-loop : tie.invariant-loop
-invariant-loop text list nodes₀ count i₀ nodes i = (i ≤ count) × Resolves (keysIn list) text nodes₀ nodes i
+invariant-loop text list nodes₀ count i₀ nodes i = (i ≤ count) × Resolves (keys_in list) text nodes₀ nodes i
 
 abbrev decreases-loop : tie.decreases-loop
 decreases-loop text list nodes₀ count i₀ nodes i = count - i
@@ -19,8 +19,8 @@ decreases-loop text list nodes₀ count i₀ nodes i = count - i
 abbrev start : tie.At-loop invariant-loop decreases-loop → tie.Start invariant-loop decreases-loop
 start c = c.before.before.before.before
 
-node-stands : tie.Need-resolve-node-requires invariant-loop decreases-loop
-node-stands c κs =
+node_stands : tie.Need-resolve-node-requires invariant-loop decreases-loop
+node_stands c κs =
     let turn = c.before in
     let given = (start turn.before).pre in
     (given.0, omega (arith, given.1, turn.before.loop.invariant.1.keeps.size, turn.loop-test.true))
@@ -31,27 +31,27 @@ turn c = c.before.before.before.before
 
 goes_on : tie.Need-loop-preserved invariant-loop decreases-loop
 goes_on c =
-    let at-loop = (turn c).before in
-    let a = (start at-loop).args in
-    let l = at-loop.loop in
-    (omega (arith, (turn c).loop-test.true), one_more (keysIn a.list.now) a.text.now _ l.nodes _ l.i l.inv.1 c.before.before.resolve-node.ensures)
+    let at_loop = (turn c).before in
+    let a = (start at_loop).args in
+    let l = at_loop.loop in
+    (omega (arith, (turn c).loop-test.true), one_more (keys_in a.list.now) a.text.now _ l.nodes _ l.i l.inv.1 c.before.before.resolve-node.ensures)
 
-all-resolved : tie.Need-returns invariant-loop decreases-loop
-all-resolved c =
+all_resolved : tie.Need-returns invariant-loop decreases-loop
+all_resolved c =
     let l = c.before.loop in
     let same : l.i ≡ (start c.before).args.count = omega (arith, l.invariant.0, c.loop-test.false) in
     rw same at l.invariant.1
 
-pub resolve-spec : {M : Type 1} → statement M
-resolve-spec =
+pub resolve_spec : {M : Type 1} → statement M
+resolve_spec =
     tie.close
     (tie.spec
     invariant-loop
     decreases-loop
-    (λ c. (omega arith, none-resolved _ _ _))
-    node-stands
+    (λ c. (omega arith, none_resolved _ _ _))
+    node_stands
     (λ c. omega (arith, (turn c).loop-test.true))
     (λ c. omega (arith, (turn c).loop-test.true))
     goes_on
     (λ c. c.before.loop.invariant.1.keeps.size)
-    all-resolved)
+    all_resolved)

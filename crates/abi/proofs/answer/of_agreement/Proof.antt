@@ -12,8 +12,8 @@ differs c = rw c.before.enum-told2.given.1 c.answer2.ensures
 refused : tie.Need-returns-3
 refused c = rw c.before.before.r.given.1 c.refusal.ensures
 
-pub of-agreement-spec : {M : Type 1} → statement M
-of-agreement-spec =
+pub of_agreement_spec : {M : Type 1} → statement M
+of_agreement_spec =
     tie.close
     (tie.spec
     (λ c. search rules)

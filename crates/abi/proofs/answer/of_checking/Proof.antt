@@ -9,8 +9,8 @@ enum_told c = search rules
 answer-requires : tie.Need-answer-requires
 answer-requires c κs = search rules
 
-enum-known-r : tie.Need-enum-known-r
-enum-known-r c = search rules
+enum_known_r : tie.Need-enum-known-r
+enum_known_r c = search rules
 
 refusal-requires : tie.Need-refusal-requires
 refusal-requires c κs = search rules
@@ -21,6 +21,6 @@ returns c = rw c.before.enum_told.given.1 c.answer.ensures
 returns-2 : tie.Need-returns-2
 returns-2 c = rw c.before.before.r.given.1 c.refusal.ensures
 
-pub of-checking-spec : {M : Type 1} → statement M
-of-checking-spec =
-    tie.close (tie.spec enum_told answer-requires enum-known-r refusal-requires returns returns-2)
+pub of_checking_spec : {M : Type 1} → statement M
+of_checking_spec =
+    tie.close (tie.spec enum_told answer-requires enum_known_r refusal-requires returns returns-2)

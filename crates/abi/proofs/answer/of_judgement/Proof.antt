@@ -9,14 +9,14 @@ enum_told c = search rules
 answer-requires : tie.Need-answer-requires
 answer-requires c κs = search rules
 
-enum-told-2 : tie.Need-enum-told-2
-enum-told-2 c = search rules
+enum_told_2 : tie.Need-enum-told-2
+enum_told_2 c = search rules
 
 answer-requires-2 : tie.Need-answer-requires-2
 answer-requires-2 c κs = search rules
 
-enum-known-r : tie.Need-enum-known-r
-enum-known-r c = search rules
+enum_known_r : tie.Need-enum-known-r
+enum_known_r c = search rules
 
 refusal-requires : tie.Need-refusal-requires
 refusal-requires c κs = search rules
@@ -30,15 +30,15 @@ returns-2 c = rw c.before.enum-told2.given.1 c.answer2.ensures
 returns-3 : tie.Need-returns-3
 returns-3 c = rw c.before.before.r.given.1 c.refusal.ensures
 
-pub of-judgement-spec : {M : Type 1} → statement M
-of-judgement-spec =
+pub of_judgement_spec : {M : Type 1} → statement M
+of_judgement_spec =
     tie.close
     (tie.spec
     enum_told
     answer-requires
-    enum-told-2
+    enum_told_2
     answer-requires-2
-    enum-known-r
+    enum_known_r
     refusal-requires
     returns
     returns-2

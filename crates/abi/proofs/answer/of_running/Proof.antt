@@ -3,20 +3,20 @@ use borrow.Author.Rules.{rules}
 use Rattle.abi.proofs.answer.of_running.Statement.{statement}
 use Rattle.abi.proofs.answer.of_running.Tie as tie
 
-enum-known-r : tie.Need-enum-known-r
-enum-known-r c = search rules
+enum_known_r : tie.Need-enum-known-r
+enum_known_r c = search rules
 
 answer-requires : tie.Need-answer-requires
 answer-requires c κs = search rules
 
-enum-known-r-2 : tie.Need-enum-known-r-2
-enum-known-r-2 c = search rules
+enum_known_r_2 : tie.Need-enum-known-r-2
+enum_known_r_2 c = search rules
 
 answer-requires-2 : tie.Need-answer-requires-2
 answer-requires-2 c κs = search rules
 
-enum-known-r-3 : tie.Need-enum-known-r-3
-enum-known-r-3 c = search rules
+enum_known_r_3 : tie.Need-enum-known-r-3
+enum_known_r_3 c = search rules
 
 refusal-requires : tie.Need-refusal-requires
 refusal-requires c κs = search rules
@@ -30,15 +30,15 @@ returns-2 c = rw c.before.before.r2.given.1 c.answer2.ensures
 returns-3 : tie.Need-returns-3
 returns-3 c = rw c.before.before.r3.given.1 c.refusal.ensures
 
-pub of-running-spec : {M : Type 1} → statement M
-of-running-spec =
+pub of_running_spec : {M : Type 1} → statement M
+of_running_spec =
     tie.close
     (tie.spec
-    enum-known-r
+    enum_known_r
     answer-requires
-    enum-known-r-2
+    enum_known_r_2
     answer-requires-2
-    enum-known-r-3
+    enum_known_r_3
     refusal-requires
     returns
     returns-2

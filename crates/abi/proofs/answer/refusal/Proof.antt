@@ -3,44 +3,44 @@ use borrow.Author.Rules.{rules}
 use Rattle.abi.proofs.answer.refusal.Statement.{statement}
 use Rattle.abi.proofs.answer.refusal.Tie as tie
 
-enum-known-place : tie.Need-enum-known-place
-enum-known-place c = search rules
+enum_known_place : tie.Need-enum-known-place
+enum_known_place c = search rules
 
 refused-in-requires : tie.Need-refused-in-requires
 refused-in-requires c κs = search rules
 
-enum-known-place-2 : tie.Need-enum-known-place-2
-enum-known-place-2 c = search rules
+enum_known_place_2 : tie.Need-enum-known-place-2
+enum_known_place_2 c = search rules
 
 refused-in-requires-2 : tie.Need-refused-in-requires-2
 refused-in-requires-2 c κs = search rules
 
-enum-known-place-3 : tie.Need-enum-known-place-3
-enum-known-place-3 c = search rules
+enum_known_place_3 : tie.Need-enum-known-place-3
+enum_known_place_3 c = search rules
 
 refused-in-requires-3 : tie.Need-refused-in-requires-3
 refused-in-requires-3 c κs = search rules
 
-enum-known-place-4 : tie.Need-enum-known-place-4
-enum-known-place-4 c = search rules
+enum_known_place_4 : tie.Need-enum-known-place-4
+enum_known_place_4 c = search rules
 
 refused-in-requires-4 : tie.Need-refused-in-requires-4
 refused-in-requires-4 c κs = search rules
 
-enum-known-place-5 : tie.Need-enum-known-place-5
-enum-known-place-5 c = search rules
+enum_known_place_5 : tie.Need-enum-known-place-5
+enum_known_place_5 c = search rules
 
 refused-in-requires-5 : tie.Need-refused-in-requires-5
 refused-in-requires-5 c κs = search rules
 
-enum-known-place-6 : tie.Need-enum-known-place-6
-enum-known-place-6 c = search rules
+enum_known_place_6 : tie.Need-enum-known-place-6
+enum_known_place_6 c = search rules
 
 refused-in-requires-6 : tie.Need-refused-in-requires-6
 refused-in-requires-6 c κs = search rules
 
-enum-known-place-7 : tie.Need-enum-known-place-7
-enum-known-place-7 c = search rules
+enum_known_place_7 : tie.Need-enum-known-place-7
+enum_known_place_7 c = search rules
 
 refused-in-requires-7 : tie.Need-refused-in-requires-7
 refused-in-requires-7 c κs = search rules
@@ -66,23 +66,23 @@ returns-6 c = rw c.before.before.place6.given.1 c.refused-in6.ensures
 returns-7 : tie.Need-returns-7
 returns-7 c = rw c.before.before.place7.given.1 c.refused-in7.ensures
 
-pub refusal-spec : {M : Type 1} → statement M
-refusal-spec =
+pub refusal_spec : {M : Type 1} → statement M
+refusal_spec =
     tie.close
     (tie.spec
-    enum-known-place
+    enum_known_place
     refused-in-requires
-    enum-known-place-2
+    enum_known_place_2
     refused-in-requires-2
-    enum-known-place-3
+    enum_known_place_3
     refused-in-requires-3
-    enum-known-place-4
+    enum_known_place_4
     refused-in-requires-4
-    enum-known-place-5
+    enum_known_place_5
     refused-in-requires-5
-    enum-known-place-6
+    enum_known_place_6
     refused-in-requires-6
-    enum-known-place-7
+    enum_known_place_7
     refused-in-requires-7
     returns
     returns-2

@@ -4,18 +4,18 @@ use borrow.Author.Rules.{rules}
 use Rattle.abi.proofs.counts.of_counting.Statement.{statement}
 use Rattle.abi.proofs.counts.of_counting.Tie as tie
 
-counted-told : tie.Need-returns
-counted-told c =
+counted_told : tie.Need-returns
+counted_told c =
     let answered = c.before in
     rw answered.before.before.r.given.1 (rw answered.of-reading.ensures at c.totals.ensures)
 
-refused-told : tie.Need-returns-2
-refused-told c =
+refused_told : tie.Need-returns-2
+refused_told c =
     let answered = c.before in
     rw answered.before.before.r2.given.1 (rw answered.of-reading2.ensures at c.totals2.ensures)
 
-pub of-counting-spec : {M : Type 1} → statement M
-of-counting-spec =
+pub of_counting_spec : {M : Type 1} → statement M
+of_counting_spec =
     tie.close
     (tie.spec
     (λ c. search rules)
@@ -24,5 +24,5 @@ of-counting-spec =
     (λ c. search rules)
     (λ c κs. search rules)
     (λ c κs. search rules)
-    counted-told
-    refused-told)
+    counted_told
+    refused_told)

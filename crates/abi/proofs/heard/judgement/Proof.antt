@@ -10,5 +10,5 @@ refused c = rw (eq-eqb _ 0 c.before.if1.true) c.refusal.ensures
 other : tie.Need-returns-2
 other c = rw (ne_eqb _ 0 c.before.if1.false) c.verdict.ensures
 
-pub judgement-spec : {M : Type 1} → statement M
-judgement-spec = tie.close (tie.spec (λ c κs. search rules) refused (λ c κs. search rules) other)
+pub judgement_spec : {M : Type 1} → statement M
+judgement_spec = tie.close (tie.spec (λ c κs. search rules) refused (λ c κs. search rules) other)

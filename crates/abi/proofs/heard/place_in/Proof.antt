@@ -9,8 +9,8 @@ another c =
     let n = c.before.args.input in
     rw (ne_eqb n 1 r.0.0.0.0.0.1, ne_eqb n 2 r.0.0.0.0.1, ne_eqb n 3 r.0.0.0.1, ne_eqb n 4 r.0.0.1, ne_eqb n 5 r.0.1, ne_eqb n 6 r.1)
 
-pub place-in-spec : {M : Type 1} → statement M
-place-in-spec =
+pub place_in_spec : {M : Type 1} → statement M
+place_in_spec =
     tie.close
     (tie.spec
     (λ c. rw c.match.keys1)

@@ -12,5 +12,5 @@ input c = rw (eq-eqb _ 0 c.before.before.if1.false, ne_eqb _ 0 c.if2.true)
 value : tie.Need-returns-3
 value c = rw (eq-eqb _ 0 c.before.before.before.if1.false, eq-eqb _ 0 c.before.if2.false)
 
-pub plain-spec : {M : Type 1} → statement M
-plain-spec = tie.close (tie.spec number input value)
+pub plain_spec : {M : Type 1} → statement M
+plain_spec = tie.close (tie.spec number input value)

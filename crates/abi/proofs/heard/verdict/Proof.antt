@@ -11,8 +11,8 @@ use Rattle.abi.proofs.heard.verdict.Tie as tie
 beside : (c : tie.Else1) → plain c.before.before.args.a ≡ true
 beside c = sym c.before.plain.ensures ∙ not-false _ c.if1.false
 
-more-beside : tie.Need-returns
-more-beside c = let asked = c.before in rw (sym asked.before.plain.ensures ∙ not-true _ asked.if1.true) c.no_answer.ensures
+more_beside : tie.Need-returns
+more_beside c = let asked = c.before in rw (sym asked.before.plain.ensures ∙ not-true _ asked.if1.true) c.no_answer.ensures
 
 accepted : tie.Need-returns-2
 accepted c = rw (beside c.before, c.match.keys1)
@@ -26,13 +26,13 @@ another c =
     let n = told.before.before.before.args.a.says in
     rw (beside told.before, ne_eqb n 1 told.match.rest.0.1, ne_eqb n 2 told.match.rest.1) c.no-answer2.ensures
 
-pub verdict-spec : {M : Type 1} → statement M
-verdict-spec =
+pub verdict_spec : {M : Type 1} → statement M
+verdict_spec =
     tie.close
     (tie.spec
     (λ c κs. search rules)
     (λ c κs. search rules)
-    more-beside
+    more_beside
     (λ c κs. search rules)
     accepted
     violated

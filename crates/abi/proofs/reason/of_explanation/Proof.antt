@@ -5,25 +5,25 @@ use Rattle.abi.proofs.reason.of_explanation.Tie as tie
 
 -- the length, the judgement before it, and the case of the match before that
 
-part-told : tie.Need-returns
-part-told c =
+part_told : tie.Need-returns
+part_told c =
     let cut = c.before in
     let judged = cut.before in
     rw judged.before.before.r.given.1 (rw (cut.length.ensures, judged.of-judgement.ensures) at c.reason.ensures)
 
-key-told : tie.Need-returns-2
-key-told c =
+key_told : tie.Need-returns-2
+key_told c =
     let cut = c.before in
     let judged = cut.before in
     rw judged.before.before.r2.given.1 (rw (cut.length2.ensures, judged.of-judgement2.ensures) at c.reason2.ensures)
 
-nothing-told : tie.Need-returns-3
-nothing-told c =
+nothing_told : tie.Need-returns-3
+nothing_told c =
     let judged = c.before in
     rw judged.before.before.r3.given.1 (rw judged.of-judgement3.ensures at c.reason3.ensures)
 
-pub of-explanation-spec : {M : Type 1} → statement M
-of-explanation-spec =
+pub of_explanation_spec : {M : Type 1} → statement M
+of_explanation_spec =
     tie.close
     (tie.spec
     (λ c. search rules)
@@ -37,6 +37,6 @@ of-explanation-spec =
     (λ c. search rules)
     (λ c κs. search rules)
     (λ c κs. search rules)
-    part-told
-    key-told
-    nothing-told)
+    part_told
+    key_told
+    nothing_told)

@@ -3,21 +3,21 @@ use borrow.Author.Rules.{rules}
 use Rattle.abi.proofs.summary.of_summarizing.Statement.{statement}
 use Rattle.abi.proofs.summary.of_summarizing.Tie as tie
 
-refused-told : tie.Need-returns
-refused-told c =
+refused_told : tie.Need-returns
+refused_told c =
     let answered = c.before in
-    rw answered.before.before.r.given.1 (rw answered.of-checking.ensures at c.naming.ensures)
+    rw answered.before.before.r.given.1 (rw answered.of_checking.ensures at c.naming.ensures)
 
-summary-told : tie.Need-returns-2
-summary-told c =
+summary_told : tie.Need-returns-2
+summary_told c =
     let counted = c.before in
     let marked = counted.before in
     let answered = marked.before in
     rw answered.before.before.r2.given.1
     (rw (answered.of-checking2.ensures, marked.mark.ensures, counted.count-keys.ensures.0) at c.naming2.ensures)
 
-pub of-summarizing-spec : {M : Type 1} → statement M
-of-summarizing-spec =
+pub of_summarizing_spec : {M : Type 1} → statement M
+of_summarizing_spec =
     tie.close
     (tie.spec
     (λ c. search rules)
@@ -28,5 +28,5 @@ of-summarizing-spec =
     (λ c κs. search rules)
     (λ c κs. search rules)
     (λ c κs. search rules)
-    refused-told
-    summary-told)
+    refused_told
+    summary_told)

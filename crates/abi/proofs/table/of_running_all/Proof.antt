@@ -4,18 +4,18 @@ use borrow.Author.Rules.{rules}
 use Rattle.abi.proofs.table.of_running_all.Statement.{statement}
 use Rattle.abi.proofs.table.of_running_all.Tie as tie
 
-ran-told : tie.Need-returns
-ran-told c =
+ran_told : tie.Need-returns
+ran_told c =
     let answered = c.before in
     rw answered.before.before.r.given.1 (rw answered.of-reading.ensures at c.stepping.ensures)
 
-refused-told : tie.Need-returns-2
-refused-told c =
+refused_told : tie.Need-returns-2
+refused_told c =
     let answered = c.before in
     rw answered.before.before.r2.given.1 (rw answered.of-reading2.ensures at c.stepping2.ensures)
 
-pub of-running-all-spec : {M : Type 1} → statement M
-of-running-all-spec =
+pub of_running_all_spec : {M : Type 1} → statement M
+of_running_all_spec =
     tie.close
     (tie.spec
     (λ c. search rules)
@@ -24,5 +24,5 @@ of-running-all-spec =
     (λ c. search rules)
     (λ c κs. search rules)
     (λ c κs. search rules)
-    ran-told
-    refused-told)
+    ran_told
+    refused_told)

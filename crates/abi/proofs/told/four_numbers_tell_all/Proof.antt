@@ -7,12 +7,12 @@ use mathlib.Core.Bool.{Bool, true, false}
 use mathlib.Core.List.{List}
 use lib.Dec.{eqb}
 use borrow.Author.Tests.{ne_eqb}
-use Rattle.paper.specs.Answers.{Answer, ok, refused, Input, inText, inList, inEntry, inBlocks, inBuffer, inContract, in_table, Ran, judgementSays}
+use Rattle.paper.specs.Answers.{Answer, ok, refused, Input, InText, InList, inEntry, inBlocks, inBuffer, inContract, in_table, Ran, judgement_says}
 use Rattle.paper.specs.declared.Explanation.{Explanation}
 use Rattle.paper.specs.declared.Explanation.TheVariants as X
 use Rattle.paper.specs.Parts.{Stretch}
-use Rattle.paper.specs.Explained.{inPart, nothingToShow, keyIndex, stretchFrom, explanationSays}
-use Rattle.paper.specs.ExplainedRight.{Explains, names-part}
+use Rattle.paper.specs.Explained.{in_part, nothing_to_show, key_index, stretch_from, explanation_says}
+use Rattle.paper.specs.ExplainedRight.{Explains, names_part}
 use Rattle.paper.specs.Code.{bit}
 use Rattle.paper.specs.Named.{Summary}
 use Rattle.paper.specs.Rechecking as R
@@ -20,113 +20,113 @@ use Rattle.paper.specs.Rechecking.{Rechecked, reused}
 use Rattle.paper.specs.Counting.{Totals}
 use Rattle.paper.specs.RunAll.{AllRan}
 use Rattle.paper.specs.Promised.{ExplainPromised}
-use Rattle.paper.proofs.ExplainedRight.{explained-is-right, pieces-in-inputs}
+use Rattle.paper.proofs.ExplainedRight.{explained_is_right, pieces_in_inputs}
 use Rattle.abi.specs.declared.answer.PolluxAnswer.{PolluxAnswer}
-use Rattle.abi.specs.Told.{turnedAway, told, judged, ran, compared, reasoned, summarized, rechecked, tallied, ranThrough, verdictAfter, agreeing, done, heard, heardJudged, ranIn, heardRan, heardCompared, heardReason, heardSummary, heardRecheck, heardCounts, heardTable, TellsAll}
+use Rattle.abi.specs.Told.{turned_away, told, judged, ran, compared, reasoned, summarized, rechecked, tallied, ran_through, verdict_after, agreeing, done, heard, heard_judged, ran_in, heard_ran, heard_compared, heard_reason, heard_summary, heard_recheck, heard_counts, heard_table, TellsAll}
 use Rattle.abi.proofs.told.four_numbers_tell_all.Statement.{statement}
 use Rattle.abi.proofs.told.four_numbers_tell_all.Tie as tie
 
 -- a refusal is read back whatever else an answer may say
-refusal-heard : {A : Type 0} (means : PolluxAnswer → A) (n : ℕ) (i : Input) (at : ℕ) → heard means (turnedAway n i at) ≡ refused n i at
-refusal-heard means n inText at = refl
-refusal-heard means n inList at = refl
-refusal-heard means n inEntry at = refl
-refusal-heard means n inBlocks at = refl
-refusal-heard means n inBuffer at = refl
-refusal-heard means n inContract at = refl
-refusal-heard means n in_table at = refl
+refusal_heard : {A : Type 0} (means : PolluxAnswer → A) (n : ℕ) (i : Input) (at : ℕ) → heard means (turned_away n i at) ≡ refused n i at
+refusal_heard means n InText at = refl
+refusal_heard means n InList at = refl
+refusal_heard means n inEntry at = refl
+refusal_heard means n inBlocks at = refl
+refusal_heard means n inBuffer at = refl
+refusal_heard means n inContract at = refl
+refusal_heard means n in_table at = refl
 
 -- and so is every answer, where what is said of a good one is
-all-heard : {A : Type 0} (means : PolluxAnswer → A) (say : A → PolluxAnswer) → ((a : A) → heard means (say a) ≡ ok a)
+all_heard : {A : Type 0} (means : PolluxAnswer → A) (say : A → PolluxAnswer) → ((a : A) → heard means (say a) ≡ ok a)
     → (x : Answer A) → heard means (told say x) ≡ x
-all-heard means say good (ok a) = good a
-all-heard means say good (refused n i at) = refusal-heard means n i at
+all_heard means say good (ok a) = good a
+all_heard means say good (refused n i at) = refusal_heard means n i at
 
 -- a verdict, whatever steps it took, and these with it
-verdict-heard : (steps : ℕ) (b : Bool) → heardJudged (verdictAfter steps b) ≡ ok b
-verdict-heard steps true = refl
-verdict-heard steps false = refl
+verdict_heard : (steps : ℕ) (b : Bool) → heard_judged (verdict_after steps b) ≡ ok b
+verdict_heard steps true = refl
+verdict_heard steps false = refl
 
-judged-heard : (x : Answer Bool) → heardJudged (judged x) ≡ x
-judged-heard = all-heard (λ p. eqb p.says 1) (verdictAfter 0) (verdict-heard 0)
+judged_heard : (x : Answer Bool) → heard_judged (judged x) ≡ x
+judged_heard = all_heard (λ p. eqb p.says 1) (verdict_after 0) (verdict_heard 0)
 
-steps-heard : (steps : ℕ) (b : Bool) → heardRan (verdictAfter steps b) ≡ ok (record { accepted = b; steps = steps })
-steps-heard steps true = refl
-steps-heard steps false = refl
+steps_heard : (steps : ℕ) (b : Bool) → heard_ran (verdict_after steps b) ≡ ok (record { accepted = b; steps = steps })
+steps_heard steps true = refl
+steps_heard steps false = refl
 
-run-heard : (x : Answer Ran) → heardRan (ran x) ≡ x
-run-heard = all-heard ranIn (λ r. verdictAfter r.steps r.accepted) (λ r. steps-heard r.steps r.accepted)
+run_heard : (x : Answer Ran) → heard_ran (ran x) ≡ x
+run_heard = all_heard ran_in (λ r. verdict_after r.steps r.accepted) (λ r. steps_heard r.steps r.accepted)
 
 -- whether blocks agree
 
-agreeing-heard : (b : Bool) → heardCompared (agreeing b) ≡ ok b
-agreeing-heard true = refl
-agreeing-heard false = refl
+agreeing_heard : (b : Bool) → heard_compared (agreeing b) ≡ ok b
+agreeing_heard true = refl
+agreeing_heard false = refl
 
-compared-heard : (x : Answer Bool) → heardCompared (compared x) ≡ x
-compared-heard = all-heard (λ p. eqb p.says 4) agreeing agreeing-heard
+compared_heard : (x : Answer Bool) → heard_compared (compared x) ≡ x
+compared_heard = all_heard (λ p. eqb p.says 4) agreeing agreeing_heard
 
 -- a reason
 
-numbered : (text list entry : List ℕ) (n at : ℕ) (s : Stretch) → Explains text list entry (inPart n at s) → 1 ≤ n
-numbered text list entry n at s (names-part j f) = omega arith
+numbered : (text list entry : List ℕ) (n at : ℕ) (s : Stretch) → Explains text list entry (in_part n at s) → 1 ≤ n
+numbered text list entry n at s (names_part j f) = omega arith
 
 module _ (text list entry : List ℕ) where
-  reason-heard : (r : Explanation) → ExplainPromised text list entry r → heardReason (reasoned (explanationSays r)) ≡ explanationSays r
-  reason-heard (X.Part n at from to) p =
-      let lies = pieces-in-inputs.of_part text list entry n at (stretchFrom from to) (sym p) in
-      let one = numbered text list entry n at (stretchFrom from to) ((explained-is-right text list entry (inPart n at (stretchFrom from to))).0 (sym p)) in
+  reason_heard : (r : Explanation) → ExplainPromised text list entry r → heard_reason (reasoned (explanation_says r)) ≡ explanation_says r
+  reason_heard (X.Part n at from to) p =
+      let lies = pieces_in_inputs.of_part text list entry n at (stretch_from from to) (sym p) in
+      let one = numbered text list entry n at (stretch_from from to) ((explained_is_right text list entry (in_part n at (stretch_from from to))).0 (sym p)) in
       let some : eqb (to - from) 0 ≡ false = ne_eqb (to - from) 0 (λ e. omega (arith, e, lies.stretch.some)) in
       let first : eqb n 0 ≡ false = ne_eqb n 0 (λ e. omega (arith, e, one)) in
       let end : from + (to - from) ≡ to = omega (arith, lies.stretch.some) in
       rw (some, first, end)
-  reason-heard (X.Key at from to) p =
-      let lies = pieces-in-inputs.of-key text list entry at (keyIndex at) (stretchFrom from to) (sym p) in
+  reason_heard (X.Key at from to) p =
+      let lies = pieces_in_inputs.of_key text list entry at (key_index at) (stretch_from from to) (sym p) in
       let some : eqb (to - from) 0 ≡ false = ne_eqb (to - from) 0 (λ e. omega (arith, e, lies.stretch.some)) in
       let end : from + (to - from) ≡ to = omega (arith, lies.stretch.some) in
       rw (some, end)
-  reason-heard (X.Nothing j) p = ap nothingToShow (judged-heard (judgementSays j))
+  reason_heard (X.Nothing j) p = ap nothing_to_show (judged_heard (judgement_says j))
 
 -- a summary, and a recheck
 
-bit-heard : (b : Bool) → eqb (bit b) 1 ≡ b
-bit-heard true = refl
-bit-heard false = refl
+bit_heard : (b : Bool) → eqb (bit b) 1 ≡ b
+bit_heard true = refl
+bit_heard false = refl
 
-summary-heard : (x : Answer Summary) → heardSummary (summarized x) ≡ x
-summary-heard (ok s) = rw (bit-heard s.priority)
-summary-heard (refused n i at) = refusal-heard (λ _. record { keys = 0; priority = false }) n i at
+summary_heard : (x : Answer Summary) → heard_summary (summarized x) ≡ x
+summary_heard (ok s) = rw (bit_heard s.priority)
+summary_heard (refused n i at) = refusal_heard (λ _. record { keys = 0; priority = false }) n i at
 
-recheck-heard : (x : Rechecked) → heardRecheck (rechecked x) ≡ x
-recheck-heard (reused a) = ap reused (judged-heard a)
-recheck-heard (R.judged a) = ap R.judged (judged-heard a)
+recheck_heard : (x : Rechecked) → heard_recheck (rechecked x) ≡ x
+recheck_heard (reused a) = ap reused (judged_heard a)
+recheck_heard (R.judged a) = ap R.judged (judged_heard a)
 
 -- a count
 
-counts-heard : (x : Answer Totals) → heardCounts (tallied x) ≡ x
-counts-heard (ok t) = refl
-counts-heard (refused n i at) = refusal-heard (λ a. record { parts = a.value; accepted = 0; violated = 0; refused = 0; cut = 0 }) n i at
+counts_heard : (x : Answer Totals) → heard_counts (tallied x) ≡ x
+counts_heard (ok t) = refl
+counts_heard (refused n i at) = refusal_heard (λ a. record { parts = a.value; accepted = 0; violated = 0; refused = 0; cut = 0 }) n i at
 
 -- a table that ran
 
-table-heard : (x : Answer AllRan) → heardTable (ranThrough x) ≡ x
-table-heard (ok t) = refl
-table-heard (refused n i at) = refusal-heard (λ a. record { entries = a.value; steps = 0 }) n i at
+table_heard : (x : Answer AllRan) → heard_table (ran_through x) ≡ x
+table_heard (ok t) = refl
+table_heard (refused n i at) = refusal_heard (λ a. record { entries = a.value; steps = 0 }) n i at
 
 tells_all : TellsAll
 tells_all =
     record {
-      counts = all-heard (λ p. p.value) done (λ _. refl);
-      passes = all-heard (λ _. tt) (λ _. done 0) (λ _. refl);
-      verdicts = judged-heard;
-      runs = run-heard;
-      agreements = compared-heard;
-      reasons = reason-heard;
-      summaries = summary-heard;
-      rechecks = recheck-heard;
-      tallies = counts-heard;
-      tables = table-heard;
+      counts = all_heard (λ p. p.value) done (λ _. refl);
+      passes = all_heard (λ _. tt) (λ _. done 0) (λ _. refl);
+      verdicts = judged_heard;
+      runs = run_heard;
+      agreements = compared_heard;
+      reasons = reason_heard;
+      summaries = summary_heard;
+      rechecks = recheck_heard;
+      tallies = counts_heard;
+      tables = table_heard;
     }
 
-pub four-numbers-tell-all-spec : {M : Type 1} → statement M
-four-numbers-tell-all-spec = tie.close (tie.spec (λ c. tells_all))
+pub four_numbers_tell_all_spec : {M : Type 1} → statement M
+four_numbers_tell_all_spec = tie.close (tie.spec (λ c. tells_all))

@@ -2,24 +2,24 @@
 use mathlib.Core.Path.{◌≡◌, refl, sym, ap, ◌∙◌}
 use mathlib.Core.List.{List}
 use Prim.Native.Nat.{ℕ}
-use Rattle.paper.specs.Answers.{readingSays, checkingSays, judgementSays, translationSays, loadingSays, runningSays, printingSays}
-use Rattle.paper.specs.Explained.{explanationSays}
-use Rattle.paper.specs.Named.{summarizingSays}
-use Rattle.paper.specs.Rechecking.{recheckingSays}
-use Rattle.paper.specs.Fixing.{fixingSays}
-use Rattle.paper.specs.Drafting.{draftingSays}
-use Rattle.paper.specs.Comparing.{agreementSays}
-use Rattle.paper.specs.Counting.{countingSays}
-use Rattle.paper.specs.RunAll.{runningAllSays}
+use Rattle.paper.specs.Answers.{reading_says, checking_says, judgement_says, translation_says, loading_says, running_says, printing_says}
+use Rattle.paper.specs.Explained.{explanation_says}
+use Rattle.paper.specs.Named.{summarizing_says}
+use Rattle.paper.specs.Rechecking.{rechecking_says}
+use Rattle.paper.specs.Fixing.{fixing_says}
+use Rattle.paper.specs.Drafting.{drafting_says}
+use Rattle.paper.specs.Comparing.{agreement_says}
+use Rattle.paper.specs.Counting.{counting_says}
+use Rattle.paper.specs.RunAll.{running_all_says}
 use Rattle.paper.specs.Promised.{TranslateResult, TranslatePromised, PrintResult, PrintPromised, FixResult, FixPromised, DraftResult, DraftPromised, CountResult, CountPromised, RunAllResult, RunAllPromised, Sole}
-use Rattle.paper.proofs.Promised.{no-second-result}
-use Rattle.abi.specs.Heard.{heardAs}
-use Rattle.abi.specs.Told.{counted, passed, judged, ran, compared, reasoned, summarized, rechecked, tallied, ranThrough, Tells, OneAnswerForC}
+use Rattle.paper.proofs.Promised.{no_second_result}
+use Rattle.abi.specs.Heard.{heard_as}
+use Rattle.abi.specs.Told.{counted, passed, judged, ran, compared, reasoned, summarized, rechecked, tallied, ran_through, Tells, OneAnswerForC}
 use Rattle.abi.proofs.told.one_answer_for_c.Statement.{statement}
 use Rattle.abi.proofs.told.one_answer_for_c.Tie as tie
 
-told-once : {R N : Type 0} (Promised : R → Type 0) (numbers : R → N) → Sole Promised → Sole (Tells Promised numbers)
-told-once Promised numbers one =
+told_once : {R N : Type 0} (Promised : R → Type 0) (numbers : R → N) → Sole Promised → Sole (Tells Promised numbers)
+told_once Promised numbers one =
     record {
       result = numbers one.result;
       satisfies = record { result = one.result; promised = one.satisfies; same = refl };
@@ -29,9 +29,9 @@ told-once Promised numbers one =
 -- of an answer, and a buffer, answers or numbers at exit, that make up a result
 module _ {A R N : Type 0} (whole : A → List ℕ → R) (answer : R → A) (buffer : R → List ℕ)
     (answered : (r : A) (s : List ℕ) → answer (whole r s) ≡ r) (holds : (r : A) (s : List ℕ) → buffer (whole r s) ≡ s) where
-  told-with-buffer : (Promised : R → Type 0) (numbers : A → N) → Sole Promised → (exit other : List ℕ) (a b : N)
+  told_with_buffer : (Promised : R → Type 0) (numbers : A → N) → Sole Promised → (exit other : List ℕ) (a b : N)
       → Tells (λ r. Promised (whole r exit)) numbers a → Tells (λ r. Promised (whole r other)) numbers b → (a ≡ b) × (exit ≡ other)
-  told-with-buffer Promised numbers one exit other a b t u =
+  told_with_buffer Promised numbers one exit other a b t u =
       let same : whole t.result exit ≡ whole u.result other =
       one.no_second (whole t.result exit) t.promised ∙ sym (one.no_second (whole u.result other) u.promised)
       in (
@@ -41,36 +41,36 @@ module _ {A R N : Type 0} (whole : A → List ℕ → R) (answer : R → A) (buf
 
 one_answer : OneAnswerForC
 one_answer =
-    let one = no-second-result in
+    let one = no_second_result in
     record {
-      read = λ text. told-once _ (λ r. counted (readingSays r)) (one.read text);
-      check = λ text list. told-once _ (λ r. passed (checkingSays r)) (one.check text list);
-      judge = λ text list entry. told-once _ (λ r. judged (judgementSays r)) (one.judge text list entry);
+      read = λ text. told_once _ (λ r. counted (reading_says r)) (one.read text);
+      check = λ text list. told_once _ (λ r. passed (checking_says r)) (one.check text list);
+      judge = λ text list entry. told_once _ (λ r. judged (judgement_says r)) (one.judge text list entry);
       translate = λ text list buffer.
-          told-with-buffer (λ r s. record { answer = r; buffer = s }) (λ (r : TranslateResult). r.answer) (λ (r : TranslateResult). r.buffer) (λ r s. refl) (λ r s. refl)
-          (TranslatePromised text list buffer) (λ r. counted (translationSays r)) (one.translate text list buffer);
-      load = λ list blocks. told-once _ (λ r. counted (loadingSays r)) (one.load list blocks);
-      run = λ list blocks entry. told-once _ (λ r. ran (runningSays r)) (one.run list blocks entry);
-      runAll = λ list blocks entries answers.
-          told-with-buffer (λ r s. record { answer = r; bytes = s }) (λ (r : RunAllResult). r.answer) (λ (r : RunAllResult). r.bytes) (λ r s. refl) (λ r s. refl)
-          (RunAllPromised list blocks entries answers) (λ r. ranThrough (runningAllSays r)) (one.runAll list blocks entries answers);
+          told_with_buffer (λ r s. record { answer = r; buffer = s }) (λ (r : TranslateResult). r.answer) (λ (r : TranslateResult). r.buffer) (λ r s. refl) (λ r s. refl)
+          (TranslatePromised text list buffer) (λ r. counted (translation_says r)) (one.translate text list buffer);
+      load = λ list blocks. told_once _ (λ r. counted (loading_says r)) (one.load list blocks);
+      run = λ list blocks entry. told_once _ (λ r. ran (running_says r)) (one.run list blocks entry);
+      run_all = λ list blocks entries answers.
+          told_with_buffer (λ r s. record { answer = r; bytes = s }) (λ (r : RunAllResult). r.answer) (λ (r : RunAllResult). r.bytes) (λ r s. refl) (λ r s. refl)
+          (RunAllPromised list blocks entries answers) (λ r. ran_through (running_all_says r)) (one.run_all list blocks entries answers);
       print = λ text buffer.
-          told-with-buffer (λ r s. record { answer = r; buffer = s }) (λ (r : PrintResult). r.answer) (λ (r : PrintResult). r.buffer) (λ r s. refl) (λ r s. refl)
-          (PrintPromised text buffer) (λ r. counted (printingSays r)) (one.print text buffer);
+          told_with_buffer (λ r s. record { answer = r; buffer = s }) (λ (r : PrintResult). r.answer) (λ (r : PrintResult). r.buffer) (λ r s. refl) (λ r s. refl)
+          (PrintPromised text buffer) (λ r. counted (printing_says r)) (one.print text buffer);
       fix = λ text buffer.
-          told-with-buffer (λ r s. record { answer = r; buffer = s }) (λ (r : FixResult). r.answer) (λ (r : FixResult). r.buffer) (λ r s. refl) (λ r s. refl)
-          (FixPromised text buffer) (λ r. counted (fixingSays r)) (one.fix text buffer);
+          told_with_buffer (λ r s. record { answer = r; buffer = s }) (λ (r : FixResult). r.answer) (λ (r : FixResult). r.buffer) (λ r s. refl) (λ r s. refl)
+          (FixPromised text buffer) (λ r. counted (fixing_says r)) (one.fix text buffer);
       draft = λ contract table list buffer.
-          told-with-buffer (λ r s. record { answer = r; buffer = s }) (λ (r : DraftResult). r.answer) (λ (r : DraftResult). r.buffer) (λ r s. refl) (λ r s. refl)
-          (DraftPromised contract table list buffer) (λ r. counted (draftingSays r)) (one.draft contract table list buffer);
-      compare = λ text list blocks. told-once _ (λ r. compared (agreementSays r)) (one.compare text list blocks);
+          told_with_buffer (λ r s. record { answer = r; buffer = s }) (λ (r : DraftResult). r.answer) (λ (r : DraftResult). r.buffer) (λ r s. refl) (λ r s. refl)
+          (DraftPromised contract table list buffer) (λ r. counted (drafting_says r)) (one.draft contract table list buffer);
+      compare = λ text list blocks. told_once _ (λ r. compared (agreement_says r)) (one.compare text list blocks);
       count = λ text list entries numbers.
-          told-with-buffer (λ r s. record { answer = r; numbers = s }) (λ (r : CountResult). r.answer) (λ (r : CountResult). r.numbers) (λ r s. refl) (λ r s. refl)
-          (CountPromised text list entries numbers) (λ r. tallied (countingSays r)) (one.count text list entries numbers);
-      explain = λ text list entry. told-once _ (λ r. reasoned (explanationSays r)) (one.explain text list entry);
-      summarize = λ text list. told-once _ (λ r. summarized (summarizingSays r)) (one.summarize text list);
-      recheck = λ text list old earlier new. told-once _ (λ r. rechecked (recheckingSays r)) (one.recheck text list old (heardAs earlier) new);
+          told_with_buffer (λ r s. record { answer = r; numbers = s }) (λ (r : CountResult). r.answer) (λ (r : CountResult). r.numbers) (λ r s. refl) (λ r s. refl)
+          (CountPromised text list entries numbers) (λ r. tallied (counting_says r)) (one.count text list entries numbers);
+      explain = λ text list entry. told_once _ (λ r. reasoned (explanation_says r)) (one.explain text list entry);
+      summarize = λ text list. told_once _ (λ r. summarized (summarizing_says r)) (one.summarize text list);
+      recheck = λ text list old earlier new. told_once _ (λ r. rechecked (rechecking_says r)) (one.recheck text list old (heard_as earlier) new);
     }
 
-pub one-answer-for-c-spec : {M : Type 1} → statement M
-one-answer-for-c-spec = tie.close (tie.spec (λ c. one_answer))
+pub one_answer_for_c_spec : {M : Type 1} → statement M
+one_answer_for_c_spec = tie.close (tie.spec (λ c. one_answer))

@@ -2,25 +2,25 @@
 use Prim.Native.Nat.{ℕ}
 use mathlib.Core.Path.{◌≡◌, refl, sym, ap, ◌∙◌}
 use mathlib.Core.List.{List}
-use Rattle.paper.specs.Answers.{judgementSays}
-use Rattle.paper.specs.Explained.{Reason, inPart, atKey, nothingToShow, explanationSays}
-use Rattle.paper.specs.ExplainedRight.{judgementOf}
-use Rattle.paper.proofs.ExplainedRight.{explained-as-judged}
+use Rattle.paper.specs.Answers.{judgement_says}
+use Rattle.paper.specs.Explained.{Reason, in_part, at_key, nothing_to_show, explanation_says}
+use Rattle.paper.specs.ExplainedRight.{judgement_of}
+use Rattle.paper.proofs.ExplainedRight.{explained_as_judged}
 use Rattle.abi.specs.Told.{judged, reasoned, answer_in, ReasonsAsJudged}
 use Rattle.abi.proofs.told.reasons_as_judged.Statement.{statement}
 use Rattle.abi.proofs.told.reasons_as_judged.Tie as tie
 
-answer-in : (r : Reason) → answer_in (reasoned r) ≡ judged (judgementOf r)
-answer-in (inPart n at s) = refl
-answer-in (atKey at k s) = refl
-answer-in (nothingToShow a) = refl
+answer_in_lem : (r : Reason) → answer_in (reasoned r) ≡ judged (judgement_of r)
+answer_in_lem (in_part n at s) = refl
+answer_in_lem (at_key at k s) = refl
+answer_in_lem (nothing_to_show a) = refl
 
-as-judged : ReasonsAsJudged
-as-judged text list entry r a t u =
-    let told : judgementOf (explanationSays t.result) ≡ judgementSays u.result =
-    ap judgementOf t.promised ∙ explained-as-judged text list entry ∙ sym u.promised
+as_judged : ReasonsAsJudged
+as_judged text list entry r a t u =
+    let told : judgement_of (explanation_says t.result) ≡ judgement_says u.result =
+    ap judgement_of t.promised ∙ explained_as_judged text list entry ∙ sym u.promised
     in
-    ap answer_in t.same ∙ answer-in (explanationSays t.result) ∙ ap judged told ∙ sym u.same
+    ap answer_in t.same ∙ answer_in_lem (explanation_says t.result) ∙ ap judged told ∙ sym u.same
 
-pub reasons-as-judged-spec : {M : Type 1} → statement M
-reasons-as-judged-spec = tie.close (tie.spec (λ c. as-judged))
+pub reasons_as_judged_spec : {M : Type 1} → statement M
+reasons_as_judged_spec = tie.close (tie.spec (λ c. as_judged))

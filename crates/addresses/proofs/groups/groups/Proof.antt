@@ -1,6 +1,6 @@
 -- `addresses::groups::groups` meets its contract. The invariant of its loop (`Going`): the parts before `at` are good, `count` says how many
--- they are, and `number` is what they make after the number given. A turn cuts off the next part: a bad one decides (`going-bad`); a good one
--- goes into the number, and is the last where it ends the string (`going-last`), or the next part starts behind its separator (`going_on`).
+-- they are, and `number` is what they make after the number given. A turn cuts off the next part: a bad one decides (`going_bad`); a good one
+-- goes into the number, and is the last where it ends the string (`going_last`), or the next part starts behind its separator (`going_on`).
 -- The measure is how many bytes are left.
 use Prim.Native.Nat.{ℕ, ◌+◌, ◌*◌, ◌-◌, ◌%◌, ◌^◌}
 use mathlib.Core.Path.{◌≡◌, refl, sym, ◌∙◌, ap, ap₂}
@@ -13,9 +13,9 @@ use lib.ListN.{length, take, drop, length-take}
 use Rattle.paper.specs.Tokens.{span}
 use Rattle.paper.specs.Addresses.{Scheme, value_of}
 use Rattle.number.specs.Values.{value}
-use Rattle.addresses.specs.Reads.{scheme, separates, within, isPart, base_of, scale_of}
-use Rattle.addresses.proofs.Digits.{part-size}
-use Rattle.addresses.proofs.Turns.{Going, going_start, going-bad, going-last, going_on}
+use Rattle.addresses.specs.Reads.{scheme, separates, within, is_part, base_of, scale_of}
+use Rattle.addresses.proofs.Digits.{part_size}
+use Rattle.addresses.proofs.Turns.{Going, going_start, going_bad, going_last, going_on}
 use Rattle.addresses.proofs.groups.groups.Statement.{statement}
 use Rattle.addresses.proofs.groups.groups.Tie as tie
 
@@ -56,19 +56,19 @@ end c = c.part-end.result
 abbrev part : Cut → List ℕ
 part c = take (end c - at (turn c)) (drop (at (turn c)) (string (turn c)))
 
-part-ends : (c : Cut) → let t = turn c in end c ≡ at t + span (within (separates (kind t))) (drop (at t) (string t))
-part-ends c = rw (← c.before.separator.ensures) c.part-end.ensures.0
+part_ends : (c : Cut) → let t = turn c in end c ≡ at t + span (within (separates (kind t))) (drop (at t) (string t))
+part_ends c = rw (← c.before.separator.ensures) c.part-end.ensures.0
 
 -- a bad part decides
 
-bad-part : tie.Need-returns invariant-loop decreases-loop
-bad-part c =
+bad_part : tie.Need-returns invariant-loop decreases-loop
+bad_part c =
     let tested = c.before in
     let p = tested.before.before in
     let going = (turn p).loop.invariant in
-    let bad = sym tested.is-part.ensures ∙ not-true _ c.if1.true in (
+    let bad = sym tested.is_part.ensures ∙ not-true _ c.if1.true in (
       record {
-        told = sym (going-bad going (end p) (part-ends p) p.part-end.ensures.1 bad);
+        told = sym (going_bad going (end p) (part_ends p) p.part-end.ensures.1 bad);
         counted = λ h. absurd (false≢true h);
         grown = λ h. absurd (false≢true h);
       },
@@ -83,13 +83,13 @@ Good = tie.Else1 invariant-loop decreases-loop
 abbrev cut : Good → Cut
 cut c = c.before.before.before
 
-good : (c : Good) → isPart (kind (turn (cut c))) (part (cut c)) ≡ true
-good c = sym c.before.is-part.ensures ∙ not-false _ c.if1.false
+good : (c : Good) → is_part (kind (turn (cut c))) (part (cut c)) ≡ true
+good c = sym c.before.is_part.ensures ∙ not-false _ c.if1.false
 
 value-of-requires : tie.Need-value-of-requires invariant-loop decreases-loop
 value-of-requires c κs =
     let found = c.before.before in
-    ((part-size (kind (turn (cut found))) (part (cut found)) (good found)).1, c.base.ensures.1)
+    ((part_size (kind (turn (cut found))) (part (cut found)) (good found)).1, c.base.ensures.1)
 
 -- where the part has gone into the number: the number is moved by the part's scale, and what the part counts is added
 
@@ -116,31 +116,31 @@ put c =
     c.before.grow.ensures.kept
     ∙ ap₂ (λ (by d : ℕ). (value (begun c).loop.number * by + d) % 2 ^ 128) v.before.before.scale.ensures counts
 
-add-count : tie.Need-overflow-add-count invariant-loop decreases-loop
-add-count c = omega (arith, (begun c).loop.invariant, (start (begun c)).good)
+add_count : tie.Need-overflow-add-count invariant-loop decreases-loop
+add_count c = omega (arith, (begun c).loop.invariant, (start (begun c)).good)
 
-last-part : tie.Need-returns-2 invariant-loop decreases-loop
-last-part c =
+last_part : tie.Need-returns-2 invariant-loop decreases-loop
+last_part c =
     let p = c.before in
     let going = (begun p).loop.invariant in
-    let size = part-size (kind (begun p)) (part (cut_off p)) (good (found p)) in (
-      going-last going (end (cut_off p)) (part-ends (cut_off p)) (good (found p)) _ (put p) c.if2.true _ refl refl refl,
+    let size = part_size (kind (begun p)) (part (cut_off p)) (good (found p)) in (
+      going_last going (end (cut_off p)) (part_ends (cut_off p)) (good (found p)) _ (put p) c.if2.true _ refl refl refl,
       omega (arith, going, size.0, length-take (end (cut_off p) - at (begun p)) (drop (at (begun p)) (string (begun p))), c.if2.true),
     )
 
 add_at : tie.Need-overflow-add-at invariant-loop decreases-loop
 add_at c = omega (arith, (cut_off c.before).part-end.ensures, (start (begun c.before)).good)
 
-loop-less : tie.Need-loop-smaller invariant-loop decreases-loop
-loop-less c = omega (arith, (begun c.before).loop.inv, (cut_off c.before).part-end.ensures)
+loop_less : tie.Need-loop-smaller invariant-loop decreases-loop
+loop_less c = omega (arith, (begun c.before).loop.inv, (cut_off c.before).part-end.ensures)
 
-loop-again : tie.Need-loop-preserved invariant-loop decreases-loop
-loop-again c =
+loop_again : tie.Need-loop-preserved invariant-loop decreases-loop
+loop_again c =
     let p = c.before in
-    going_on (begun p).loop.invariant (end (cut_off p)) (part-ends (cut_off p)) (good (found p)) _ (put p) (omega (arith, (cut_off p).part-end.ensures))
+    going_on (begun p).loop.invariant (end (cut_off p)) (part_ends (cut_off p)) (good (found p)) _ (put p) (omega (arith, (cut_off p).part-end.ensures))
 
-pub groups-spec : {M : Type 1} → statement M
-groups-spec =
+pub groups_spec : {M : Type 1} → statement M
+groups_spec =
     tie.close
     (tie.spec
     invariant-loop
@@ -152,13 +152,13 @@ groups-spec =
     (λ c. omega (arith, c.part-end.ensures))
     (λ c. omega (arith, c.part-end.ensures))
     (λ c κs. search rules)
-    bad-part
+    bad_part
     (λ c κs. search rules)
     (λ c κs. search rules)
     value-of-requires
     (λ c κs. search rules)
-    add-count
-    last-part
+    add_count
+    last_part
     add_at
-    loop-less
-    loop-again)
+    loop_less
+    loop_again)

@@ -7,7 +7,7 @@ use borrow.Author.Tests.{eq-eqb, ne_eqb}
 use lib.ListN.{length, drop}
 use Rattle.paper.specs.Tokens.{span}
 use Rattle.addresses.specs.Reads.{within}
-use Rattle.spelling.proofs.Spans.{span-on, span-stop, span-end}
+use Rattle.spelling.proofs.Spans.{span_on, span_stop, span_end}
 use borrow.Author.Rules.{rules}
 use Rattle.addresses.proofs.groups.part_end.Statement.{statement}
 use Rattle.addresses.proofs.groups.part_end.Tie as tie
@@ -23,23 +23,23 @@ returns c =
     let a = c.before.before.before.before.args in
     let l = c.before.before.before.loop in
     let e = ap not (eq-eqb _ _ c.if1.true) in
-    (omega (arith, l.invariant.2, span-stop (within a.separator) a.string.now l.i (search rules) e), omega arith)
+    (omega (arith, l.invariant.2, span_stop (within a.separator) a.string.now l.i (search rules) e), omega arith)
 
-loop-again : tie.Need-loop-preserved invariant-loop decreases-loop
-loop-again c =
+loop_again : tie.Need-loop-preserved invariant-loop decreases-loop
+loop_again c =
     let a = c.before.before.before.before.args in
     let l = c.before.before.before.loop in
     let e = ap not (ne_eqb _ _ c.if1.false) in
-    (omega arith, omega arith, omega (arith, l.invariant.2, span-on (within a.separator) a.string.now l.i (search rules) e))
+    (omega arith, omega arith, omega (arith, l.invariant.2, span_on (within a.separator) a.string.now l.i (search rules) e))
 
 returns-2 : tie.Need-returns-2 invariant-loop decreases-loop
 returns-2 c =
     let a = c.before.before.args in
     let l = c.before.loop in
-    (omega (arith, l.invariant.2, span-end (within a.separator) a.string.now l.i (search rules)), omega arith)
+    (omega (arith, l.invariant.2, span_end (within a.separator) a.string.now l.i (search rules)), omega arith)
 
-pub part-end-spec : {M : Type 1} → statement M
-part-end-spec =
+pub part_end_spec : {M : Type 1} → statement M
+part_end_spec =
     tie.close
     (tie.spec
     invariant-loop
@@ -49,5 +49,5 @@ part-end-spec =
     returns
     (λ c. search rules)
     (λ c. search rules)
-    loop-again
+    loop_again
     returns-2)

@@ -7,7 +7,7 @@ use borrow.Author.Rules.{rules}
 use Rattle.paper.specs.Addresses.{Scheme}
 use Rattle.addresses.specs.Reads.{scheme, parts_of, Grouped}
 use Rattle.addresses.specs.declared.groups.PartsRead.{PartsRead}
-use Rattle.addresses.proofs.Wholes.{read_as, read-good, whole-bad, whole-good}
+use Rattle.addresses.proofs.Wholes.{read_as, read_good, whole_bad, whole_good}
 use Rattle.addresses.proofs.groups.whole.Statement.{statement}
 use Rattle.addresses.proofs.groups.whole.Tie as tie
 
@@ -28,31 +28,31 @@ module _ (c : tie.After-groups) where
   grouped : Grouped kind parts 0 all
   grouped = rw c.before.zero.ensures at c.groups.ensures.0
 
-part-bad : tie.Need-returns
-part-bad c =
+part_bad : tie.Need-returns
+part_bad c =
     let p = c.before.before.before in
-    read_as (sym (whole-bad (kind p) (wanted p) (parts p) (sym (grouped p).told ∙ not-true _ c.before.if1.true))) c.bad.ensures
+    read_as (sym (whole_bad (kind p) (wanted p) (parts p) (sym (grouped p).told ∙ not-true _ c.before.if1.true))) c.bad.ensures
 
-another-count : tie.Need-returns-2
-another-count c =
+another_count : tie.Need-returns-2
+another_count c =
     let p = c.before.before.before.before.before in
-    let good = whole-good (kind p) (wanted p) (parts p) (all p) p.before.before.before.requires (grouped p) (not-false _ c.before.before.before.if1.false) in
+    let good = whole_good (kind p) (wanted p) (parts p) (all p) p.before.before.before.requires (grouped p) (not-false _ c.before.before.before.if1.false) in
     read_as (rw (ne_eqb (all p).count (wanted p) c.before.if2.true) at good) c.bad2.ensures
 
-so-many : tie.Need-returns-3
-so-many c =
+so_many : tie.Need-returns-3
+so_many c =
     let p = c.before.before.before.before.before in
-    let good = whole-good (kind p) (wanted p) (parts p) (all p) p.before.before.before.requires (grouped p) (not-false _ c.before.before.before.if1.false) in
-    read-good _ refl (rw (eq-eqb (all p).count (wanted p) c.before.if2.false) at good)
+    let good = whole_good (kind p) (wanted p) (parts p) (all p) p.before.before.before.requires (grouped p) (not-false _ c.before.before.before.if1.false) in
+    read_good _ refl (rw (eq-eqb (all p).count (wanted p) c.before.if2.false) at good)
 
-pub whole-spec : {M : Type 1} → statement M
-whole-spec =
+pub whole_spec : {M : Type 1} → statement M
+whole_spec =
     tie.close
     (tie.spec
     (λ c κs. search rules)
     (λ c κs. search rules)
     (λ c κs. search rules)
-    part-bad
+    part_bad
     (λ c κs. search rules)
-    another-count
-    so-many)
+    another_count
+    so_many)

@@ -26,8 +26,8 @@ returns-3 c =
     let a = c.before.before.before.before.args in
     rw (cut a.string.now a.at (search rules), eq-eqb _ _ c.before.before.if1.false, cut a.string.now (a.at + 1) (search rules))
 
-pub gap-at-spec : {M : Type 1} → statement M
-gap-at-spec =
+pub gap_at_spec : {M : Type 1} → statement M
+gap_at_spec =
     tie.close
     (tie.spec
     (λ c. search rules)

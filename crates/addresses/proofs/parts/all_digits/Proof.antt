@@ -3,5 +3,5 @@ use borrow.Author.Rules.{rules}
 use Rattle.addresses.proofs.parts.all_digits.Statement.{statement}
 use Rattle.addresses.proofs.parts.all_digits.Tie as tie
 
-pub all-digits-spec : {M : Type 1} → statement M
-all-digits-spec = tie.close (tie.spec (λ c κs. search rules) (λ c. rw (c.run-end.ensures.far, zero-add)))
+pub all_digits_spec : {M : Type 1} → statement M
+all_digits_spec = tie.close (tie.spec (λ c κs. search rules) (λ c. rw (c.run-end.ensures.far, zero-add)))

@@ -9,8 +9,8 @@ use borrow.Author.Rules.{rules}
 use borrow.Author.Tests.{le-leb, lt-leb, not-true, not-false}
 use lib.ListN.{length}
 use lib.Dec.{leb}
-use Rattle.paper.specs.Addresses.{allDigits}
-use Rattle.addresses.proofs.Strings.{or-not}
+use Rattle.paper.specs.Addresses.{all_digits}
+use Rattle.addresses.proofs.Strings.{or_not}
 use Rattle.addresses.proofs.parts.is_decimal.Statement.{statement}
 use Rattle.addresses.proofs.parts.is_decimal.Tie as tie
 
@@ -30,40 +30,40 @@ too_many c = simp (some_bytes c.before, lt-leb (length (part c.before)) 3 c.if2.
 few_bytes : (c : tie.Else2) → leb (length (part c.before)) 3 ≡ true
 few_bytes c = le-leb (length (part c.before)) 3 (omega arith)
 
-not-digits : tie.Need-returns-3
-not-digits c =
+not_digits : tie.Need-returns-3
+not_digits c =
     let few = c.before.before in
     simp (some_bytes few.before, few_bytes few, sym c.before.all_digits.ensures ∙ not-true _ c.if3.true)
 
 -- where all are digits
 
-abbrev few-at : tie.Else3 → tie.Else2
-few-at c = c.before.before
+abbrev few_at : tie.Else3 → tie.Else2
+few_at c = c.before.before
 
-digits : (c : tie.Else3) → allDigits 10 (part (few-at c).before) ≡ true
+digits : (c : tie.Else3) → all_digits 10 (part (few_at c).before) ≡ true
 digits c = sym c.before.all_digits.ensures ∙ not-false _ c.if3.false
 
-zero-before : tie.Need-returns-4
-zero-before c =
+zero_before : tie.Need-returns-4
+zero_before c =
     let p = c.before.before in
-    simp (some_bytes (few-at p).before, few_bytes (few-at p), digits p, or-not, sym c.before.zero-first.ensures ∙ c.if4.true)
+    simp (some_bytes (few_at p).before, few_bytes (few_at p), digits p, or_not, sym c.before.zero-first.ensures ∙ c.if4.true)
 
 by_value : tie.Need-returns-5
 by_value c =
     let tested = c.before.before in
     let p = tested.before in
     rw c.value_of_lem.ensures
-    (sym (simp (some_bytes (few-at p).before, few_bytes (few-at p), digits p, or-not, sym tested.zero-first.ensures ∙ c.before.if4.false)))
+    (sym (simp (some_bytes (few_at p).before, few_bytes (few_at p), digits p, or_not, sym tested.zero-first.ensures ∙ c.before.if4.false)))
 
-pub is-decimal-spec : {M : Type 1} → statement M
-is-decimal-spec =
+pub is_decimal_spec : {M : Type 1} → statement M
+is_decimal_spec =
     tie.close
     (tie.spec
     (λ c. simp (lt-leb 1 (length c.before.before.args.part.now) c.if1.true))
     too_many
     (λ c κs. search rules)
-    not-digits
+    not_digits
     (λ c κs. search rules)
-    zero-before
+    zero_before
     (λ c κs. search rules)
     by_value)

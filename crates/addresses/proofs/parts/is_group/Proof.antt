@@ -20,5 +20,5 @@ returns-3 c =
     let n = length c.before.before.before.before.args.part.now in
     c.all_digits.ensures ∙ sym (simp (le-leb 1 n (omega arith), le-leb n 4 (omega arith)))
 
-pub is-group-spec : {M : Type 1} → statement M
-is-group-spec = tie.close (tie.spec returns returns-2 (λ c κs. search rules) returns-3)
+pub is_group_spec : {M : Type 1} → statement M
+is_group_spec = tie.close (tie.spec returns returns-2 (λ c κs. search rules) returns-3)

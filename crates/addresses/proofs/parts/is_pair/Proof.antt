@@ -13,5 +13,5 @@ returns-2 : tie.Need-returns-2
 returns-2 c =
     c.all_digits.ensures ∙ sym (simp (eq-eqb (length c.before.before.before.args.part.now) 2 c.before.if1.false))
 
-pub is-pair-spec : {M : Type 1} → statement M
-is-pair-spec = tie.close (tie.spec returns (λ c κs. search rules) returns-2)
+pub is_pair_spec : {M : Type 1} → statement M
+is_pair_spec = tie.close (tie.spec returns (λ c κs. search rules) returns-2)

@@ -3,8 +3,8 @@ use borrow.Author.Rules.{rules}
 use Rattle.addresses.proofs.parts.is_part.Statement.{statement}
 use Rattle.addresses.proofs.parts.is_part.Tie as tie
 
-pub is-part-spec : {M : Type 1} → statement M
-is-part-spec =
+pub is_part_spec : {M : Type 1} → statement M
+is_part_spec =
     tie.close
     (tie.spec
     (λ c. search rules)

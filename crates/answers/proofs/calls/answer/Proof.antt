@@ -13,8 +13,8 @@ use Rattle.answers.proofs.calls.answer.Tie as tie
 abbrev start : tie.Then1 → tie.Start
 start c = c.before.before.before.before
 
-n-bytes : tie.Need-slice-aggregate-writing-call
-n-bytes c =
+n_bytes : tie.Need-slice-aggregate-writing-call
+n_bytes c =
     let a = (start c.before).args in
     sym (length-take-le a.n a.third.now (search rules))
 
@@ -34,12 +34,12 @@ no_room c =
     let a = c.before.before.before.before.args in
     rw (lt-leb a.n (length a.third.now) c.if1.false)
 
-pub answer-spec : {M : Type 1} → statement M
-answer-spec =
+pub answer_spec : {M : Type 1} → statement M
+answer_spec =
     tie.close
     (tie.spec
     (λ c. search rules)
-    n-bytes
+    n_bytes
     (λ c κs. search rules)
     (λ c. search rules)
     (λ c κs. search rules)

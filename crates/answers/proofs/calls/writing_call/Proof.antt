@@ -24,8 +24,8 @@ as_it_was c =
     let other = c.before.before.match.rest in
     rw (ne_eqb call 4 other.0.0.0.1, ne_eqb call 7 other.0.0.1, ne_eqb call 11 other.0.1, ne_eqb call 12 other.1)
 
-pub writing-call-spec : {M : Type 1} → statement M
-writing-call-spec =
+pub writing_call_spec : {M : Type 1} → statement M
+writing_call_spec =
     tie.close
     (tie.spec
     (λ c κs. search rules)

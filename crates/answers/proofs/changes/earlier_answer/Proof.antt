@@ -14,5 +14,5 @@ other c =
     let byte = c.before.args.byte in
     rw (ne_eqb byte 1 c.match.rest.0.1, ne_eqb byte 2 c.match.rest.1)
 
-pub earlier-answer-spec : {M : Type 1} → statement M
-earlier-answer-spec = tie.close (tie.spec accepted violated other)
+pub earlier_answer_spec : {M : Type 1} → statement M
+earlier_answer_spec = tie.close (tie.spec accepted violated other)

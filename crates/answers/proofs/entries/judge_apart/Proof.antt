@@ -14,23 +14,23 @@ has_room c κs =
     let kept = ap length c.before.start.ensures ∙ length-take 65536 before in
     omega (arith, kept, c.before.before.large-buffer.ensures)
 
-copied-inside : (c : tie.After-copy) → c.copy.result ≤ length c.copy.new.1.0
-copied-inside c = omega (arith, c.copy.ensures.0, simp (length-append, length-take) at (ap length c.copy.ensures.1))
+copied_inside : (c : tie.After-copy) → c.copy.result ≤ length c.copy.new.1.0
+copied_inside c = omega (arith, c.copy.ensures.0, simp (length-append, length-take) at (ap length c.copy.ensures.1))
 
-copied-length : tie.Need-slice-aggregate-judge
-copied-length c =
+copied_length : tie.Need-slice-aggregate-judge
+copied_length c =
     let copied = c.before.before in
-    sym (length-take-le copied.copy.result copied.copy.new.1.0 (copied-inside copied))
+    sym (length-take-le copied.copy.result copied.copy.new.1.0 (copied_inside copied))
 
-pub judge-apart-spec : {M : Type 1} → statement M
-judge-apart-spec =
+pub judge_apart_spec : {M : Type 1} → statement M
+judge_apart_spec =
     tie.close
     (tie.spec
     (λ c κs. search rules)
     (λ c κs. search rules)
     (λ c. search rules)
     has_room
-    (λ c. copied-inside c.before)
-    copied-length
+    (λ c. copied_inside c.before)
+    copied_length
     (λ c κs. search rules)
     (λ c. search rules))

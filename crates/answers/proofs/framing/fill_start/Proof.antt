@@ -20,7 +20,7 @@ same_length c = search rules
 returns : tie.Need-returns
 returns c = search rules
 
-pub fill-start-spec : {M : Type 1} → statement M
-fill-start-spec =
+pub fill_start_spec : {M : Type 1} → statement M
+fill_start_spec =
     tie.close
     (tie.spec slice-relend-prefix-fill slice-aggregate-fill fill-requires same_length returns)

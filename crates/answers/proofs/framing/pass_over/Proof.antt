@@ -12,8 +12,8 @@ invariant-loop size room₀ left₀ room left = length room ≡ length room₀
 abbrev decreases-loop : tie.decreases-loop
 decreases-loop size room₀ left₀ room left = left
 
-loop-holds : tie.Need-loop-init invariant-loop decreases-loop
-loop-holds c = refl
+loop_holds : tie.Need-loop-init invariant-loop decreases-loop
+loop_holds c = refl
 
 fill-requires : tie.Need-fill-requires invariant-loop decreases-loop
 fill-requires c κs = search rules
@@ -24,37 +24,37 @@ same_length c = search rules
 returns : tie.Need-returns invariant-loop decreases-loop
 returns c = search rules
 
-sub-left : tie.Need-overflow-sub-left invariant-loop decreases-loop
-sub-left c = search rules
+sub_left : tie.Need-overflow-sub-left invariant-loop decreases-loop
+sub_left c = search rules
 
-loop-less : tie.Need-loop-smaller invariant-loop decreases-loop
-loop-less c = search rules
+loop_less : tie.Need-loop-smaller invariant-loop decreases-loop
+loop_less c = search rules
 
-loop-again : tie.Need-loop-preserved invariant-loop decreases-loop
-loop-again c = search rules
+loop_again : tie.Need-loop-preserved invariant-loop decreases-loop
+loop_again c = search rules
 
 fill-start-requires : tie.Need-fill-start-requires invariant-loop decreases-loop
 fill-start-requires c κs = search rules
 
-same-length-2 : tie.Need-same-length-2 invariant-loop decreases-loop
-same-length-2 c = search rules
+same_length_2 : tie.Need-same-length-2 invariant-loop decreases-loop
+same_length_2 c = search rules
 
 returns-2 : tie.Need-returns-2 invariant-loop decreases-loop
 returns-2 c = search rules
 
-pub pass-over-spec : {M : Type 1} → statement M
-pass-over-spec =
+pub pass_over_spec : {M : Type 1} → statement M
+pass_over_spec =
     tie.close
     (tie.spec
     invariant-loop
     decreases-loop
-    loop-holds
+    loop_holds
     fill-requires
     same_length
     returns
-    sub-left
-    loop-less
-    loop-again
+    sub_left
+    loop_less
+    loop_again
     fill-start-requires
-    same-length-2
+    same_length_2
     returns-2)

@@ -1,7 +1,7 @@
--- What stands before the buffer stays, and the buffer is the one that the call left (`changed-behind`).
+-- What stands before the buffer stays, and the buffer is the one that the call left (`changed_behind`).
 use borrow.Author.Rules.{rules}
-use Rattle.paper.specs.Drafting.{draftBuffer}
-use Rattle.answers.proofs.Behind.{changed-behind}
+use Rattle.paper.specs.Drafting.{draft_buffer}
+use Rattle.answers.proofs.Behind.{changed_behind}
 use Rattle.answers.proofs.tables.draft_behind.Statement.{statement}
 use Rattle.answers.proofs.tables.draft_behind.Tie as tie
 
@@ -13,9 +13,9 @@ drafted : tie.Need-returns
 drafted c =
     let called = c.before.before in
     let a = (start called).args in
-    changed-behind (draftBuffer a.contract.now a.table.now a.names.now) a.end a.third.now _ called.draft.ensures
+    changed_behind (draft_buffer a.contract.now a.table.now a.names.now) a.end a.third.now _ called.draft.ensures
 
-pub draft-behind-spec : {M : Type 1} → statement M
-draft-behind-spec =
+pub draft_behind_spec : {M : Type 1} → statement M
+draft_behind_spec =
     tie.close
     (tie.spec (λ c. search rules) (λ c. search rules) (λ c. search rules) (λ c κs. search rules) (λ c. search rules) drafted)

@@ -6,8 +6,8 @@ use Rattle.blocks.proofs.laying.spells.Tie as tie
 returns : tie.Need-returns
 returns c = rw (c.before.before.wide.ensures, c.wide2.ensures)
 
-pub spells-spec : {M : Type 1} → statement M
-spells-spec =
+pub spells_spec : {M : Type 1} → statement M
+spells_spec =
     tie.close
     (tie.spec
     (λ c. search rules)

@@ -18,26 +18,26 @@ slice-aggregate-sums-of c = sym (length-take-le 508 c.before.before.args.block.n
 sums-of-requires : tie.Need-sums-of-requires
 sums-of-requires c κs = omega (arith, length-take-le 508 c.before.before.args.block.now (omega arith))
 
-cast-block : tie.Need-overflow-cast-block
-cast-block c = search rules
+cast_block : tie.Need-overflow-cast-block
+cast_block c = search rules
 
 slice-write-block : tie.Need-slice-write-block
 slice-write-block c = search rules
 
-cast-block-2 : tie.Need-overflow-cast-block-2
-cast-block-2 c = search rules
+cast_block_2 : tie.Need-overflow-cast-block-2
+cast_block_2 c = search rules
 
 slice-write-block-2 : tie.Need-slice-write-block-2
 slice-write-block-2 c = search rules
 
-cast-block-3 : tie.Need-overflow-cast-block-3
-cast-block-3 c = search rules
+cast_block_3 : tie.Need-overflow-cast-block-3
+cast_block_3 c = search rules
 
 slice-write-block-3 : tie.Need-slice-write-block-3
 slice-write-block-3 c = search rules
 
-cast-block-4 : tie.Need-overflow-cast-block-4
-cast-block-4 c = search rules
+cast_block_4 : tie.Need-overflow-cast-block-4
+cast_block_4 c = search rules
 
 slice-write-block-4 : tie.Need-slice-write-block-4
 slice-write-block-4 c = search rules
@@ -53,20 +53,20 @@ returns c =
     set (set (set (set b 508 (x.second / 256 % 256)) 509 (x.second % 256)) 510 (x.first / 256 % 256)) 511 (x.first % 256))
     c.before.before.before.before.sums-of.ensures.0
 
-pub seal-spec : {M : Type 1} → statement M
-seal-spec =
+pub seal_spec : {M : Type 1} → statement M
+seal_spec =
     tie.close
     (tie.spec
     slice-reshare-prefix-sums-of
     slice-aggregate-sums-of
     sums-of-requires
-    cast-block
+    cast_block
     slice-write-block
-    cast-block-2
+    cast_block_2
     slice-write-block-2
-    cast-block-3
+    cast_block_3
     slice-write-block-3
-    cast-block-4
+    cast_block_4
     slice-write-block-4
     same_length
     returns)

@@ -1,10 +1,10 @@
 -- `blocks::sums::sums_of_fours` meets its contract. The invariant of its loop: the fours before byte i are added (`Fours`). A turn adds the
--- next one (`fours-on`). The measure is how many bytes are left.
+-- next one (`fours_on`). The measure is how many bytes are left.
 use Prim.Native.Nat.{◌-◌}
 use native.Mathlib.Omega.{arith}
 use lib.ListN.{length}
 use borrow.Author.Rules.{rules}
-use Rattle.blocks.proofs.Fours.{Fours, fours-none, fours-on, fours-all}
+use Rattle.blocks.proofs.Fours.{Fours, fours_none, fours_on, fours_all}
 use Rattle.blocks.proofs.sums.sums_of_fours.Statement.{statement}
 use Rattle.blocks.proofs.sums.sums_of_fours.Tie as tie
 
@@ -16,8 +16,8 @@ abbrev decreases-loop : tie.decreases-loop
 decreases-loop s first0₀ first1₀ first2₀ first3₀ second0₀ second1₀ second2₀ second3₀ i₀ first0 first1 first2 first3 second0 second1 second2 second3 i =
     length s - i
 
-loop-holds : tie.Need-loop-init invariant-loop decreases-loop
-loop-holds c = fours-none c.before.args.s.now
+loop_holds : tie.Need-loop-init invariant-loop decreases-loop
+loop_holds c = fours_none c.before.args.s.now
 
 -- each of the four words, and the loop
 abbrev Four : Type 0
@@ -32,22 +32,22 @@ second c = (third c).before
 abbrev first : Four → tie.After-turned-word invariant-loop decreases-loop
 first c = (second c).before
 
-abbrev loop-of : Four → tie.At-loop invariant-loop decreases-loop
-loop-of c = (first c).before.before
+abbrev loop_of : Four → tie.At-loop invariant-loop decreases-loop
+loop_of c = (first c).before.before
 
-loop-again : tie.Need-loop-preserved invariant-loop decreases-loop
-loop-again c =
-    fours-on (loop-of c).loop.invariant _ _ _ _ (search rules) (search rules) (first c).turned-word.ensures
+loop_again : tie.Need-loop-preserved invariant-loop decreases-loop
+loop_again c =
+    fours_on (loop_of c).loop.invariant _ _ _ _ (search rules) (search rules) (first c).turned-word.ensures
     (second c).turned-word2.ensures (third c).turned-word3.ensures c.turned-word4.ensures
 
 returns : tie.Need-returns invariant-loop decreases-loop
-returns c = fours-all c.before.loop.invariant (omega arith)
+returns c = fours_all c.before.loop.invariant (omega arith)
 
-pub sums-of-fours-spec : {M : Type 1} → statement M
-sums-of-fours-spec =
+pub sums_of_fours_spec : {M : Type 1} → statement M
+sums_of_fours_spec =
     tie.close
     (tie.spec invariant-loop decreases-loop
-    loop-holds
+    loop_holds
     (λ c. search rules)
     (λ c κs. search rules)
     (λ c. search rules)
@@ -66,7 +66,7 @@ sums-of-fours-spec =
     (λ c. search rules)
     (λ c. search rules)
     (λ c. search rules)
-    loop-again
+    loop_again
     (λ c. search rules)
     (λ c. search rules)
     (λ c. search rules)

@@ -9,7 +9,7 @@ use borrow.Author.Rules.{rules}
 use borrow.Rule.Slice.PartMut.{mid_len}
 use Rattle.blocks.specs.Written.{coded_block, block_at}
 use Rattle.blocks.proofs.Stores.{put_back}
-use Rattle.blocks.proofs.Rows.{block-length}
+use Rattle.blocks.proofs.Rows.{block_length}
 use Rattle.blocks.proofs.writing.put_block.Statement.{statement}
 use Rattle.blocks.proofs.writing.put_block.Tie as tie
 
@@ -31,22 +31,22 @@ write-block-requires : tie.Need-write-block-requires
 write-block-requires c κs =
     let coded = c.before in
     let a = (start coded).args in
-    let few = ap length coded.code-of.ensures ∙ length-take 500 (drop (a.k * 500) a.code.now) in
+    let few = ap length coded.code_of.ensures ∙ length-take 500 (drop (a.k * 500) a.code.now) in
     (mid_len (at coded) (at coded + 512) (buffer coded) (omega arith) ∙ omega arith, omega (arith, few))
 
-part-back : tie.Need-returns
-part-back c =
+part_back : tie.Need-returns
+part_back c =
     let written = c.before.before in
     let coded = written.before.before in
     let a = (start coded).args in
     let size : at coded + 512 - at coded ≡ 512 = omega arith in
     let block = block_at a.total a.keys a.code.now a.k in
-    let is_Block = written.write-block.ensures ∙ ap (coded_block a.total a.keys a.k) coded.code-of.ensures in
+    let is_Block = written.write-block.ensures ∙ ap (coded_block a.total a.keys a.k) coded.code_of.ensures in
     ap₂ (λ (b : List ℕ) (n : ℕ). take (at coded) (buffer coded) ++ (b ++ drop n (drop (at coded) (buffer coded)))) is_Block size
-    ∙ put_back (buffer coded) (at coded) 512 block (block-length a.total a.keys a.code.now a.k) (omega arith)
+    ∙ put_back (buffer coded) (at coded) 512 block (block_length a.total a.keys a.code.now a.k) (omega arith)
 
-pub put-block-spec : {M : Type 1} → statement M
-put-block-spec =
+pub put_block_spec : {M : Type 1} → statement M
+put_block_spec =
     tie.close
     (tie.spec
     (λ c. search rules)
@@ -57,4 +57,4 @@ put-block-spec =
     (λ c. search rules)
     write-block-requires
     (λ c. search rules)
-    part-back)
+    part_back)

@@ -1,15 +1,15 @@
 -- `blocks::writing::write_block` meets its contract: number, count, code, total, keys and check are stored one after another, each over what
--- the one before it left, and together they are the block (`filled-sealed`).
+-- the one before it left, and together they are the block (`filled_sealed`).
 use Prim.Native.Nat.{ℕ, ◌/◌}
 use mathlib.Core.Path.{◌∙◌, ap}
 use mathlib.Core.List.{List}
 use lib.ListN.{length}
 use lib.Seq.{sets}
 use borrow.Author.Rules.{rules}
-use Rattle.paper.specs.Numbers.{bigEndian}
-use Rattle.blocks.specs.Sealed.{sealedAt}
+use Rattle.paper.specs.Numbers.{big_endian}
+use Rattle.blocks.specs.Sealed.{sealed_at}
 use Rattle.blocks.specs.Written.{padded}
-use Rattle.blocks.proofs.Filled.{filled-sealed}
+use Rattle.blocks.proofs.Filled.{filled_sealed}
 use Rattle.blocks.proofs.writing.write_block.Statement.{statement}
 use Rattle.blocks.proofs.writing.write_block.Tie as tie
 
@@ -42,15 +42,15 @@ block_written c =
     let a = (start s).args in
     let code = a.code.now in
     s.seal.ensures
-    ∙ ap sealedAt ((keyed s).put-two-bytes4.ensures
-    ∙ ap (λ (b : List ℕ). sets b 506 (bigEndian 2 a.keys)) ((totalled s).put-two-bytes3.ensures
-    ∙ ap (λ (b : List ℕ). sets b 504 (bigEndian 2 a.total)) ((coded s).put-code.ensures
+    ∙ ap sealed_at ((keyed s).put-two-bytes4.ensures
+    ∙ ap (λ (b : List ℕ). sets b 506 (big_endian 2 a.keys)) ((totalled s).put-two-bytes3.ensures
+    ∙ ap (λ (b : List ℕ). sets b 504 (big_endian 2 a.total)) ((coded s).put-code.ensures
     ∙ ap (λ (b : List ℕ). sets b 4 (padded code)) ((counted s).put-two-bytes2.ensures
-    ∙ ap (λ (b : List ℕ). sets b 2 (bigEndian 2 (length code / 20))) (numbered s).put-two-bytes.ensures))))
-    ∙ filled-sealed a.block.now code a.k a.total a.keys (start s).requires.0 (start s).requires.1
+    ∙ ap (λ (b : List ℕ). sets b 2 (big_endian 2 (length code / 20))) (numbered s).put-two-bytes.ensures))))
+    ∙ filled_sealed a.block.now code a.k a.total a.keys (start s).requires.0 (start s).requires.1
 
-pub write-block-spec : {M : Type 1} → statement M
-write-block-spec =
+pub write_block_spec : {M : Type 1} → statement M
+write_block_spec =
     tie.close
     (tie.spec
     (λ c κs. search rules)

@@ -6,9 +6,9 @@ use mathlib.Core.Path.{◌≡◌, refl, ◌∙◌, ap}
 use mathlib.Core.List.{List, ◌++◌}
 use lib.ListN.{length, drop}
 use borrow.Author.Rules.{rules}
-use Rattle.paper.specs.Blocks.{blocksNeeded}
+use Rattle.paper.specs.Blocks.{blocks_needed}
 use Rattle.blocks.specs.Written.{block_at, in_row}
-use Rattle.blocks.proofs.Rows.{block-length, row_on, row-through}
+use Rattle.blocks.proofs.Rows.{block_length, row_on, row_through}
 use Rattle.blocks.proofs.writing.write_blocks.Statement.{statement}
 use Rattle.blocks.proofs.writing.write_blocks.Tie as tie
 
@@ -45,13 +45,13 @@ abbrev blocks : Turn → ℕ → List ℕ
 blocks t = block (code t) (start t).args.keys
 
 one_size : (t : Turn) (k : ℕ) → length (blocks t k) ≡ 512
-one_size t = block-length (length (code t) / 20) (start t).args.keys (code t)
+one_size t = block_length (length (code t) / 20) (start t).args.keys (code t)
 
 abbrev turn : tie.After-put-block invariant-loop decreases-loop → Turn
 turn c = c.before.before.before
 
-loop-again : tie.Need-loop-preserved invariant-loop decreases-loop
-loop-again c =
+loop_again : tie.Need-loop-preserved invariant-loop decreases-loop
+loop_again c =
     let put = c.before.before in
     let t = turn put in
     let l = t.loop in (
@@ -61,15 +61,15 @@ loop-again c =
           ∙ row_on (blocks t) (one_size t) (buffer t) l.k l.buffer (omega (arith, (needed t).needed.ensures)) l.inv.2,
     )
 
-all-written : tie.Need-returns invariant-loop decreases-loop
-all-written c =
+all_written : tie.Need-returns invariant-loop decreases-loop
+all_written c =
     let t = c.before in
     let all : t.loop.k ≡ (needed t).needed.result = omega arith in
     t.loop.invariant.2 ∙ ap (λ (n : ℕ). in_row (blocks t) 0 n ++ drop (n * 512) (buffer t)) (all ∙ (needed t).needed.ensures)
-    ∙ row-through (blocks t) (one_size t) (buffer t) (blocksNeeded (length (code t) / 20))
+    ∙ row_through (blocks t) (one_size t) (buffer t) (blocks_needed (length (code t) / 20))
 
-pub write-blocks-spec : {M : Type 1} → statement M
-write-blocks-spec =
+pub write_blocks_spec : {M : Type 1} → statement M
+write_blocks_spec =
     tie.close
     (tie.spec invariant-loop decreases-loop
     (λ c κs. search rules)
@@ -77,6 +77,6 @@ write-blocks-spec =
     (λ c κs. (omega arith, omega arith))
     (λ c. omega arith)
     (λ c. omega arith)
-    loop-again
+    loop_again
     (λ c. c.before.loop.invariant.1)
-    all-written)
+    all_written)

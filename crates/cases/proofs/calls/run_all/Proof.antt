@@ -10,8 +10,8 @@ given c =
     let put = c.before.before.before.put-input in
     sym (length-take-le put.result put.new.1.1.1.0 (search rules))
 
-pub run-all-spec : {M : Type 1} → statement M
-run-all-spec =
+pub run_all_spec : {M : Type 1} → statement M
+run_all_spec =
     tie.close
     (tie.spec
     (λ c κs. search rules)

@@ -11,8 +11,8 @@ invariant-loop answers i₀ blank i = Unit {0}
 abbrev decreases-loop : tie.decreases-loop
 decreases-loop answers i₀ blank i = length answers - i
 
-pub show-answers-spec : {M : Type 1} → statement M
-show-answers-spec =
+pub show_answers_spec : {M : Type 1} → statement M
+show_answers_spec =
     tie.close
     (tie.spec
     invariant-loop

@@ -12,8 +12,8 @@ invariant-loop file at room₀ contract₀ place end byte₀ t9 t10 room contrac
 abbrev decreases-loop : tie.decreases-loop
 decreases-loop file at room₀ contract₀ place end byte₀ t9 t10 room contract byte = 256 - byte
 
-pub every-spec : {M : Type 1} → statement M
-every-spec =
+pub every_spec : {M : Type 1} → statement M
+every_spec =
     tie.close
     (tie.spec
     invariant-loop

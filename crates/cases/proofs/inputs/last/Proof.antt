@@ -1,5 +1,5 @@
 -- `cases::inputs::last` meets its contract. The invariant of its loop: the last line of all is the last of those from here on, or the one found
--- before them. A turn takes the line here if it gives the input (`better`); a line past the offset decides nothing (`heads-past`). The measure is
+-- before them. A turn takes the line here if it gives the input (`better`); a line past the offset decides nothing (`heads_past`). The measure is
 -- how many bytes are left.
 use Prim.Native.Nat.{ℕ, ◌+◌, ◌-◌, ◌≤◌}
 use mathlib.Core.Path.{◌≡◌, refl, sym, ap, ap₂, ◌∙◌}
@@ -10,8 +10,8 @@ use lib.ListN.{length, drop, drop_of_length-le}
 use lib.Dec.{eqb}
 use borrow.Author.Rules.{rules}
 use borrow.Author.Tests.{le-leb}
-use Rattle.cases.specs.Inputs.{heads, last_of, gives, lastLine}
-use Rattle.cases.proofs.Lists.{line-head, heads-past}
+use Rattle.cases.specs.Inputs.{heads, last_of, gives, last_line}
+use Rattle.cases.proofs.Lists.{line_head, heads_past}
 use Rattle.cases.proofs.inputs.last.Statement.{statement}
 use Rattle.cases.proofs.inputs.last.Tie as tie
 
@@ -20,7 +20,7 @@ either true x y n h l = h
 either false x y n h l = l
 
 abbrev invariant-loop : tie.invariant-loop
-invariant-loop file to input found₀ at₀ found at = (found ≤ length file) × (last_of (gives file to input) found (heads at true (drop at file)) ≡ lastLine file to input)
+invariant-loop file to input found₀ at₀ found at = (found ≤ length file) × (last_of (gives file to input) found (heads at true (drop at file)) ≡ last_line file to input)
 
 abbrev decreases-loop : tie.decreases-loop
 decreases-loop file to input found₀ at₀ found at = length file - at
@@ -48,7 +48,7 @@ so_far t = t.loop.found
 past : tie.Need-returns invariant-loop decreases-loop
 past c =
     let t = c.before.before in
-    let none = heads-past (file t) (start t).args.to (start t).args.input (drop (at t) (file t)) (at t) true (so_far t) c.if1.true in
+    let none = heads_past (file t) (start t).args.to (start t).args.input (drop (at t) (file t)) (at t) true (so_far t) c.if1.true in
     (sym none ∙ t.loop.invariant.1, t.loop.invariant.0)
 
 -- where the better of the line here and what is found so far is picked
@@ -80,17 +80,17 @@ one_more c =
     let t = turn p in (
       inside p,
       ap₂ (λ (n e : ℕ). last_of (test t) n (heads (e + 1) true (drop (e + 1) (file t)))) (better p) c.scan.ensures.here
-          ∙ sym (ap (last_of (test t) (so_far t)) (line-head (file t) (at t) (reached p).before.loop-test.true)) ∙ t.loop.inv.1,
+          ∙ sym (ap (last_of (test t) (so_far t)) (line_head (file t) (at t) (reached p).before.loop-test.true)) ∙ t.loop.inv.1,
     )
 
-at-the-end : tie.Need-returns-2 invariant-loop decreases-loop
-at-the-end c =
+at_the_end : tie.Need-returns-2 invariant-loop decreases-loop
+at_the_end c =
     let t = c.before in
     let none : last_of (test t) (so_far t) (heads (at t) true (drop (at t) (file t))) ≡ so_far t = rw (drop_of_length-le (file t) c.loop-test.false) in
     (sym none ∙ t.loop.invariant.1, t.loop.invariant.0)
 
-pub last-spec : {M : Type 1} → statement M
-last-spec =
+pub last_spec : {M : Type 1} → statement M
+last_spec =
     tie.close
     (tie.spec
     invariant-loop
@@ -103,4 +103,4 @@ last-spec =
     (λ c. search rules)
     (λ c. search rules)
     one_more
-    at-the-end)
+    at_the_end)

@@ -12,8 +12,8 @@ returns c =
     let name = c.before.part.ensures ∙ ap (part_of a.file.now a.at) c.before.before.scan.ensures.here in
     c.IsPlace-in.ensures ∙ ap (place_in commands) name
 
-pub command-at-spec : {M : Type 1} → statement M
-command-at-spec =
+pub command_at_spec : {M : Type 1} → statement M
+command_at_spec =
     tie.close
     (tie.spec
     (λ c. search rules)

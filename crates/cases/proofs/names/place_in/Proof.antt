@@ -1,5 +1,5 @@
 -- `cases::names::place_in` meets its contract. The invariant of its loop: the place among all words is as many as were passed, and the place among
--- those from here on. A turn cuts off the first of them (`cut-here`), which is the word (`found`) or is passed (`passed`). The measure is how many
+-- those from here on. A turn cuts off the first of them (`cut_here`), which is the word (`found`) or is passed (`passed`). The measure is how many
 -- bytes are left.
 use Prim.Native.Nat.{ℕ, suc, ◌+◌, ◌-◌, ◌≤◌}
 use mathlib.Core.Path.{◌≡◌, sym, ◌∙◌}
@@ -8,7 +8,7 @@ use native.Mathlib.Omega.{arith}
 use mathlib.Core.List.{List, ◌∷◌}
 use lib.ListN.{length, take, drop, drop_of_length-le}
 use borrow.Author.Rules.{rules}
-use Rattle.paper.specs.Tokens.{sameBytes}
+use Rattle.paper.specs.Tokens.{same_bytes}
 use Rattle.cases.specs.Names.{words_of, place_in}
 use Rattle.cases.proofs.Lists.{first_word}
 use Rattle.cases.proofs.names.place_in.Statement.{statement}
@@ -21,12 +21,12 @@ abbrev decreases-loop : tie.decreases-loop
 decreases-loop words word place₀ at₀ place at = length words - at
 
 -- the word here, and those after it
-found : (words word : List ℕ) (at end : ℕ) → sameBytes (take (end - at) (drop at words)) word ≡ true
+found : (words word : List ℕ) (at end : ℕ) → same_bytes (take (end - at) (drop at words)) word ≡ true
     → words_of (drop at words) ≡ take (end - at) (drop at words) ∷ words_of (drop (end + 1) words)
     → place_in (words_of (drop at words)) word ≡ 0
 found words word at end same cut = rw (cut, same)
 
-passed : (words word : List ℕ) (at end : ℕ) → sameBytes (take (end - at) (drop at words)) word ≡ false
+passed : (words word : List ℕ) (at end : ℕ) → same_bytes (take (end - at) (drop at words)) word ≡ false
     → words_of (drop at words) ≡ take (end - at) (drop at words) ∷ words_of (drop (end + 1) words)
     → place_in (words_of (drop at words)) word ≡ suc (place_in (words_of (drop (end + 1) words)) word)
 passed words word at end same cut = rw (cut, same)
@@ -59,22 +59,22 @@ turn c = c.before.before
 abbrev end : Cut → ℕ
 end c = c.scan.result
 
-cut-here : (c : Cut) → let t = turn c in
+cut_here : (c : Cut) → let t = turn c in
     words_of (drop (at t) (words t)) ≡ take (end c - at t) (drop (at t) (words t)) ∷ words_of (drop (end c + 1) (words t))
-cut-here c = let t = turn c in first_word (words t) (at t) (end c) c.before.loop-test.true c.scan.ensures.here
+cut_here c = let t = turn c in first_word (words t) (at t) (end c) c.before.loop-test.true c.scan.ensures.here
 
-this-word : tie.Need-returns invariant-loop decreases-loop
-this-word c =
+this_word : tie.Need-returns invariant-loop decreases-loop
+this_word c =
     let s = c.before.before.before in
     let t = turn s in
-    let here = found (words t) (word t) (at t) (end s) (sym c.before.same_bytes.ensures ∙ c.if1.true) (cut-here s) in
+    let here = found (words t) (word t) (at t) (end s) (sym c.before.same_bytes.ensures ∙ c.if1.true) (cut_here s) in
     omega (arith, t.loop.inv.1)
 
 next_word : tie.Need-loop-preserved invariant-loop decreases-loop
 next_word c =
     let s = c.before.before.before in
     let t = turn s in
-    let on = passed (words t) (word t) (at t) (end s) (sym c.before.same_bytes.ensures ∙ c.if1.false) (cut-here s) in
+    let on = passed (words t) (word t) (at t) (end s) (sym c.before.same_bytes.ensures ∙ c.if1.false) (cut_here s) in
     (omega (arith, s.scan.ensures.onward), omega (arith, t.loop.inv.1))
 
 no_word : tie.Need-returns-2 invariant-loop decreases-loop
@@ -83,8 +83,8 @@ no_word c =
     let none : place_in (words_of (drop (at t) (words t))) (word t) ≡ 0 = rw (drop_of_length-le (words t) c.loop-test.false) in
     omega (arith, t.loop.invariant.1)
 
-pub place-in-spec : {M : Type 1} → statement M
-place-in-spec =
+pub place_in_spec : {M : Type 1} → statement M
+place_in_spec =
     tie.close
     (tie.spec
     invariant-loop
@@ -95,7 +95,7 @@ place-in-spec =
     (λ c. search rules)
     (λ c. search rules)
     (λ c κs. search rules)
-    this-word
+    this_word
     (λ c. search rules)
     (λ c. search rules)
     (λ c. search rules)

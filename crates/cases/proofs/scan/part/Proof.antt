@@ -24,8 +24,8 @@ inside c =
     let a = c.before.before.before.before.args in
     sym (rw (le-leb a.to (length a.s.now) c.before.before.if1.false))
 
-pub part-spec : {M : Type 1} → statement M
-part-spec =
+pub part_spec : {M : Type 1} → statement M
+part_spec =
     tie.close
     (tie.spec
     (λ c κs. search rules)

@@ -7,7 +7,7 @@ use lib.Dec.{ltb}
 use borrow.Author.Rules.{rules}
 use borrow.Author.Tests.{lt-ltb, le-ltb}
 use Rattle.paper.specs.Tokens.{span}
-use Rattle.spelling.proofs.Spans.{span-on, span-stop, span-end}
+use Rattle.spelling.proofs.Spans.{span_on, span_stop, span_end}
 use Rattle.cases.proofs.scan.scan.Statement.{statement}
 use Rattle.cases.proofs.scan.scan.Tie as tie
 
@@ -22,7 +22,7 @@ at_most c =
     let a = c.before.before.before.before.args in
     let l = c.before.before.before.loop in
     let s = a.s.now in
-    let stop = span-stop (ltb a.limit) s l.i (search rules) (le-ltb a.limit (get_or s l.i 0) c.if1.true) in
+    let stop = span_stop (ltb a.limit) s l.i (search rules) (le-ltb a.limit (get_or s l.i 0) c.if1.true) in
     record { here = omega arith; onward = omega arith; inside = omega arith }
 
 above : tie.Need-loop-preserved invariant-loop decreases-loop
@@ -30,18 +30,18 @@ above c =
     let a = c.before.before.before.before.args in
     let l = c.before.before.before.loop in
     let s = a.s.now in
-    let on = span-on (ltb a.limit) s l.i (search rules) (lt-ltb a.limit (get_or s l.i 0) c.if1.false) in
+    let on = span_on (ltb a.limit) s l.i (search rules) (lt-ltb a.limit (get_or s l.i 0) c.if1.false) in
     (omega arith, omega arith, omega arith)
 
-at-the-end : tie.Need-returns-2 invariant-loop decreases-loop
-at-the-end c =
+at_the_end : tie.Need-returns-2 invariant-loop decreases-loop
+at_the_end c =
     let a = c.before.before.args in
     let l = c.before.loop in
-    let end = span-end (ltb a.limit) a.s.now l.i c.loop-test.false in
+    let end = span_end (ltb a.limit) a.s.now l.i c.loop-test.false in
     record { here = omega arith; onward = omega arith; inside = omega arith }
 
-pub scan-spec : {M : Type 1} → statement M
-scan-spec =
+pub scan_spec : {M : Type 1} → statement M
+scan_spec =
     tie.close
     (tie.spec
     invariant-loop
@@ -52,4 +52,4 @@ scan-spec =
     (λ c. search rules)
     (λ c. search rules)
     above
-    at-the-end)
+    at_the_end)

@@ -6,7 +6,7 @@ use native.Mathlib.Omega.{arith}
 use lib.ListN.{length}
 use borrow.Author.Rules.{rules}
 use Rattle.cases.specs.Words.{spelled, copies, Put}
-use Rattle.cases.proofs.Rooms.{put_as, put-none, put_copy}
+use Rattle.cases.proofs.Rooms.{put_as, put_none, put_copy}
 use Rattle.cases.proofs.words.put_times.Statement.{statement}
 use Rattle.cases.proofs.words.put_times.Tie as tie
 
@@ -17,11 +17,11 @@ invariant-loop s from to times room₀ at quotes end₀ left₀ room end left =
 abbrev decreases-loop : tie.decreases-loop
 decreases-loop s from to times room₀ at quotes end₀ left₀ room end left = left
 
-loop-holds : tie.Need-loop-init invariant-loop decreases-loop
-loop-holds c =
+loop_holds : tie.Need-loop-init invariant-loop decreases-loop
+loop_holds c =
     let times = c.before.before.before.args.times in
     let none : times - times ≡ 0 = omega arith in
-    (refl, omega arith, rw none (put-none _ _))
+    (refl, omega arith, rw none (put_none _ _))
 
 -- a turn: what the function was given
 
@@ -43,21 +43,21 @@ one_more c =
     let l = t.loop in
     (search rules, omega arith, put_copy (start t).args.times l.left (turning put).loop-test.true l.inv.1 l.inv.2 put.put.ensures)
 
-all-put : tie.Need-returns invariant-loop decreases-loop
-all-put c =
+all_put : tie.Need-returns invariant-loop decreases-loop
+all_put c =
     let t = c.before in
     let a = (start t).args in
     let all : a.times - t.loop.left ≡ a.times = omega arith in
     put_as (ap₂ (λ (n q : ℕ). copies n (spelled (2 - q) a.s.now (a.from + q) a.to)) all t.before.quotes-at.ensures.0) t.loop.invariant.2
 
-pub put-times-spec : {M : Type 1} → statement M
-put-times-spec =
+pub put_times_spec : {M : Type 1} → statement M
+put_times_spec =
     tie.close
     (tie.spec
     invariant-loop
     decreases-loop
     (λ c κs. search rules)
-    loop-holds
+    loop_holds
     (λ c. search rules)
     (λ c. search rules)
     (λ c κs. search rules)
@@ -65,4 +65,4 @@ put-times-spec =
     (λ c. search rules)
     one_more
     (λ c. search rules)
-    all-put)
+    all_put)

@@ -1,12 +1,12 @@
 -- `cases::words::put_word` meets its contract: from the word's start a star is looked for. Where the search ends at one, the number before it says
--- how often what stands behind it is put; where it ends at another byte, the word has no count and is put once (`star-byte`).
+-- how often what stands behind it is put; where it ends at another byte, the word has no count and is put once (`star_byte`).
 use Prim.Native.Nat.{ℕ, ◌+◌}
 use mathlib.Core.Path.{◌≡◌, sym, ap, ap₂, ◌∙◌}
 use mathlib.Core.List.{List}
 use borrow.Author.Rules.{rules}
 use borrow.Author.Tests.{eq-eqb, ne_eqb}
 use Rattle.paper.specs.Numbers.{byte_at}
-use Rattle.cases.specs.Places.{stopFrom}
+use Rattle.cases.specs.Places.{stop_from}
 use Rattle.cases.specs.Words.{quoted, copies}
 use Rattle.cases.proofs.Rooms.{put_as}
 use Rattle.cases.proofs.words.put_word.Statement.{statement}
@@ -24,17 +24,17 @@ abbrev text : Ended → List ℕ
 text b = (start b).args.s.now
 
 abbrev star : Ended → ℕ
-star b = stopFrom (text b) (start b).args.from 42
+star b = stop_from (text b) (start b).args.from 42
 
-star-byte : (b : Ended) → b.byte-at.result ≡ byte_at (text b) (star b)
-star-byte b = b.byte-at.ensures ∙ ap (byte_at (text b)) b.before.scan.ensures.here
+star_byte : (b : Ended) → b.byte_at.result ≡ byte_at (text b) (star b)
+star_byte b = b.byte_at.ensures ∙ ap (byte_at (text b)) b.before.scan.ensures.here
 
 once : tie.Need-returns
 once c =
     let put = c.before.before in
     let no-star = put.before.before in
     let b = no-star.before in
-    put_as (sym (rw (ne_eqb (byte_at (text b) (star b)) 42 (λ e. no-star.if1.true (star-byte b ∙ e))))) put.put-times.ensures
+    put_as (sym (rw (ne_eqb (byte_at (text b) (star b)) 42 (λ e. no-star.if1.true (star_byte b ∙ e))))) put.put-times.ensures
 
 counted : tie.Need-returns-2
 counted c =
@@ -43,10 +43,10 @@ counted c =
     let starred = times.before in
     let b = starred.before in
     let word = ap₂ (λ (n t : ℕ). copies n (quoted (text b) (t + 1) (start b).args.to)) times.number.ensures b.before.scan.ensures.here in
-    put_as (word ∙ sym (rw (eq-eqb (byte_at (text b) (star b)) 42 (sym (star-byte b) ∙ starred.if1.false)))) put.put-times2.ensures
+    put_as (word ∙ sym (rw (eq-eqb (byte_at (text b) (star b)) 42 (sym (star_byte b) ∙ starred.if1.false)))) put.put-times2.ensures
 
-pub put-word-spec : {M : Type 1} → statement M
-put-word-spec =
+pub put_word_spec : {M : Type 1} → statement M
+put_word_spec =
     tie.close
     (tie.spec
     (λ c κs. search rules)

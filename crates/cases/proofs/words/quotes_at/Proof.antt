@@ -9,15 +9,15 @@ use Rattle.cases.proofs.words.quotes_at.Tie as tie
 returns : tie.Need-returns
 returns c =
     let a = c.before.before.before.args in
-    (sym (rw (eq-eqb (byte_at a.s.now a.at) 39 (sym c.before.byte-at.ensures ∙ c.if1.true))), search rules)
+    (sym (rw (eq-eqb (byte_at a.s.now a.at) 39 (sym c.before.byte_at.ensures ∙ c.if1.true))), search rules)
 
 returns-2 : tie.Need-returns-2
 returns-2 c =
     let a = c.before.before.before.args in
-    (sym (rw (ne_eqb (byte_at a.s.now a.at) 39 (λ e. c.if1.false (c.before.byte-at.ensures ∙ e)))), search rules)
+    (sym (rw (ne_eqb (byte_at a.s.now a.at) 39 (λ e. c.if1.false (c.before.byte_at.ensures ∙ e)))), search rules)
 
-pub quotes-at-spec : {M : Type 1} → statement M
-quotes-at-spec =
+pub quotes_at_spec : {M : Type 1} → statement M
+quotes_at_spec =
     tie.close
     (tie.spec
     (λ c κs. search rules)

@@ -1,11 +1,11 @@
 -- `comparing::is_all` meets its contract: what is left has as many instructions as the part's own code, and they are its records (`of_size`); where
--- it has another number it is not (`other-size`).
+-- it has another number it is not (`other_size`).
 use Prim.Native.Nat.{ℕ, ◌+◌}
 use native.Mathlib.Omega.{arith}
 use mathlib.Core.Path.{◌≡◌, ◌∙◌}
 use borrow.Author.Rules.{rules}
 use Rattle.comparing.specs.Scratch.{start_at}
-use Rattle.comparing.proofs.Matched.{own-inside, other-size, of_size}
+use Rattle.comparing.proofs.Matched.{own_inside, other_size, of_size}
 use Rattle.comparing.proofs.picking.is_all.Statement.{statement}
 use Rattle.comparing.proofs.picking.is_all.Tie as tie
 
@@ -24,45 +24,45 @@ begins c =
     let s = c.before.before.before.before in
     omega (arith, s.requires.1.1.next, s.requires.1.1.inside, c.start-at.ensures)
 
-some-code : tie.Need-overflow-sub-to
-some-code c = omega (arith, (start c).requires.1.1.next, next c)
+some_code : tie.Need-overflow-sub-to
+some_code c = omega (arith, (start c).requires.1.1.next, next c)
 
 behind : tie.Need-overflow-sub-if1
 behind c =
     let s = start c in
     let a = s.args in
-    omega (arith, (own-inside a.code.now a.starts.now a.k s.pre.1.0 s.pre.1.1 a.blocks.now a.left _ _ (first c) (next c)).0)
+    omega (arith, (own_inside a.code.now a.starts.now a.k s.pre.1.0 s.pre.1.1 a.blocks.now a.left _ _ (first c) (next c)).0)
 
 other : tie.Need-returns
 other c d stood =
     let placed = c.before in
     let a = (start placed).args in
-    other-size a.code.now a.starts.now a.k d stood a.blocks.now a.left _ _ (first placed) (next placed) c.if1.true
+    other_size a.code.now a.starts.now a.k d stood a.blocks.now a.left _ _ (first placed) (next placed) c.if1.true
 
 inside : tie.Need-same-records-requires
 inside c κs =
     let placed = c.before in
     let s = start placed in
     let a = s.args in
-    let (some, within) = own-inside a.code.now a.starts.now a.k s.pre.1.0 s.pre.1.1 a.blocks.now a.left _ _ (first placed) (next placed) in
+    let (some, within) = own_inside a.code.now a.starts.now a.k s.pre.1.0 s.pre.1.1 a.blocks.now a.left _ _ (first placed) (next placed) in
     (omega (arith, s.pre.0.0), omega (arith, some, within, c.if1.false))
 
 same : tie.Need-returns-2
 same c d stood =
     let placed = c.before.before in
     let a = (start placed).args in
-    c.same-records.ensures
+    c.same_records.ensures
     ∙ of_size a.code.now a.starts.now a.k d stood a.blocks.now a.left _ _ (first placed) (next placed) c.before.if1.false
 
-pub is-all-spec : {M : Type 1} → statement M
-is-all-spec =
+pub is_all_spec : {M : Type 1} → statement M
+is_all_spec =
     tie.close
     (tie.spec
     (λ c κs. search rules)
     begins
     (λ c. search rules)
     (λ c κs. search rules)
-    some-code
+    some_code
     behind
     other
     inside

@@ -7,9 +7,9 @@ use mathlib.Core.Bool.{Bool}
 use mathlib.Core.List.{List}
 use borrow.Author.Rules.{rules}
 use Rattle.paper.specs.Code.{Instruction}
-use Rattle.paper.specs.Comparing.{recordsFrom}
+use Rattle.paper.specs.Comparing.{records_from}
 use Rattle.comparing.specs.Scratch.{Stand}
-use Rattle.comparing.specs.Picking.{firstFrom, comesLast}
+use Rattle.comparing.specs.Picking.{first_from, comes_last}
 use Rattle.comparing.proofs.Picked.{first_of, from_first, stops, goes_on, ends_at}
 use Rattle.comparing.proofs.picking.pick.Statement.{statement}
 use Rattle.comparing.proofs.picking.pick.Tie as tie
@@ -18,7 +18,7 @@ abbrev invariant-loop : tie.invariant-loop
 invariant-loop blocks left code starts used n k₀ k =
     (k ≤ n)
     × ((cs : ℕ → List Instruction) → Stand code starts n cs
-    → first_of (comesLast used cs (recordsFrom blocks 0 left)) n k ≡ firstFrom (comesLast used cs (recordsFrom blocks 0 left)) 0 n)
+    → first_of (comes_last used cs (records_from blocks 0 left)) n k ≡ first_from (comes_last used cs (records_from blocks 0 left)) 0 n)
 
 abbrev decreases-loop : tie.decreases-loop
 decreases-loop blocks left code starts used n k₀ k = n - k
@@ -30,14 +30,14 @@ start c = c.before.before.before.before.before
 abbrev Tried : Type 0
 Tried = tie.After-comes-last invariant-loop decreases-loop
 
-abbrev at-loop : Tried → tie.At-loop invariant-loop decreases-loop
-at-loop c = c.before.before
+abbrev at_loop : Tried → tie.At-loop invariant-loop decreases-loop
+at_loop c = c.before.before
 
 abbrev test : tie.Start invariant-loop decreases-loop → (ℕ → List Instruction) → ℕ → Bool
-test s cs = comesLast s.args.used.now cs (recordsFrom s.args.blocks.now 0 s.args.left)
+test s cs = comes_last s.args.used.now cs (records_from s.args.blocks.now 0 s.args.left)
 
-from-the-first : tie.Need-loop-init invariant-loop decreases-loop
-from-the-first c =
+from_the_first : tie.Need-loop-init invariant-loop decreases-loop
+from_the_first c =
     let s = c.before.before.before.before in
     (omega arith, λ cs stand. from_first (test s cs) s.args.n)
 
@@ -50,8 +50,8 @@ stands c κs =
 found : tie.Need-returns invariant-loop decreases-loop
 found c cs stand =
     let tried : Tried = c.before in
-    let l = (at-loop tried).loop in
-    let s = start (at-loop tried) in
+    let l = (at_loop tried).loop in
+    let s = start (at_loop tried) in
     let more = tried.before.loop-test.true in
     let told = sym (tried.comes-last.ensures (cs l.k) (stand l.k more)) ∙ c.if1.true in
     sym (stops (test s cs) s.args.n l.k more told) ∙ l.inv.1 cs stand
@@ -59,8 +59,8 @@ found c cs stand =
 again : tie.Need-loop-preserved invariant-loop decreases-loop
 again c =
     let tried : Tried = c.before in
-    let l = (at-loop tried).loop in
-    let s = start (at-loop tried) in
+    let l = (at_loop tried).loop in
+    let s = start (at_loop tried) in
     let more = tried.before.loop-test.true in (
       omega (arith, more),
       λ cs stand.
@@ -80,7 +80,7 @@ pick_spec =
     (tie.spec
     invariant-loop
     decreases-loop
-    from-the-first
+    from_the_first
     stands
     found
     (λ c. omega (arith, c.before.before.loop-test.true))

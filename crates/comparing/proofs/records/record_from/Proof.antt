@@ -12,5 +12,5 @@ returns c =
     let e : a.at + 20 - a.at ≡ 20 = omega arith in
     rw e
 
-pub record-from-spec : {M : Type 1} → statement M
-record-from-spec = tie.close (tie.spec (λ c. search rules) (λ c. search rules) (λ c. search rules) (λ c. search rules) returns)
+pub record_from_spec : {M : Type 1} → statement M
+record_from_spec = tie.close (tie.spec (λ c. search rules) (λ c. search rules) (λ c. search rules) (λ c. search rules) returns)

@@ -2,8 +2,8 @@
 use mathlib.Core.Path.{ap, ap₂, ◌∙◌}
 use borrow.Author.Rules.{rules}
 use Rattle.paper.specs.Numbers.{bytes_at}
-use Rattle.paper.specs.Tokens.{sameBytes}
-use Rattle.paper.specs.Code.{instructionSize}
+use Rattle.paper.specs.Tokens.{same_bytes}
+use Rattle.paper.specs.Code.{instruction_size}
 use Rattle.comparing.proofs.records.same_record.Statement.{statement}
 use Rattle.comparing.proofs.records.same_record.Tie as tie
 
@@ -14,10 +14,10 @@ returns c =
     let place : tie.After-place-of = theirs.before in
     let a = place.before.before.before.args in
     c.same_bytes.ensures
-    ∙ ap₂ sameBytes (theirs.record-from.ensures ∙ ap (λ at. bytes_at a.blocks.now at instructionSize) place.place_of.ensures) ours.record-from2.ensures
+    ∙ ap₂ same_bytes (theirs.record-from.ensures ∙ ap (λ at. bytes_at a.blocks.now at instruction_size) place.place_of.ensures) ours.record-from2.ensures
 
-pub same-record-spec : {M : Type 1} → statement M
-same-record-spec =
+pub same_record_spec : {M : Type 1} → statement M
+same_record_spec =
     tie.close
     (tie.spec
     (λ c κs. search rules)

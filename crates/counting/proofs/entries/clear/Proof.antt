@@ -1,5 +1,5 @@
 -- `counting::clear` meets its contract. The invariant of its loop: the first k numbers are 0, and the others as they were. Each turn stores one more
--- (`zeros-next`). The measure is the number of those that are left.
+-- (`zeros_next`). The measure is the number of those that are left.
 use Prim.Native.Nat.{ℕ, ◌-◌, ◌≤◌, ◌<◌}
 use native.Mathlib.Omega.{arith}
 use mathlib.Core.Path.{◌≡◌, refl, ap, ◌∙◌}
@@ -7,7 +7,7 @@ use mathlib.Core.List.{List}
 use lib.ListN.{length, set, replicate, length-set}
 use borrow.Author.Rules.{rules}
 use Rattle.paper.specs.Calls.{over}
-use Rattle.counting.proofs.Growing.{zeros-next}
+use Rattle.counting.proofs.Growing.{zeros_next}
 use Rattle.counting.proofs.entries.clear.Statement.{statement}
 use Rattle.counting.proofs.entries.clear.Tie as tie
 
@@ -27,7 +27,7 @@ again c =
     let numbers = l.before.args.counts.now in (
       omega (arith, c.loop-test.true),
       length-set l.loop.counts l.loop.k 0 ∙ l.loop.invariant.1,
-      ap (λ (s : List ℕ). set s l.loop.k 0) l.loop.invariant.2 ∙ zeros-next numbers l.loop.k (omega (arith, inside c, l.loop.invariant.1)),
+      ap (λ (s : List ℕ). set s l.loop.k 0) l.loop.invariant.2 ∙ zeros_next numbers l.loop.k (omega (arith, inside c, l.loop.invariant.1)),
     )
 
 cleared : tie.Need-returns invariant-loop decreases-loop

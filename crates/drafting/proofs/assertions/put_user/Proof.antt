@@ -7,36 +7,36 @@ use lib.Seq.{sets}
 use borrow.Author.Rules.{rules}
 use Rattle.paper.specs.Grammar as G
 use Rattle.paper.specs.Tokens as P
-use Rattle.paper.specs.Tokens.{decimal, literalIn}
-use Rattle.number.specs.Bases.{baseMeant, literalMeant}
+use Rattle.paper.specs.Tokens.{decimal, literal_in}
+use Rattle.number.specs.Bases.{base_meant, literal_meant}
 use Rattle.number.specs.Values.{value}
 use Rattle.trees.proofs.Puts.{number_put}
 use Rattle.trees.specs.Words.{words}
-use Rattle.drafting.proofs.Growing.{put-leaf}
+use Rattle.drafting.proofs.Growing.{put_leaf}
 use Rattle.drafting.proofs.assertions.put_user.Statement.{statement}
 use Rattle.drafting.proofs.assertions.put_user.Tie as tie
 
 -- what the literal is
-is-literal : (c : tie.After-plain) → literalMeant c.plain.result ≡ literalIn decimal c.before.before.before.before.args.value
-is-literal c =
-    ap₂ (λ b m. literalIn (baseMeant b) (value m)) c.plain.ensures.0 c.plain.ensures.1
-    ∙ ap (literalIn decimal) c.before.of-u64.ensures
+is_literal : (c : tie.After-plain) → literal_meant c.plain.result ≡ literal_in decimal c.before.before.before.before.args.value
+is_literal c =
+    ap₂ (λ b m. literal_in (base_meant b) (value m)) c.plain.ensures.0 c.plain.ensures.1
+    ∙ ap (literal_in decimal) c.before.of-u64.ensures
 
 returns : tie.Need-returns
 returns c list =
     let put : tie.After-put-number = c.before.before.before in
     let s = put.before.before.before.before.before in
     let at = s.args.at in
-    let n = literalIn decimal s.args.value in
+    let n = literal_in decimal s.args.value in
     let nodes = s.args.nodes.now in
-    let stored = put.put-number.ensures ∙ ap (λ (x : P.Literal). sets nodes (at * 8) (words at (G.number 0 x))) (is-literal put.before) in
+    let stored = put.put-number.ensures ∙ ap (λ (x : P.Literal). sets nodes (at * 8) (words at (G.number 0 x))) (is_literal put.before) in
     let below : s.args.value < 2 ^ 128 = lt_of_lt_of_le s.ranges.value.fits (lit≤ tt) in
     rw c.leaf.ensures
-    (put-leaf list nodes _ at (words at (G.number 0 n)) refl s.requires.0 stored (record { tokens = refl; levels = refl; rung = refl }) refl
+    (put_leaf list nodes _ at (words at (G.number 0 n)) refl s.requires.0 stored (record { tokens = refl; levels = refl; rung = refl }) refl
     (number_put list nodes _ at s.requires.0 0 n below stored))
 
-pub put-user-spec : {M : Type 1} → statement M
-put-user-spec =
+pub put_user_spec : {M : Type 1} → statement M
+put_user_spec =
     tie.close
     (tie.spec
     (λ c κs. search rules)

@@ -6,7 +6,7 @@ use mathlib.Core.Path.{◌≡◌}
 use mathlib.Core.List.{List}
 use lib.ListN.{length}
 use borrow.Author.Rules.{rules}
-use Rattle.drafting.proofs.Walk.{Read, read_none, read-on, read-fault, read_all, drafts-same}
+use Rattle.drafting.proofs.Walk.{Read, read_none, read_on, read_fault, read_all, drafts_same}
 use Rattle.drafting.proofs.contracts.draft.Statement.{statement}
 use Rattle.drafting.proofs.contracts.draft.Tie as tie
 
@@ -31,8 +31,8 @@ module _ (l : tie.At-loop invariant-loop decreases-loop) where
   names = (start l).args.names.now
 
 -- the loop that a byte is read in
-abbrev loop-of : tie.After-with-byte invariant-loop decreases-loop → tie.At-loop invariant-loop decreases-loop
-loop-of c = c.before.before.before.before
+abbrev loop_of : tie.After-with-byte invariant-loop decreases-loop → tie.At-loop invariant-loop decreases-loop
+loop_of c = c.before.before.before.before
 
 none_read : tie.Need-loop-init invariant-loop decreases-loop
 none_read c =
@@ -45,42 +45,42 @@ ready c κs =
     let r = l.loop.invariant in
     ((start l).requires.0, record { room = omega (arith, r.0, (start l).requires.1); front = r.1.front; stands = r.1.stands })
 
-a-fault : tie.Need-returns invariant-loop decreases-loop
-a-fault c =
+a_fault : tie.Need-returns invariant-loop decreases-loop
+a_fault c =
     let read : tie.After-with-byte invariant-loop decreases-loop = c.before.before.before.before in
-    let l = loop-of read in
+    let l = loop_of read in
     let r = l.loop.inv.1 in
-    read-fault (contract l) (table l) (names l) _ _ l.loop.i r read.before.before.before.loop-test.true _ c.enum_told.given.1
+    read_fault (contract l) (table l) (names l) _ _ l.loop.i r read.before.before.before.loop-test.true _ c.enum_told.given.1
     (read.with_byte.ensures l.loop.i r.front r.stands)
 
 one_more : tie.Need-loop-preserved invariant-loop decreases-loop
 one_more c =
     let read : tie.After-with-byte invariant-loop decreases-loop = c.before.before.before.before.before in
     let next : tie.After-next invariant-loop decreases-loop = c.before in
-    let l = loop-of read in
+    let l = loop_of read in
     let r = l.loop.inv in (
       search rules,
-      read-on (contract l) (table l) (names l) _ _ l.loop.i r.1 read.before.before.before.loop-test.true _ _ next.next.given.1
+      read_on (contract l) (table l) (names l) _ _ l.loop.i r.1 read.before.before.before.loop-test.true _ _ next.next.given.1
           (read.with_byte.ensures l.loop.i r.1.front r.1.stands),
     )
 
-can-end : tie.Need-ended-requires invariant-loop decreases-loop
-can-end c κs =
+can_end : tie.Need-ended-requires invariant-loop decreases-loop
+can_end c κs =
     let l = c.before.before in
     let r = l.loop.invariant in
     (names l, table l, record { room = omega (arith, r.0, (start l).requires.1); front = r.1.front; stands = r.1.stands })
 
 all_read : tie.Need-returns-2 invariant-loop decreases-loop
 all_read c =
-    let at-end : tie.After-ended invariant-loop decreases-loop = c.before.before in
-    let done : tie.After-loop invariant-loop decreases-loop = at-end.before.before in
+    let at_end : tie.After-ended invariant-loop decreases-loop = c.before.before in
+    let done : tie.After-loop invariant-loop decreases-loop = at_end.before.before in
     let l = done.before in
     let r = l.loop.invariant.1 in
-    drafts-same (names l) (table l) _ at-end.ended.result (read_all (contract l) (table l) (names l) _ _ l.loop.i r done.loop-test.false)
-    (at-end.ended.ensures (names l) (table l) r.front r.stands)
+    drafts_same (names l) (table l) _ at_end.ended.result (read_all (contract l) (table l) (names l) _ _ l.loop.i r done.loop-test.false)
+    (at_end.ended.ensures (names l) (table l) r.front r.stands)
 
-pub draft-spec : {M : Type 1} → statement M
-draft-spec =
+pub draft_spec : {M : Type 1} → statement M
+draft_spec =
     tie.close
     (tie.spec
     invariant-loop
@@ -92,10 +92,10 @@ draft-spec =
     (λ c. search rules)
     (λ c. search rules)
     (λ c. search rules)
-    a-fault
+    a_fault
     (λ c. search rules)
     (λ c. search rules)
     one_more
-    can-end
+    can_end
     (λ c. search rules)
     all_read)

@@ -3,7 +3,7 @@ use native.Mathlib.Omega.{arith}
 use mathlib.Core.Path.{refl}
 use mathlib.Core.Bool.{true}
 use borrow.Author.Rules.{rules}
-use Rattle.trees.proofs.Puts.{truth-put}
+use Rattle.trees.proofs.Puts.{truth_put}
 use Rattle.drafting.proofs.contracts.empty.Statement.{statement}
 use Rattle.drafting.proofs.contracts.empty.Tie as tie
 
@@ -14,8 +14,8 @@ returns c list =
     record {
       within = refl;
       few = omega arith;
-      stands = truth-put list s.args.nodes.now _ 0 (omega (arith, s.requires)) 0 true put.put-truth.ensures;
+      stands = truth_put list s.args.nodes.now _ 0 (omega (arith, s.requires)) 0 true put.put-truth.ensures;
     }
 
-pub empty-spec : {M : Type 1} → statement M
-empty-spec = tie.close (tie.spec (λ c κs. search rules) (λ c. search rules) returns)
+pub empty_spec : {M : Type 1} → statement M
+empty_spec = tie.close (tie.spec (λ c κs. search rules) (λ c. search rules) returns)

@@ -3,8 +3,8 @@ use borrow.Author.Rules.{rules}
 use Rattle.drafting.proofs.fronts.link_of.Statement.{statement}
 use Rattle.drafting.proofs.fronts.link_of.Tie as tie
 
-pub link-of-spec : {M : Type 1} → statement M
-link-of-spec =
+pub link_of_spec : {M : Type 1} → statement M
+link_of_spec =
     tie.close
     (tie.spec
     (λ c. search rules)

@@ -11,8 +11,8 @@ unused c =
     let r = c.match.rest in
     rw (ne_eqb n 0 r.0.0.1, ne_eqb n 1 r.0.1, ne_eqb n 2 r.1)
 
-pub comparing-spec : {M : Type 1} → statement M
-comparing-spec =
+pub comparing_spec : {M : Type 1} → statement M
+comparing_spec =
     tie.close
     (tie.spec
     (λ c κs. search rules)

@@ -9,6 +9,6 @@ unused c =
     let r = c.match.rest in
     rw (ne_eqb n 0 r.0.0.1, ne_eqb n 1 r.0.1, ne_eqb n 2 r.1)
 
-pub conjoining-spec : {M : Type 1} → statement M
-conjoining-spec =
+pub conjoining_spec : {M : Type 1} → statement M
+conjoining_spec =
     tie.close (tie.spec (λ c. rw c.match.keys1) (λ c. rw c.match.keys2) (λ c. rw c.match.keys3) unused)

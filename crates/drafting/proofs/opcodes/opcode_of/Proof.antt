@@ -22,6 +22,6 @@ conjoins c =
     let one : b / 128 ≡ 1 = omega arith in
     rw (eq-eqb _ _ clear.if1.false, ne_eqb _ _ c.before.if2.false, eq-eqb _ _ one) c.conjoining.ensures
 
-pub opcode-of-spec : {M : Type 1} → statement M
-opcode-of-spec =
+pub opcode_of_spec : {M : Type 1} → statement M
+opcode_of_spec =
     tie.close (tie.spec reserved (λ c κs. search rules) compares (λ c κs. search rules) conjoins)

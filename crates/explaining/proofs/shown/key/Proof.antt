@@ -4,8 +4,8 @@ use borrow.Author.Rules.{rules}
 use Rattle.explaining.proofs.shown.key.Statement.{statement}
 use Rattle.explaining.proofs.shown.key.Tie as tie
 
-key-there : tie.Need-name-size-requires
-key-there c κs = c.before.requires.1.inside
+key_there : tie.Need-name-size-requires
+key_there c κs = c.before.requires.1.inside
 
 pub key_spec : {M : Type 1} → statement M
 key_spec =
@@ -14,6 +14,6 @@ key_spec =
     (λ c. search rules)
     (λ c. omega (arith, c.before.requires.1.inside, c.before.requires.1.few))
     (λ c. omega (arith, c.before.requires.1.inside, c.before.requires.1.few))
-    key-there
+    key_there
     (λ c. let key = c.before.before.requires.1 in omega (arith, c.name-size.ensures, key.inside, key.few, key.short))
     (λ c. rw c.name-size.ensures))

@@ -8,7 +8,7 @@ use mathlib.Core.List.{List}
 use borrow.Author.Rules.{rules}
 use Rattle.paper.specs.Answers.{ok}
 use Rattle.paper.specs.Parts.{Part}
-use Rattle.paper.specs.Explained.{Reason, reasonFor}
+use Rattle.paper.specs.Explained.{Reason, reason_for}
 use Rattle.explaining.proofs.RowByRow.{stops_at, stops_nowhere}
 use Rattle.explaining.proofs.shown.of_entry.Statement.{statement}
 use Rattle.explaining.proofs.shown.of_entry.Tie as tie
@@ -19,10 +19,10 @@ start c = c.before.before.before.before.before
 
 -- the reason, by what was found
 abbrev reason : tie.After-first-false → Option Part → Reason
-reason c o = reasonFor (start c).args.list.now (ok o)
+reason c o = reason_for (start c).args.list.now (ok o)
 
-row-there : tie.Need-part-requires
-row-there c κs =
+row_there : tie.Need-part-requires
+row_there c κs =
     let searched : tie.After-first-false = c.before.before.before in
     let parted = (start searched).requires.1.1 in
     let f = searched.first-false in
@@ -35,13 +35,13 @@ nothing c text parted =
     let f = searched.first-false in
     sym (ap (reason searched) (stops_nowhere _ _ _ _ _ _ f.result (f.ensures text parted) c.enum_told.given.1))
 
-a-part : tie.Need-returns-2
-a-part c text parted =
+a_part : tie.Need-returns-2
+a_part c text parted =
     let searched : tie.After-first-false = c.before.before.before.before in
     let f = searched.first-false in
     let found = stops_at _ _ _ _ _ _ f.result (f.ensures text parted) c.before.before.broken.given.1 in
     c.part.ensures text (start searched).args.list.now ∙ sym (ap (reason searched) found.first)
 
-pub of-entry-spec : {M : Type 1} → statement M
-of-entry-spec =
-    tie.close (tie.spec (λ c κs. search rules) (λ c. search rules) (λ c. search rules) row-there nothing a-part)
+pub of_entry_spec : {M : Type 1} → statement M
+of_entry_spec =
+    tie.close (tie.spec (λ c κs. search rules) (λ c. search rules) (λ c. search rules) row_there nothing a_part)

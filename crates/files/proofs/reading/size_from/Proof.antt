@@ -12,8 +12,8 @@ invariant-loop fd held buffer₀ size₀ turns₀ buffer size turns = (length bu
 abbrev decreases-loop : tie.decreases-loop
 decreases-loop fd held buffer₀ size₀ turns₀ buffer size turns = turns
 
-pub size-from-spec : {M : Type 1} → statement M
-size-from-spec =
+pub size_from_spec : {M : Type 1} → statement M
+size_from_spec =
     tie.close
     (tie.spec
     invariant-loop

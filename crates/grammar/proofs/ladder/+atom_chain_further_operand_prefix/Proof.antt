@@ -9,13 +9,13 @@ mod Operand
 mod Prefix
 use Rattle.grammar.proofs.ladder.+atom_chain_further_operand_prefix.{statement}
 use Rattle.grammar.proofs.ladder.+atom_chain_further_operand_prefix.Tie.{close}
-use Rattle.grammar.proofs.ladder.+atom_chain_further_operand_prefix.Proof.Common.{μ-atom, μ-chain, μ-further, μ-operand, μ-prefix}
-use Rattle.grammar.proofs.ladder.+atom_chain_further_operand_prefix.Proof.Atom.{atom-closed}
-use Rattle.grammar.proofs.ladder.+atom_chain_further_operand_prefix.Proof.Chain.{chain-closed}
-use Rattle.grammar.proofs.ladder.+atom_chain_further_operand_prefix.Proof.Further.{further-closed}
-use Rattle.grammar.proofs.ladder.+atom_chain_further_operand_prefix.Proof.Operand.{operand-closed}
-use Rattle.grammar.proofs.ladder.+atom_chain_further_operand_prefix.Proof.Prefix.{prefix-closed}
+use Rattle.grammar.proofs.ladder.+atom_chain_further_operand_prefix.Proof.Common.{μ_atom, μ_chain, μ_further, μ_operand, μ_prefix}
+use Rattle.grammar.proofs.ladder.+atom_chain_further_operand_prefix.Proof.Atom.{atom_closed}
+use Rattle.grammar.proofs.ladder.+atom_chain_further_operand_prefix.Proof.Chain.{chain_closed}
+use Rattle.grammar.proofs.ladder.+atom_chain_further_operand_prefix.Proof.Further.{further_closed}
+use Rattle.grammar.proofs.ladder.+atom_chain_further_operand_prefix.Proof.Operand.{operand_closed}
+use Rattle.grammar.proofs.ladder.+atom_chain_further_operand_prefix.Proof.Prefix.{prefix_closed}
 
 pub +atom-chain-further-operand-prefix-spec : {M : Type 1} → statement M
 +atom-chain-further-operand-prefix-spec =
-    close μ-atom μ-chain μ-further μ-operand μ-prefix atom-closed chain-closed further-closed operand-closed prefix-closed
+    close μ_atom μ_chain μ_further μ_operand μ_prefix atom_closed chain_closed further_closed operand_closed prefix_closed

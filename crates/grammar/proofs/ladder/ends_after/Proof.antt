@@ -3,8 +3,8 @@ use borrow.Author.Rules.{rules}
 use Rattle.grammar.proofs.ladder.ends_after.Statement.{statement}
 use Rattle.grammar.proofs.ladder.ends_after.Tie as tie
 
-pub ends-after-spec : {M : Type 1} → statement M
-ends-after-spec =
+pub ends_after_spec : {M : Type 1} → statement M
+ends_after_spec =
     tie.close
     (tie.spec
     (λ c. search rules)

@@ -3,8 +3,8 @@ use borrow.Author.Rules.{rules}
 use Rattle.grammar.proofs.ladder.tighter.Statement.{statement}
 use Rattle.grammar.proofs.ladder.tighter.Tie as tie
 
-pub tighter-spec : {M : Type 1} → statement M
-tighter-spec =
+pub tighter_spec : {M : Type 1} → statement M
+tighter_spec =
     tie.close
     (tie.spec
     (λ c. search rules)

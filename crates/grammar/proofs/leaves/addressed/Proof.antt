@@ -9,21 +9,21 @@ use borrow.Author.Rules.{rules}
 use borrow.Author.Tests.{not-true, not-false}
 use lib.ListN.{length}
 use lib.Seq.{sets, slice}
-use Rattle.paper.specs.Tokens.{Literal, literalIn, plain}
+use Rattle.paper.specs.Tokens.{Literal, literal_in, plain}
 use Rattle.paper.specs.Addresses.{Scheme, address, only}
 use Rattle.paper.specs.Grammar as G
 use Rattle.number.specs.Values.{value}
-use Rattle.number.specs.Bases.{baseMeant, literalMeant}
+use Rattle.number.specs.Bases.{base_meant, literal_meant}
 use Rattle.number.specs.declared.base.Base.{Base}
 use Rattle.number.specs.declared.magnitude.Magnitude.{Magnitude}
 use Rattle.addresses.specs.Reads.{scheme}
-use Rattle.tokens.specs.Tape.{Tape, tapeOf, start_at, end_at, stringNo}
+use Rattle.tokens.specs.Tape.{Tape, tape_of, start_at, end_at, string_no}
 use Rattle.trees.specs.Words.{words}
-use Rattle.grammar.specs.Places.{placeOn, nodeAt}
+use Rattle.grammar.specs.Places.{place_on, node_at}
 use Rattle.grammar.specs.Reading.{Start, start_of, Seen, Ready}
-use Rattle.grammar.proofs.Outcomes.{found, absent, stuck-as, bad-as, same_out, has-row, in-text}
-use Rattle.grammar.proofs.Atoms.{took-leaf, addressed-here, addressed-not}
-use Rattle.grammar.proofs.Operands.{close-on}
+use Rattle.grammar.proofs.Outcomes.{found, absent, stuck_as, bad_as, same_out, has_row, in_text}
+use Rattle.grammar.proofs.Atoms.{took_leaf, addressed_here, addressed_not}
+use Rattle.grammar.proofs.Operands.{close_on}
 use Rattle.grammar.proofs.leaves.addressed.Statement.{statement}
 use Rattle.grammar.proofs.leaves.addressed.Tie as tie
 
@@ -35,7 +35,7 @@ abbrev from : tie.After-next-in → Start
 from c = start_of (start c).args.from.now
 
 abbrev T : tie.After-next-in → Tape
-T c = tapeOf (start c).args.text.now (start c).args.tape.now
+T c = tape_of (start c).args.text.now (start c).args.tape.now
 
 abbrev n : tie.After-next-in → ℕ
 n c = (from c).count
@@ -55,99 +55,99 @@ kind c = scheme (start c).args.scheme
 ready : (c : tie.After-next-in) → Ready (T c) (length (start c).args.nodes.now) (from c)
 ready c = (start c).requires.ready
 
-no-string : tie.Need-returns
-no-string c =
+no_string : tie.Need-returns
+no_string c =
     let looked : tie.After-next-in = c.before.before.before in
-    stuck-as (T looked) (n looked) (quote looked) _ c.place_at.result c.place_at.ensures
-    (addressed-not (T looked) (n looked) (quote looked) address (kind looked) _ (absent _ _ _ _ _ looked.next-in.ensures c.before.enum-told2.given.1))
+    stuck_as (T looked) (n looked) (quote looked) _ c.place_at.result c.place_at.ensures
+    (addressed_not (T looked) (n looked) (quote looked) address (kind looked) _ (absent _ _ _ _ _ looked.next-in.ensures c.before.enum-told2.given.1))
 
 -- a string
 
 abbrev Quoted : Type 0
 Quoted = tie.After-enum-told
 
-abbrev quoted-looked : Quoted → tie.After-next-in
-quoted-looked c = c.before.before
+abbrev quoted_looked : Quoted → tie.After-next-in
+quoted_looked c = c.before.before
 
-quoted : (c : Quoted) → let a = quoted-looked c in Seen (T a).rows (n a) (quote a) stringNo stringNo c.enum_told.given.0.0
-quoted c = found (quoted-looked c).next-in.ensures c.enum_told.given.1
+quoted : (c : Quoted) → let a = quoted_looked c in Seen (T a).rows (n a) (quote a) string_no string_no c.enum_told.given.0.0
+quoted c = found (quoted_looked c).next-in.ensures c.enum_told.given.1
 
-string-stands : tie.Need-string-at-requires
-string-stands c κs =
-    let a = quoted-looked c in
+string_stands : tie.Need-string-at-requires
+string_stands c κs =
+    let a = quoted_looked c in
     let f = quoted c in
-    let s = in-text (ready a).sound (quote a) f.here in
+    let s = in_text (ready a).sound (quote a) f.here in
     let q = s.quoted (omega (arith, f)) in
-    (has-row (ready a).sound (quote a) f.here, omega (arith, q, s.inside))
+    (has_row (ready a).sound (quote a) f.here, omega (arith, q, s.inside))
 
 -- what it is read as
 abbrev Read : Type 0
 Read = tie.After-read
 
-abbrev read-quoted : Read → Quoted
-read-quoted c = c.before.before
+abbrev read_quoted : Read → Quoted
+read_quoted c = c.before.before
 
-abbrev read-looked : Read → tie.After-next-in
-read-looked c = quoted-looked (read-quoted c)
+abbrev read_looked : Read → tie.After-next-in
+read_looked c = quoted_looked (read_quoted c)
 
 abbrev bytes : Read → List ℕ
-bytes c = let a = read-looked c in slice (start_at (T a).rows (quote a) + 1) (end_at (T a).rows (quote a) - 1) (T a).text
+bytes c = let a = read_looked c in slice (start_at (T a).rows (quote a) + 1) (end_at (T a).rows (quote a) - 1) (T a).text
 
-is_read : (c : Read) → address (kind (read-looked c)) (bytes c) ≡ address (kind (read-looked c)) c.before.string-at.result.now
-is_read c = ap (address (kind (read-looked c))) (sym c.before.string-at.ensures)
+is_read : (c : Read) → address (kind (read_looked c)) (bytes c) ≡ address (kind (read_looked c)) c.before.string-at.result.now
+is_read c = ap (address (kind (read_looked c))) (sym c.before.string-at.ensures)
 
 bad : tie.Need-returns-2
 bad c =
     let then = c.before in
     let read : Read = then.before.before in
-    let a = read-looked read in
+    let a = read_looked read in
     let e : address (kind a) (bytes read) ≡ none = is_read read ∙ sym read.read.ensures.says ∙ ap (λ (ok : Bool). only ok (value read.read.result.number)) (not-true read.read.result.ok then.if1.true) in
-    bad-as (T a) (n a) (quote a) _ c.place-at2.result c.place-at2.ensures (quoted (read-quoted read)).here
-    (addressed-here (T a) (n a) (quote a) address (kind a) _ (quoted (read-quoted read)) ∙ rw e)
+    bad_as (T a) (n a) (quote a) _ c.place-at2.result c.place-at2.ensures (quoted (read_quoted read)).here
+    (addressed_here (T a) (n a) (quote a) address (kind a) _ (quoted (read_quoted read)) ∙ rw e)
 
 -- where its node was stored
 abbrev Stored : Type 0
 Stored = tie.After-put-number
 
-abbrev stored-else : Stored → tie.Else1
-stored-else c = c.before.before.before.before
+abbrev stored_else : Stored → tie.Else1
+stored_else c = c.before.before.before.before
 
-abbrev stored-read : Stored → Read
-stored-read c = (stored-else c).before.before
+abbrev stored_read : Stored → Read
+stored_read c = (stored_else c).before.before
 
 -- as a plain number
-stored-plain : (c : Stored) → literalMeant c.before.plain.result ≡ plain (value (stored-read c).read.result.number)
-stored-plain c =
+stored_plain : (c : Stored) → literal_meant c.before.plain.result ≡ plain (value (stored_read c).read.result.number)
+stored_plain c =
     let made = c.before.plain.ensures in
-    ap₂ (λ (b : Base) (m : Magnitude). literalIn (baseMeant b) (value m)) made.0 made.1
+    ap₂ (λ (b : Base) (m : Magnitude). literal_in (base_meant b) (value m)) made.0 made.1
 
 -- both numbers that `close` is given are small: the text has few tokens, and no more nodes are used
-abbrev stored-looked : tie.After-slice-known2 → tie.After-next-in
-stored-looked c = read-looked (stored-read c.before.before)
+abbrev stored_looked : tie.After-slice-known2 → tie.After-next-in
+stored_looked c = read_looked (stored_read c.before.before)
 
-free-fits : tie.Need-overflow-add-close
-free-fits c = let r = ready (stored-looked c) in omega (arith, r.used, r.here, r.sound.cut.few)
+free_fits : tie.Need-overflow-add-close
+free_fits c = let r = ready (stored_looked c) in omega (arith, r.used, r.here, r.sound.cut.few)
 
-quote-fits : tie.Need-overflow-add-close-2
-quote-fits c = let r = ready (stored-looked c) in omega (arith, r.here, r.sound.cut.few)
+quote_fits : tie.Need-overflow-add-close-2
+quote_fits c = let r = ready (stored_looked c) in omega (arith, r.here, r.sound.cut.few)
 
 good : tie.Need-returns-3
 good c =
     let put : Stored = c.before.before.before in
-    let read = stored-read put in
-    let a = read-looked read in
-    let f = quoted (read-quoted read) in
+    let read = stored_read put in
+    let a = read_looked read in
+    let f = quoted (read_quoted read) in
     let m = read.read.result.number in
-    let e : address (kind a) (bytes read) ≡ some (value m) = is_read read ∙ sym read.read.ensures.says ∙ ap (λ (ok : Bool). only ok (value m)) (not-false read.read.result.ok (stored-else put).if1.false) in
-    same_out (T a) (n a) (at a) (free a) _ _ _ _ (addressed-here (T a) (n a) (quote a) address (kind a) _ f ∙ rw e) c.close.result
-    (close-on (T a) (n a) (at a) (at a) (free a) _ _ _ (free a + 1) (quote a + 1)
-    (took-leaf (G.number (placeOn (T a) (at a)) (plain (value m))) (quote a + 1) (quote a + 1) refl refl refl
-    (put.put-number.ensures ∙ ap (λ (l : Literal). sets (start a).args.nodes.now (nodeAt (free a)) (words (free a) (G.number (placeOn (T a) (at a)) l))) (stored-plain put))
+    let e : address (kind a) (bytes read) ≡ some (value m) = is_read read ∙ sym read.read.ensures.says ∙ ap (λ (ok : Bool). only ok (value m)) (not-false read.read.result.ok (stored_else put).if1.false) in
+    same_out (T a) (n a) (at a) (free a) _ _ _ _ (addressed_here (T a) (n a) (quote a) address (kind a) _ f ∙ rw e) c.close.result
+    (close_on (T a) (n a) (at a) (at a) (free a) _ _ _ (free a + 1) (quote a + 1)
+    (took_leaf (G.number (place_on (T a) (at a)) (plain (value m))) (quote a + 1) (quote a + 1) refl refl refl
+    (put.put-number.ensures ∙ ap (λ (l : Literal). sets (start a).args.nodes.now (node_at (free a)) (words (free a) (G.number (place_on (T a) (at a)) l))) (stored_plain put))
     tt (omega arith) (omega (arith, f.here)))
     (omega arith) c.close.result c.close.ensures)
 
-pub addressed-spec : {M : Type 1} → statement M
-addressed-spec =
+pub addressed_spec : {M : Type 1} → statement M
+addressed_spec =
     tie.close
     (tie.spec
     (λ c. search rules)
@@ -158,15 +158,15 @@ addressed-spec =
     (λ c. search rules)
     (λ c. search rules)
     (λ c κs. search rules)
-    no-string
-    string-stands
+    no_string
+    string_stands
     (λ c κs. search rules)
     (λ c κs. search rules)
     bad
     (λ c κs. search rules)
     (λ c κs. search rules)
-    free-fits
-    quote-fits
-    (λ c κs. (ready (stored-looked c)).sound)
+    free_fits
+    quote_fits
+    (λ c κs. (ready (stored_looked c)).sound)
     (λ c. search rules)
     good)

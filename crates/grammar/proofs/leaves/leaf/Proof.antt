@@ -5,20 +5,20 @@ use mathlib.Core.Path.{◌≡◌, refl, sym, ◌∙◌}
 use mathlib.Core.Logic.{◌⊎◌, ⊎_elim, inl, inr}
 use borrow.Author.Rules.{rules}
 use Rattle.paper.specs.Grammar as G
-use Rattle.tokens.specs.Tape.{Tape, tapeOf, kindAt, literalAt}
-use Rattle.grammar.specs.Places.{placeOn}
+use Rattle.tokens.specs.Tape.{Tape, tape_of, kind_at, literal_at}
+use Rattle.grammar.specs.Places.{place_on}
 use Rattle.grammar.specs.Reading.{Start, start_of}
-use Rattle.grammar.proofs.Outcomes.{stuck-as, deep-as, took-as, same_out, has-row, in-text}
-use Rattle.grammar.proofs.Atoms.{took-leaf, leaf-word, leaf-numeral, leaf-deep, leaf-colons, leaf-none, leaf-end}
+use Rattle.grammar.proofs.Outcomes.{stuck_as, deep_as, took_as, same_out, has_row, in_text}
+use Rattle.grammar.proofs.Atoms.{took_leaf, leaf_word, leaf_numeral, leaf_deep, leaf_colons, leaf_none, leaf_end}
 use Rattle.grammar.proofs.leaves.leaf.Statement.{statement}
 use Rattle.grammar.proofs.leaves.leaf.Tie as tie
 
-no-token : tie.Need-returns
-no-token c =
+no_token_lem : tie.Need-returns
+no_token_lem c =
     let then = c.before in
     let given : tie.Start = then.before.before.before.before.before.before.before in
     let from = start_of given.args.from.now in
-    stuck-as _ from.count from.token _ c.place_at.result c.place_at.ensures (leaf-end _ from.count from.token then.if1.true)
+    stuck_as _ from.count from.token _ c.place_at.result c.place_at.ensures (leaf_end _ from.count from.token then.if1.true)
 
 -- where the kind is read; and from there what the function was given
 abbrev Read : Type 0
@@ -31,7 +31,7 @@ abbrev from : Read → Start
 from c = start_of (start c).args.from.now
 
 abbrev T : Read → Tape
-T c = tapeOf (start c).args.text.now (start c).args.tape.now
+T c = tape_of (start c).args.text.now (start c).args.tape.now
 
 abbrev n : Read → ℕ
 n c = (from c).count
@@ -45,14 +45,14 @@ free c = (from c).node
 here : (c : Read) → at c < n c
 here c = omega (arith, c.before.if1.false)
 
-is-kind : (c : Read) → kindAt (T c).rows (at c) ≡ c.kind_at.result
-is-kind c = sym c.kind_at.ensures
+is_kind : (c : Read) → kind_at (T c).rows (at c) ≡ c.kind_at.result
+is_kind c = sym c.kind_at.ensures
 
-word-leads : tie.Need-word-requires
-word-leads c κs =
+word_leads : tie.Need-word-requires
+word_leads c κs =
     let keys = c.before in
     let read = keys.before in
-    record { leads = record { ready = (start read).requires; some = here read }; word = is-kind read ∙ keys.match.keys1 }
+    record { leads = record { ready = (start read).requires; some = here read }; word = is_kind read ∙ keys.match.keys1 }
 
 word : tie.Need-returns-2
 word c =
@@ -60,13 +60,13 @@ word c =
     let keys = word_at.before.before in
     let read = keys.before in
     same_out (T read) (n read) (at read) (free read) _ _ _ _
-    (leaf-word (T read) (n read) (at read) (here read) (is-kind read ∙ keys.match.keys1)) word_at.word.result word_at.word.ensures
+    (leaf_word (T read) (n read) (at read) (here read) (is_kind read ∙ keys.match.keys1)) word_at.word.result word_at.word.ensures
 
-numeral-fits : tie.Need-numeral-requires
-numeral-fits c κs =
+numeral_fits : tie.Need-numeral-requires
+numeral_fits c κs =
     let read = c.before.before in
     let p = (start read).requires in
-    (omega (arith, here read, p.haveRoom, p.used), has-row p.sound (at read) (here read), omega (arith, here read, p.sound.cut.few))
+    (omega (arith, here read, p.have_room, p.used), has_row p.sound (at read) (here read), omega (arith, here read, p.sound.cut.few))
 
 numeral : tie.Need-returns-3
 numeral c =
@@ -74,12 +74,12 @@ numeral c =
     let keys = numeral-at.before.before in
     let read = keys.before in
     let o = numeral-at.numeral.ensures in
-    took-as (T read) (n read) (at read) (free read) _ _ _ numeral-at.numeral.result o.0
-    (took-leaf (G.number (placeOn (T read) (at read)) (literalAt (T read).rows (at read))) (at read + 1) (at read + 1) refl
-    (leaf-numeral (T read) (n read) (at read) (here read) (is-kind read ∙ keys.match.keys2)) refl o.1 tt (omega arith) (omega (arith, here read)))
+    took_as (T read) (n read) (at read) (free read) _ _ _ numeral-at.numeral.result o.0
+    (took_leaf (G.number (place_on (T read) (at read)) (literal_at (T read).rows (at read))) (at read + 1) (at read + 1) refl
+    (leaf_numeral (T read) (n read) (at read) (here read) (is_kind read ∙ keys.match.keys2)) refl o.1 tt (omega arith) (omega (arith, here read)))
 
-attribute-leads : tie.Need-attribute-requires
-attribute-leads c κs =
+attribute_leads : tie.Need-attribute-requires
+attribute_leads c κs =
     let read = c.before.before in
     record { ready = (start read).requires; some = here read }
 
@@ -89,40 +89,40 @@ attribute c =
     let keys = attribute-at.before.before in
     let read = keys.before in
     same_out (T read) (n read) (at read) (free read) _ _ _ _
-    (leaf-colons (T read) (n read) (at read) (here read) (is-kind read ∙ keys.match.keys3))
+    (leaf_colons (T read) (n read) (at read) (here read) (is_kind read ∙ keys.match.keys3))
     attribute-at.attribute.result attribute-at.attribute.ensures
 
-too-deep : tie.Need-returns-5
-too-deep c =
+too_deep : tie.Need-returns-5
+too_deep c =
     let then = c.before in
     let else = then.before in
     let read : Read = else.before.before in
-    deep-as (T read) (n read) (at read) _ c.place-at2.result c.place-at2.ensures (here read)
-    (leaf-deep (T read) (n read) (at read) (here read) (omega (arith, is-kind read, else.if2.false)) (omega (arith, is-kind read, then.if3.true)))
+    deep_as (T read) (n read) (at read) _ c.place-at2.result c.place-at2.ensures (here read)
+    (leaf_deep (T read) (n read) (at read) (here read) (omega (arith, is_kind read, else.if2.false)) (omega (arith, is_kind read, then.if3.true)))
 
-no-leaf : tie.Need-returns-6
-no-leaf c =
+no_leaf : tie.Need-returns-6
+no_leaf c =
     let rest = c.before.before in
     let read : Read = rest.before in
     let r = rest.match.rest in
-    let k = is-kind read in
-    stuck-as (T read) (n read) (at read) _ c.place-at3.result c.place-at3.ensures
-    (leaf-none (T read) (n read) (at read) (here read) (λ e. r.0.0.1 (sym k ∙ e)) (λ e. r.0.1 (sym k ∙ e)) (λ e. r.1 (sym k ∙ e))
-    (⊎_elim (λ w. inl (omega (arith, k, w.taken))) (λ w. inr (omega (arith, k, w.1.left))) c.before.if2.branch) (in-text (start read).requires.sound (at read) (here read)).known)
+    let k = is_kind read in
+    stuck_as (T read) (n read) (at read) _ c.place-at3.result c.place-at3.ensures
+    (leaf_none (T read) (n read) (at read) (here read) (λ e. r.0.0.1 (sym k ∙ e)) (λ e. r.0.1 (sym k ∙ e)) (λ e. r.1 (sym k ∙ e))
+    (⊎_elim (λ w. inl (omega (arith, k, w.taken))) (λ w. inr (omega (arith, k, w.1.left))) c.before.if2.branch) (in_text (start read).requires.sound (at read) (here read)).known)
 
-pub leaf-spec : {M : Type 1} → statement M
-leaf-spec =
+pub leaf_spec : {M : Type 1} → statement M
+leaf_spec =
     tie.close
     (tie.spec
     (λ c. search rules)
     (λ c. search rules)
     (λ c. search rules)
     (λ c κs. search rules)
-    no-token
+    no_token_lem
     (λ c κs. search rules)
-    word-leads
-    numeral-fits
-    attribute-leads
+    word_leads
+    numeral_fits
+    attribute_leads
     (λ c κs. search rules)
     (λ c κs. search rules)
     (λ c. search rules)
@@ -131,5 +131,5 @@ leaf-spec =
     numeral
     (λ c. search rules)
     attribute
-    too-deep
-    no-leaf)
+    too_deep
+    no_leaf)

@@ -4,8 +4,8 @@ use borrow.Author.Rules.{rules}
 use Rattle.grammar.proofs.steps.same_place.Statement.{statement}
 use Rattle.grammar.proofs.steps.same_place.Tie as tie
 
-pub same-place-spec : {M : Type 1} → statement M
-same-place-spec =
+pub same_place_spec : {M : Type 1} → statement M
+same_place_spec =
     tie.close
     (tie.spec
     (λ c. search rules)

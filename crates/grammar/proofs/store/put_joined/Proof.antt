@@ -5,9 +5,9 @@ use Rattle.grammar.proofs.store.put_joined.Tie as tie
 
 returns : tie.Need-returns
 returns c =
-    let put-at : tie.After-put-operator = c.before.before in
-    rw (← put-at.before.operator-of.ensures, ← put-at.before.before.start-at.ensures) put-at.put-operator.ensures
+    let put_at : tie.After-put-operator = c.before.before in
+    rw (← put_at.before.operator-of.ensures, ← put_at.before.before.start-at.ensures) put_at.put_operator.ensures
 
-pub put-joined-spec : {M : Type 1} → statement M
-put-joined-spec =
+pub put_joined_spec : {M : Type 1} → statement M
+put_joined_spec =
     tie.close (tie.spec (λ c κs. search rules) (λ c κs. search rules) (λ c κs. search rules) (λ c. search rules) returns)

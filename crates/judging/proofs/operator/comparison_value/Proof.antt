@@ -6,5 +6,5 @@ use Rattle.judging.proofs.operator.comparison_value.Tie as tie
 returns : tie.Need-returns
 returns c = rw (← c.before.number.ensures.1) c.comparison.ensures
 
-pub comparison-value-spec : {M : Type 1} → statement M
-comparison-value-spec = tie.close (tie.spec (λ c κs. search rules) (λ c κs. search rules) returns)
+pub comparison_value_spec : {M : Type 1} → statement M
+comparison_value_spec = tie.close (tie.spec (λ c κs. search rules) (λ c κs. search rules) returns)

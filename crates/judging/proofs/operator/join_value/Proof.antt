@@ -6,5 +6,5 @@ use Rattle.judging.proofs.operator.join_value.Tie as tie
 returns : tie.Need-returns
 returns c = rw (← c.before.connective-number.ensures) c.connected.ensures
 
-pub join-value-spec : {M : Type 1} → statement M
-join-value-spec = tie.close (tie.spec (λ c κs. search rules) (λ c κs. search rules) returns)
+pub join_value_spec : {M : Type 1} → statement M
+join_value_spec = tie.close (tie.spec (λ c κs. search rules) (λ c κs. search rules) returns)

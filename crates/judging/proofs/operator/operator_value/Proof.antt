@@ -6,8 +6,8 @@ use Rattle.judging.proofs.operator.operator_value.Tie as tie
 returns-2 : tie.Need-returns-2
 returns-2 c = rw c.before.before.o2.given.1 c.comparison-value.ensures
 
-pub operator-value-spec : {M : Type 1} → statement M
-operator-value-spec =
+pub operator_value_spec : {M : Type 1} → statement M
+operator_value_spec =
     tie.close
     (tie.spec
     (λ c. search rules)

@@ -2,7 +2,7 @@
 use native.Mathlib.Omega.{arith}
 use mathlib.Core.Path.{◌≡◌}
 use Prim.Native.Nat.{◌+◌, ◌-◌, ◌*◌}
-use Rattle.keys.proofs.Matches.{match-length}
+use Rattle.keys.proofs.Matches.{match_length}
 use borrow.Author.Rules.{rules}
 use Rattle.keys.proofs.entry.match_at.Statement.{statement}
 use Rattle.keys.proofs.entry.match_at.Tie as tie
@@ -11,10 +11,10 @@ returns : tie.Need-returns
 returns c =
     let a = c.before.args in
     let e : ((4 + a.k * 36) + 36) - (4 + a.k * 36) ≡ 36 = omega arith in
-    (rw e, rw e (match-length a.entry.now a.k (search rules)))
+    (rw e, rw e (match_length a.entry.now a.k (search rules)))
 
-pub match-at-spec : {M : Type 1} → statement M
-match-at-spec =
+pub match_at_spec : {M : Type 1} → statement M
+match_at_spec =
     tie.close
     (tie.spec
     (λ c. search rules)

@@ -1,18 +1,18 @@
 -- `keys::find::find_among` meets its contract. The invariant of its loop: the keys before key k have other names, so what is found from key k on
--- is what is found from the start. A turn finds key k (`find-here`) or passes it (`find-on`), and past the last key there is none (`find-end`).
+-- is what is found from the start. A turn finds key k (`find_here`) or passes it (`find_on_lem`), and past the last key there is none (`find_end`).
 -- The measure is how many keys are left.
 use Prim.Native.Nat.{ℕ, ◌-◌, ◌≤◌}
 use mathlib.Core.Path.{◌≡◌, sym, ◌∙◌}
 use mathlib.Core.List.{List}
 use native.Mathlib.Nat.{sub-zero}
 use borrow.Author.Rules.{rules}
-use Rattle.paper.specs.Keys.{keysFrom, find}
-use Rattle.keys.proofs.Lookup.{findOn, find-here, find-on, find-end}
+use Rattle.paper.specs.Keys.{keys_from, find}
+use Rattle.keys.proofs.Lookup.{find_on, find_here, find_on_lem, find_end}
 use Rattle.keys.proofs.find.find_among.Statement.{statement}
 use Rattle.keys.proofs.find.find_among.Tie as tie
 
 abbrev invariant-loop : tie.invariant-loop
-invariant-loop list n word k₀ k = (k ≤ n) × (findOn list word n k ≡ find (keysFrom list 0 n) word)
+invariant-loop list n word k₀ k = (k ≤ n) × (find_on list word n k ≡ find (keys_from list 0 n) word)
 
 abbrev decreases-loop : tie.decreases-loop
 decreases-loop list n word k₀ k = n - k
@@ -52,23 +52,23 @@ found_here : tie.Need-returns invariant-loop decreases-loop
 found_here c =
     let same = c.before in
     let t = turn same in
-    sym (find-here (list t) (word t) (n t) (k t) (search rules) (named same).before.record-at.ensures.0 (named same).name-of.ensures
+    sym (find_here (list t) (word t) (n t) (k t) (search rules) (named same).before.record_at.ensures.0 (named same).name_of.ensures
     (sym same.same_bytes.ensures ∙ c.if1.true)) ∙ t.loop.inv.1
 
-loop-again : tie.Need-loop-preserved invariant-loop decreases-loop
-loop-again c =
+loop_again : tie.Need-loop-preserved invariant-loop decreases-loop
+loop_again c =
     let other = c.before in
     let t = turn other in (
       search rules,
-      sym (find-on (list t) (word t) (n t) (k t) (search rules) (named other).before.record-at.ensures.0 (named other).name-of.ensures
+      sym (find_on_lem (list t) (word t) (n t) (k t) (search rules) (named other).before.record_at.ensures.0 (named other).name_of.ensures
           (sym other.same_bytes.ensures ∙ c.if1.false)) ∙ t.loop.inv.1,
     )
 
 none_found : tie.Need-returns-2 invariant-loop decreases-loop
-none_found c = let t = c.before in sym (find-end (list t) (word t) (n t) (k t) c.loop-test.false) ∙ t.loop.invariant.1
+none_found c = let t = c.before in sym (find_end (list t) (word t) (n t) (k t) c.loop-test.false) ∙ t.loop.invariant.1
 
-pub find-among-spec : {M : Type 1} → statement M
-find-among-spec =
+pub find_among_spec : {M : Type 1} → statement M
+find_among_spec =
     tie.close
     (tie.spec
     invariant-loop
@@ -80,5 +80,5 @@ find-among-spec =
     found_here
     (λ c. search rules)
     (λ c. search rules)
-    loop-again
+    loop_again
     none_found)

@@ -13,8 +13,8 @@ bytes c =
     let many : a.k * a.size + a.size - a.k * a.size ≡ a.size = omega arith in
     ap (λ (m : ℕ). take m (drop (a.k * a.size) a.entries.now)) many
 
-pub entry-at-spec : {M : Type 1} → statement M
-entry-at-spec =
+pub entry_at_spec : {M : Type 1} → statement M
+entry_at_spec =
     tie.close
     (tie.spec
     (λ c. search rules)

@@ -3,7 +3,7 @@ use Prim.Native.Nat.{◌/◌}
 use native.Mathlib.Omega.{arith}
 use lib.ListN.{length}
 use borrow.Author.Rules.{rules}
-use Rattle.paper.specs.Keys.{recordSize}
+use Rattle.paper.specs.Keys.{record_size}
 use Rattle.keys.proofs.Records.{keys_length}
 use Rattle.keys.proofs.laid.entry_size.Statement.{statement}
 use Rattle.keys.proofs.laid.entry_size.Tie as tie
@@ -11,7 +11,7 @@ use Rattle.keys.proofs.laid.entry_size.Tie as tie
 size : tie.Need-returns
 size c =
     let list = c.args.list.now in
-    omega (arith, keys_length list 0 (length list / recordSize))
+    omega (arith, keys_length list 0 (length list / record_size))
 
-pub entry-size-spec : {M : Type 1} → statement M
-entry-size-spec = tie.close (tie.spec (λ c. search rules) (λ c. search rules) size)
+pub entry_size_spec : {M : Type 1} → statement M
+entry_size_spec = tie.close (tie.spec (λ c. search rules) (λ c. search rules) size)

@@ -8,5 +8,5 @@ returns : tie.Need-returns
 unfolding keys
 returns c = c.check-by.ensures
 
-pub check-list-spec : {M : Type 1} → statement M
-check-list-spec = tie.close (tie.spec (λ c κs. search rules) returns)
+pub check_list_spec : {M : Type 1} → statement M
+check_list_spec = tie.close (tie.spec (λ c κs. search rules) returns)

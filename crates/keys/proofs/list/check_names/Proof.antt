@@ -8,5 +8,5 @@ returns : tie.Need-returns
 unfolding names_of
 returns c = c.check-by.ensures
 
-pub check-names-spec : {M : Type 1} → statement M
-check-names-spec = tie.close (tie.spec (λ c κs. search rules) returns)
+pub check_names_spec : {M : Type 1} → statement M
+check_names_spec = tie.close (tie.spec (λ c κs. search rules) returns)

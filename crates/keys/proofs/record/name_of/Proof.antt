@@ -20,8 +20,8 @@ returns-2 c =
     let e : (16 + get_or s 0 0) - 16 ≡ get_or s 0 0 = omega arith in
     rw e
 
-pub name-of-spec : {M : Type 1} → statement M
-name-of-spec =
+pub name_of_spec : {M : Type 1} → statement M
+name_of_spec =
     tie.close
     (tie.spec
     (λ c. search rules)

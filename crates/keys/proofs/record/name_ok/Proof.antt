@@ -14,8 +14,8 @@ returns-3 c =
       c.same-bytes2.ensures,
     )
 
-pub name-ok-spec : {M : Type 1} → statement M
-name-ok-spec =
+pub name_ok_spec : {M : Type 1} → statement M
+name_ok_spec =
     tie.close
     (tie.spec
     (λ c κs. search rules)

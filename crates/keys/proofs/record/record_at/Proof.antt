@@ -3,7 +3,7 @@ use Prim.Native.Nat.{◌+◌, ◌*◌, ◌-◌}
 use mathlib.Core.Path.{◌≡◌}
 use native.Mathlib.Omega.{arith}
 use borrow.Author.Rules.{rules}
-use Rattle.keys.proofs.Records.{record-length}
+use Rattle.keys.proofs.Records.{record_length}
 use Rattle.keys.proofs.record.record_at.Statement.{statement}
 use Rattle.keys.proofs.record.record_at.Tie as tie
 
@@ -11,10 +11,10 @@ returns : tie.Need-returns
 returns c =
     let a = c.before.args in
     let e : (a.k * 80 + 80) - a.k * 80 ≡ 80 = omega arith in
-    (rw e, rw e (record-length a.list.now a.k (search rules)))
+    (rw e, rw e (record_length a.list.now a.k (search rules)))
 
-pub record-at-spec : {M : Type 1} → statement M
-record-at-spec =
+pub record_at_spec : {M : Type 1} → statement M
+record_at_spec =
     tie.close
     (tie.spec
     (λ c. search rules)

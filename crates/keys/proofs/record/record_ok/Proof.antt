@@ -33,28 +33,28 @@ flagged c = c.before.before.before
 abbrev cleared : tie.Else7 → tie.Else6
 cleared c = c.before.before.before
 
-abbrev sized-key : tie.Else2 → List ℕ
-sized-key c = (started c).args.key.now
+abbrev sized_key : tie.Else2 → List ℕ
+sized_key c = (started c).args.key.now
 
-abbrev kinded-key : tie.Else3 → List ℕ
-kinded-key c = sized-key (sized c)
+abbrev kinded_key : tie.Else3 → List ℕ
+kinded_key c = sized_key (sized c)
 
 abbrev wide_key : tie.Else4 → List ℕ
-wide_key c = kinded-key (kinded c)
+wide_key c = kinded_key (kinded c)
 
 -- what the tests of the first bytes found
 
-longest : (c : tie.Else2) → leb (get_or (sized-key c) 0 0) 64 ≡ true
-longest c = le-leb (get_or (sized-key c) 0 0) 64 (omega arith)
+longest : (c : tie.Else2) → leb (get_or (sized_key c) 0 0) 64 ≡ true
+longest c = le-leb (get_or (sized_key c) 0 0) 64 (omega arith)
 
-named : (c : tie.Else2) → leb 1 (get_or (sized-key c) 0 0) ≡ true
-named c = le-leb 1 (get_or (sized-key c) 0 0) (omega arith)
+named : (c : tie.Else2) → leb 1 (get_or (sized_key c) 0 0) ≡ true
+named c = le-leb 1 (get_or (sized_key c) 0 0) (omega arith)
 
-of-a-kind : (c : tie.Else3) → leb (get_or (kinded-key c) 1 0) 4 ≡ true
-of-a-kind c = le-leb (get_or (kinded-key c) 1 0) 4 (omega arith)
+of_a_kind : (c : tie.Else3) → leb (get_or (kinded_key c) 1 0) 4 ≡ true
+of_a_kind c = le-leb (get_or (kinded_key c) 1 0) 4 (omega arith)
 
-a-flag : (c : tie.Else5) → leb (get_or (wide_key (wide c)) 3 0) 1 ≡ true
-a-flag c = le-leb (get_or (wide_key (wide c)) 3 0) 1 (omega arith)
+a_flag : (c : tie.Else5) → leb (get_or (wide_key (wide c)) 3 0) 1 ≡ true
+a_flag c = le-leb (get_or (wide_key (wide c)) 3 0) 1 (omega arith)
 
 -- each test that fails decides
 
@@ -71,12 +71,12 @@ returns-2 c =
 returns-3 : tie.Need-returns-3
 returns-3 c =
     let e = c.before.before in
-    rw (named e, longest e, lt-leb (get_or (sized-key e) 1 0) 4 (omega arith))
+    rw (named e, longest e, lt-leb (get_or (sized_key e) 1 0) 4 (omega arith))
 
 returns-4 : tie.Need-returns-4
 returns-4 c =
     let e = c.before.before.before in
-    rw (named (sized e), longest (sized e), of-a-kind e, refuted c.before.within.ensures c.if4.true)
+    rw (named (sized e), longest (sized e), of_a_kind e, refuted c.before.within.ensures c.if4.true)
 
 returns-5 : tie.Need-returns-5
 returns-5 c =
@@ -85,7 +85,7 @@ returns-5 c =
     rw (
       named (sized e),
       longest (sized e),
-      of-a-kind e,
+      of_a_kind e,
       granted w.before.within.ensures w.if4.false,
       lt-leb (get_or (wide_key w) 3 0) 1 (omega arith),
     )
@@ -98,10 +98,10 @@ returns-6 c =
     rw (
       named (sized e),
       longest (sized e),
-      of-a-kind e,
+      of_a_kind e,
       granted w.before.within.ensures w.if4.left,
-      a-flag f,
-      refuted c.before.all-zero.ensures c.if6.true,
+      a_flag f,
+      refuted c.before.all_zero.ensures c.if6.true,
     )
 
 returns-7 : tie.Need-returns-7
@@ -113,11 +113,11 @@ returns-7 c =
     rw (
       named (sized e),
       longest (sized e),
-      of-a-kind e,
+      of_a_kind e,
       granted w.before.within.ensures w.if4.left,
-      a-flag f,
-      granted z.before.all-zero.ensures z.if6.false,
-      ← c.before.before.name-of.ensures,
+      a_flag f,
+      granted z.before.all_zero.ensures z.if6.false,
+      ← c.before.before.name_of.ensures,
       refuted c.before.name-ok.ensures c.if7.true,
     )
 
@@ -131,18 +131,18 @@ returns-8 c =
     rw (
       named (sized e),
       longest (sized e),
-      of-a-kind e,
+      of_a_kind e,
       granted w.before.within.ensures w.if4.left,
-      a-flag f,
-      granted z.before.all-zero.ensures z.if6.left,
-      ← n.before.before.name-of.ensures,
+      a_flag f,
+      granted z.before.all_zero.ensures z.if6.left,
+      ← n.before.before.name_of.ensures,
       granted n.before.name-ok.ensures n.if7.false,
       c.all-zero2.ensures,
       to_end,
     )
 
-pub record-ok-spec : {M : Type 1} → statement M
-record-ok-spec =
+pub record_ok_spec : {M : Type 1} → statement M
+record_ok_spec =
     tie.close
     (tie.spec
     (λ c. search rules)

@@ -16,8 +16,8 @@ returns-5 c =
       c.optional-ok.ensures,
     )
 
-pub kind-ok-spec : {M : Type 1} → statement M
-kind-ok-spec =
+pub kind_ok_spec : {M : Type 1} → statement M
+kind_ok_spec =
     tie.close
     (tie.spec
     (λ c κs. search rules)

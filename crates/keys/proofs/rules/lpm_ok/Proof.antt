@@ -5,20 +5,20 @@ use borrow.Author.Rules.{rules}
 use Rattle.keys.proofs.rules.lpm_ok.Statement.{statement}
 use Rattle.keys.proofs.rules.lpm_ok.Tie as tie
 
-pub lpm-ok-spec : {M : Type 1} → statement M
-lpm-ok-spec =
+pub lpm_ok_spec : {M : Type 1} → statement M
+lpm_ok_spec =
     tie.close
     (tie.spec
     (λ c κs. search rules)
-    (λ c. rw (refuted c.before.is-zero.ensures c.if1.true))
+    (λ c. rw (refuted c.before.is_zero.ensures c.if1.true))
     (λ c. rw (
-      granted c.before.before.before.is-zero.ensures c.before.before.if1.false,
+      granted c.before.before.before.is_zero.ensures c.before.before.if1.false,
       lt-leb _ _ c.if2.true,
     ))
     (λ c. search rules)
     (λ c κs. search rules)
     (λ c. rw (
-      granted c.before.before.before.before.before.is-zero.ensures
+      granted c.before.before.before.before.before.is_zero.ensures
           c.before.before.before.before.if1.false,
       le-leb _ _ c.before.before.if2.false,
       c.low_Clear.ensures,

@@ -4,8 +4,8 @@ use borrow.Author.Rules.{rules}
 use Rattle.keys.proofs.rules.match_ok.Statement.{statement}
 use Rattle.keys.proofs.rules.match_ok.Tie as tie
 
-pub match-ok-spec : {M : Type 1} → statement M
-match-ok-spec =
+pub match_ok_spec : {M : Type 1} → statement M
+match_ok_spec =
     tie.close
     (tie.spec
     (λ c. search rules)

@@ -8,13 +8,13 @@ returns-3 : tie.Need-returns-3
 returns-3 c =
     rw (
       granted c.before.before.before.before.ternary-ok.ensures c.before.before.before.if1.false,
-      ← c.before.before.is-zero.ensures,
+      ← c.before.before.is_zero.ensures,
       c.before.if2.false,
       c.all_ones.ensures,
     )
 
-pub optional-ok-spec : {M : Type 1} → statement M
-optional-ok-spec =
+pub optional_ok_spec : {M : Type 1} → statement M
+optional_ok_spec =
     tie.close
     (tie.spec
     (λ c κs. search rules)
@@ -22,7 +22,7 @@ optional-ok-spec =
     (λ c κs. search rules)
     (λ c. rw (
       granted c.before.before.before.ternary-ok.ensures c.before.before.if1.false,
-      ← c.before.is-zero.ensures,
+      ← c.before.is_zero.ensures,
       c.if2.true,
     ))
     (λ c κs. search rules)

@@ -10,7 +10,7 @@ returns-2 : tie.Need-returns-2
 returns-2 c =
     let m = c.before.before.before.before.before in
     rw (
-      granted m.before.before.all-zero.ensures m.before.if1.false,
+      granted m.before.before.all_zero.ensures m.before.if1.false,
       ← ap P.Match.first m.spelled_out.ensures,
       refuted c.before.fits2.ensures c.if2.true,
     )
@@ -20,7 +20,7 @@ returns-3 c =
     let f = c.before.before in
     let m = f.before.before.before.before.before in
     rw (
-      granted m.before.before.all-zero.ensures m.before.if1.false,
+      granted m.before.before.all_zero.ensures m.before.if1.false,
       ← ap P.Match.first m.spelled_out.ensures,
       granted f.before.fits2.ensures f.if2.false,
       ← ap P.Match.second m.spelled_out.ensures,
@@ -33,7 +33,7 @@ returns-4 c =
     let f = g.before.before in
     let m = f.before.before.before.before.before in
     rw (
-      granted m.before.before.all-zero.ensures m.before.if1.false,
+      granted m.before.before.all_zero.ensures m.before.if1.false,
       ← ap P.Match.first m.spelled_out.ensures,
       granted f.before.fits2.ensures f.if2.false,
       ← ap P.Match.second m.spelled_out.ensures,
@@ -42,15 +42,15 @@ returns-4 c =
       c.Kind-ok.ensures,
     )
 
-pub present-ok-spec : {M : Type 1} → statement M
-present-ok-spec =
+pub present_ok_spec : {M : Type 1} → statement M
+present_ok_spec =
     tie.close
     (tie.spec
     (λ c. search rules)
     (λ c. search rules)
     (λ c. search rules)
     (λ c κs. search rules)
-    (λ c. rw (refuted c.before.all-zero.ensures c.if1.true))
+    (λ c. rw (refuted c.before.all_zero.ensures c.if1.true))
     (λ c κs. search rules)
     (λ c. search rules)
     (λ c κs. search rules)

@@ -3,8 +3,8 @@ use borrow.Author.Rules.{rules}
 use Rattle.keys.proofs.rules.ternary_ok.Statement.{statement}
 use Rattle.keys.proofs.rules.ternary_ok.Tie as tie
 
-pub ternary-ok-spec : {M : Type 1} → statement M
-ternary-ok-spec =
+pub ternary_ok_spec : {M : Type 1} → statement M
+ternary_ok_spec =
     tie.close
     (tie.spec
     (λ c. rw (ne_eqb _ _ c.if1.true))

@@ -10,10 +10,10 @@ all c =
     let count = c.before.args.count in
     rw (lt-ltb count 17 c.if1.true) (refl, omega arith, omega arith)
 
-first-ones : tie.Need-returns-2
-first-ones c =
+first_ones : tie.Need-returns-2
+first_ones c =
     let count = c.before.args.count in
     rw (le-ltb count 17 c.if1.false) (refl, omega arith, omega arith)
 
-pub kept-spec : {M : Type 1} → statement M
-kept-spec = tie.close (tie.spec all first-ones)
+pub kept_spec : {M : Type 1} → statement M
+kept_spec = tie.close (tie.spec all first_ones)

@@ -10,8 +10,8 @@ returns c =
     let a = c.before.before.before.args in
     omega (arith, number_more a.s.now a.at 4 4, c.before.word.ensures, c.word2.ensures)
 
-pub number-at-spec : {M : Type 1} → statement M
-number-at-spec =
+pub number_at_spec : {M : Type 1} → statement M
+number_at_spec =
     tie.close
     (tie.spec
     (λ c κs. search rules)

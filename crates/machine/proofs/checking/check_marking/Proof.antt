@@ -3,9 +3,9 @@
 use Rattle.std.proofs.Common.{ℕ, Bool, cond, List, length, sym, ap, ◌∙◌, arith, rules, eq-eqb, ne_eqb}
 use Rattle.paper.specs.Answers.{Answer, ok, refused, inBlocks}
 use Rattle.paper.specs.Keys.{Key}
-use Rattle.keys.specs.Says.{keysIn}
+use Rattle.keys.specs.Says.{keys_in}
 use Rattle.machine.specs.Following.{Fitted}
-use Rattle.machine.proofs.Fitting.{fitted-fails, fitted-ends}
+use Rattle.machine.proofs.Fitting.{fitted_fails, fitted_ends}
 use Rattle.machine.proofs.checking.check_marking.Statement.{statement}
 use Rattle.machine.proofs.checking.check_marking.Tie as tie
 
@@ -17,57 +17,57 @@ abbrev started : tie.After-misfit → tie.Start
 started c = (followed c).before.before.before.before.before
 
 abbrev keys_of : tie.After-misfit → List Key
-keys_of c = keysIn (started c).args.list.now
+keys_of c = keys_in (started c).args.list.now
 
 -- the marks as they were written
-abbrev marks-of : tie.After-misfit → List ℕ
-marks-of c = (followed c).follow.new.1.1.1.0
+abbrev marks_of : tie.After-misfit → List ℕ
+marks_of c = (followed c).follow.new.1.1.1.0
 
-fitted : (c : tie.After-misfit) → Fitted (keys_of c) (started c).args.blocks.now (started c).args.n (marks-of c) c.misfit.result
+fitted : (c : tie.After-misfit) → Fitted (keys_of c) (started c).args.blocks.now (started c).args.n (marks_of c) c.misfit.result
 fitted c = c.misfit.ensures (keys_of c) (followed c).follow.ensures
 
-misfit-refused : tie.Need-returns
-misfit-refused c =
+misfit_refused : tie.Need-returns
+misfit_refused c =
     let m = c.before.before in
     let a = (started m).args in
-    c.refused-at.ensures
-    ∙ fitted-fails (keys_of m) a.blocks.now a.n (marks-of m) m.misfit.result (length a.blocks.now) (fitted m)
+    c.refused_at.ensures
+    ∙ fitted_fails (keys_of m) a.blocks.now a.n (marks_of m) m.misfit.result (length a.blocks.now) (fitted m)
     c.before.if1.true
 
 -- the test of the end
-abbrev at-end : ℕ → Bool → Answer (Unit {0})
-at-end size right = cond right (ok tt) (refused 18 inBlocks size)
+abbrev at_end : ℕ → Bool → Answer (Unit {0})
+at_end size right = cond right (ok tt) (refused 18 inBlocks size)
 
 passed : tie.Need-returns-2
 passed c =
     let m = c.before.before.before in
     let a = (started m).args in
     let size = length a.blocks.now in
-    ap (at-end size) (sym (eq-eqb _ _ c.if2.true))
-    ∙ fitted-ends (keys_of m) a.blocks.now a.n (marks-of m) m.misfit.result size (fitted m) c.before.before.if1.false
+    ap (at_end size) (sym (eq-eqb _ _ c.if2.true))
+    ∙ fitted_ends (keys_of m) a.blocks.now a.n (marks_of m) m.misfit.result size (fitted m) c.before.before.if1.false
 
 end_refused : tie.Need-returns-3
 end_refused c =
     let m = c.before.before.before in
     let a = (started m).args in
     let size = length a.blocks.now in
-    ap (at-end size) (sym (ne_eqb _ _ c.if2.false))
-    ∙ fitted-ends (keys_of m) a.blocks.now a.n (marks-of m) m.misfit.result size (fitted m) c.before.before.if1.false
+    ap (at_end size) (sym (ne_eqb _ _ c.if2.false))
+    ∙ fitted_ends (keys_of m) a.blocks.now a.n (marks_of m) m.misfit.result size (fitted m) c.before.before.if1.false
 
 misfit-requires : tie.Need-misfit-requires
 misfit-requires c κs =
     let within = c.before.before.before.follow.ensures.within in
     (omega arith, (omega (arith, within), omega (arith, within)))
 
-pub check-marking-spec : {M : Type 1} → statement M
-check-marking-spec =
+pub check_marking_spec : {M : Type 1} → statement M
+check_marking_spec =
     tie.close
     (tie.spec
     (λ c κs. search rules)
     misfit-requires
     (λ c κs. omega arith)
     (λ c. search rules)
-    misfit-refused
+    misfit_refused
     (λ c. omega arith)
     (λ c. omega arith)
     (λ c. search rules)

@@ -1,13 +1,13 @@
 -- Why the first landing that does not fit is found: before each turn the landings of the earlier instructions fit (`Compared`). A landing
--- up to where the types were followed fits exactly where its mark is that after the skip (`next-same`, `stops-here`), and one past it is
+-- up to where the types were followed fits exactly where its mark is that after the skip (`next_same`, `stops_here`), and one past it is
 -- not compared (`next_past`). An instruction that passes nothing over lands on the next one, whose mark is its own.
 use Rattle.std.proofs.Common.{◌≡◌, ℕ, ◌+◌, ◌-◌, List, get_or, sym, ap, ◌∙◌, ⊎_elim, arith}
 use Rattle.paper.specs.Keys.{Key}
 use Rattle.paper.specs.Code.{parts_at}
-use Rattle.paper.specs.Loading.{instructionAt}
+use Rattle.paper.specs.Loading.{instruction_at}
 use Rattle.machine.specs.Following.{Followed}
-use Rattle.machine.proofs.Skips.{over-told}
-use Rattle.machine.proofs.Fitting.{landing, fits-first, reads, next_past, next-same, stops-here, fits_last, Compared}
+use Rattle.machine.proofs.Skips.{over_told}
+use Rattle.machine.proofs.Fitting.{landing, fits_first, reads, next_past, next_same, stops_here, fits_last, Compared}
 use Rattle.machine.proofs.checking.misfit.Statement.{statement}
 use Rattle.machine.proofs.checking.misfit.Tie as tie
 
@@ -37,18 +37,18 @@ turning c = c.before.before
 abbrev Follows : Start → List Key → Type 0
 Follows s ks = Followed ks s.args.blocks.now s.args.n s.args.marks.now s.args.upto
 
-abbrev mark-at : Start → ℕ → ℕ
-mark-at s k = get_or s.args.marks.now k 0
+abbrev mark_at : Start → ℕ → ℕ
+mark_at s k = get_or s.args.marks.now k 0
 
 -- where the instruction that a turn read lands
-lands-so : (c : Reading) (ks : List Key) → Follows (started (turning c)) ks → let s = started (turning c) in
-    (turning c).loop.i + 1 + c.over-at.result ≡ landing ks s.args.blocks.now s.args.n (turning c).loop.i
-lands-so c ks f =
+lands_so : (c : Reading) (ks : List Key) → Follows (started (turning c)) ks → let s = started (turning c) in
+    (turning c).loop.i + 1 + c.over_at.result ≡ landing ks s.args.blocks.now s.args.n (turning c).loop.i
+lands_so c ks f =
     let l = (turning c).loop in
     let a = (started (turning c)).args in
     let (x, e) = reads ks a.blocks.now a.n a.marks.now a.upto f (l.inv.fits ks f) c.before.loop-test.true in
-    let told = over-told (a.n - l.i - 1) (parts_at a.blocks.now (instructionAt l.i)) x e in
-    ap (λ k. l.i + 1 + k) (c.over-at.ensures.0 ∙ sym told)
+    let told = over_told (a.n - l.i - 1) (parts_at a.blocks.now (instruction_at l.i)) x e in
+    ap (λ k. l.i + 1 + k) (c.over_at.ensures.0 ∙ sym told)
 
 misfits : tie.Need-returns invariant-loop decreases-loop
 misfits c ks f =
@@ -56,12 +56,12 @@ misfits c ks f =
     let r = compared.before in
     let l = (turning r).loop in
     let a = (started (turning r)).args in
-    let lands = lands-so r ks f in
-    stops-here ks a.blocks.now a.n a.marks.now a.upto f (l.inv.fits ks f) r.before.loop-test.true
-    (omega (arith, lands, compared.if1.true)) (λ e. c.if2.true (ap (mark-at (started (turning r))) lands ∙ e))
+    let lands = lands_so r ks f in
+    stops_here ks a.blocks.now a.n a.marks.now a.upto f (l.inv.fits ks f) r.before.loop-test.true
+    (omega (arith, lands, compared.if1.true)) (λ e. c.if2.true (ap (mark_at (started (turning r))) lands ∙ e))
 
-loop-again : tie.Need-loop-preserved invariant-loop decreases-loop
-loop-again c =
+loop_again : tie.Need-loop-preserved invariant-loop decreases-loop
+loop_again c =
     let r = c.before in
     let l = (turning r).loop in
     let a = (started (turning r)).args in
@@ -69,34 +69,34 @@ loop-again c =
       within = omega (arith, r.before.loop-test.true);
       fits =
           λ ks f.
-          let lands = lands-so r ks f in
+          let lands = lands_so r ks f in
           let here = l.inv.fits ks f in
           let more = r.before.loop-test.true in
           ⊎_elim
           (λ same.
-          next-same ks a.blocks.now a.n a.marks.now a.upto f here more (omega (arith, lands, same.0.taken))
-          (ap (mark-at (started (turning r))) (sym lands) ∙ same.3.left))
+          next_same ks a.blocks.now a.n a.marks.now a.upto f here more (omega (arith, lands, same.0.taken))
+          (ap (mark_at (started (turning r))) (sym lands) ∙ same.3.left))
           (λ past. next_past ks a.blocks.now a.n a.marks.now a.upto f here more (omega (arith, lands, past.left)))
           c.if1.branch;
     }
 
-all-compared : tie.Need-returns-2 invariant-loop decreases-loop
-all-compared c ks f =
+all_compared : tie.Need-returns-2 invariant-loop decreases-loop
+all_compared c ks f =
     let l = c.before.loop in
     let a = (started c.before).args in
     let last : l.i ≡ a.upto = omega (arith, c.loop-test.false, l.invariant.within) in
     fits_last ks a.blocks.now a.n a.marks.now a.upto f (rw last at (l.invariant.fits ks f))
 
-pub misfit-spec : {M : Type 1} → statement M
-misfit-spec =
+pub misfit_spec : {M : Type 1} → statement M
+misfit_spec =
     tie.close
     (tie.spec
     invariant-loop
     decreases-loop
-    (λ c. record { within = omega arith; fits = λ ks f. fits-first ks _ _ })
+    (λ c. record { within = omega arith; fits = λ ks f. fits_first ks _ _ })
     (λ c. omega arith)
     (λ c κs. omega arith)
-    (λ c. omega (arith, c.over-at.ensures.1))
+    (λ c. omega (arith, c.over_at.ensures.1))
     (λ c. omega arith)
     (λ c. omega arith)
     (λ c. omega arith)
@@ -105,5 +105,5 @@ misfit-spec =
     misfits
     (λ c. omega arith)
     (λ c. omega arith)
-    loop-again
-    all-compared)
+    loop_again
+    all_compared)

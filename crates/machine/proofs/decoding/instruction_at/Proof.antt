@@ -10,6 +10,6 @@ returns c =
     let parts = c.before.before.parts-at.ensures ∙ ap (parts_at a.blocks.now) c.before.before.before.place_of.ensures in
     c.op-of.ensures ∙ ap (decode a.left) parts
 
-pub instruction-at-spec : {M : Type 1} → statement M
-instruction-at-spec =
+pub instruction_at_spec : {M : Type 1} → statement M
+instruction_at_spec =
     tie.close (tie.spec (λ c κs. search rules) (λ c κs. search rules) (λ c κs. search rules) returns)

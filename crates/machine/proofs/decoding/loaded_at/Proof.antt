@@ -1,12 +1,12 @@
 -- Each arm of the match is the instruction that its operation names with the detail, the operand and the constant beside it; and what is
--- read as an instruction is that one (`named-so`).
+-- read as an instruction is that one (`named_so`).
 use Rattle.std.proofs.Common.{◌≡◌, ℕ, ◌+◌, ◌%◌, ◌≤◌, min, List, sym, ap, ◌∙◌, arith, rules}
 use mathlib.Core.Option.{some, none-ne-some}
 use Rattle.paper.specs.Numbers.{byte_at, number_at}
 use Rattle.paper.specs.Keys.{kind_of}
-use Rattle.paper.specs.Code.{Instruction, convert, Parts, parts_at, instructionNamed, decode}
-use Rattle.paper.specs.Loading.{instructionAt}
-use Rattle.machine.proofs.Decoded.{first_byte, reads_none, named-so, width-so, past-six}
+use Rattle.paper.specs.Code.{Instruction, convert, Parts, parts_at, instruction_named, decode}
+use Rattle.paper.specs.Loading.{instruction_at}
+use Rattle.machine.proofs.Decoded.{first_byte_lem, reads_none, named_so, width_so, past_six}
 use Rattle.machine.proofs.decoding.loaded_at.Statement.{statement}
 use Rattle.machine.proofs.decoding.loaded_at.Tie as tie
 
@@ -30,30 +30,30 @@ parts c =
     }
 
 -- they are those of the instruction
-parts-so : (c : Reading) → parts_at (given c) (instructionAt c.before.before.before.before.before.args.i) ≡ parts c
-parts-so c = rw (← c.before.before.before.place_of.ensures, ← c.two_bytes.ensures.0)
+parts_so : (c : Reading) → parts_at (given c) (instruction_at c.before.before.before.before.before.args.i) ≡ parts c
+parts_so c = rw (← c.before.before.before.place_of.ensures, ← c.two_bytes.ensures.0)
 
 module _ (c : Reading) (left : ℕ) (x : Instruction)
-    (e : decode left (parts_at (given c) (instructionAt c.before.before.before.before.before.args.i)) ≡ some x) where
+    (e : decode left (parts_at (given c) (instruction_at c.before.before.before.before.before.args.i)) ≡ some x) where
   reads : decode left (parts c) ≡ some x
-  reads = ap (decode left) (sym (parts-so c)) ∙ e
+  reads = ap (decode left) (sym (parts_so c)) ∙ e
 
-  named : instructionNamed (parts c) ≡ some x
-  named = named-so left (parts c) x reads
+  named : instruction_named (parts c) ≡ some x
+  named = named_so left (parts c) x reads
 
 converts : tie.Need-returns-8
 converts c left x e =
     let r = c.before.before in
     let p = parts r in
     let is : some (convert (kind_of p.detail) p.operand) ≡ some x = rw c.before.match.keys8 at (named r left x e) in
-    let width : min (p.operand % 256) 128 ≡ p.operand = width-so left p (kind_of p.detail) p.operand (reads r left x e ∙ sym is) in
+    let width : min (p.operand % 256) 128 ≡ p.operand = width_so left p (kind_of p.detail) p.operand (reads r left x e ∙ sym is) in
     c.without-constant7.ensures ∙ ap (λ w. some (convert (kind_of p.detail) w)) width ∙ is
 
 skips : tie.Need-returns-13
 skips c left x e =
     let r = c.before.before.before.before in
     let constant = c.before.before.from-bytes2 in
-    let to = first_byte constant.result c.before.equal.ensures in
+    let to = first_byte_lem constant.result c.before.equal.ensures in
     c.without-constant12.ensures
     ∙ rw (to, constant.ensures) (rw c.before.before.before.match.keys13 at (named r left x e))
 
@@ -69,17 +69,17 @@ no_other c left x e =
     reads_none left p
     (λ one most.
     let seven : 7 ≤ p.operation =
-    past-six p.operation 1 one low.0.0.0.0.0.1 low.0.0.0.0.1 low.0.0.0.1 low.0.0.1 low.0.1 low.1
+    past_six p.operation 1 one low.0.0.0.0.0.1 low.0.0.0.0.1 low.0.0.0.1 low.0.0.1 low.0.1 low.1
     in
     let thirteen : 13 ≤ p.operation =
-    past-six p.operation 7 seven high.0.0.0.0.0.1 high.0.0.0.0.1 high.0.0.0.1 high.0.0.1 high.0.1 high.1
+    past_six p.operation 7 seven high.0.0.0.0.0.1 high.0.0.0.0.1 high.0.0.0.1 high.0.0.1 high.0.1 high.1
     in
     omega (arith, rest.1, thirteen, most))
     in
     absurd (none-ne-some x (sym none_read ∙ reads r left x e))
 
-pub loaded-at-spec : {M : Type 1} → statement M
-loaded-at-spec =
+pub loaded_at_spec : {M : Type 1} → statement M
+loaded_at_spec =
     tie.close
     (tie.spec
     (λ c κs. search rules)

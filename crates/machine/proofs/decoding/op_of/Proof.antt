@@ -2,8 +2,8 @@
 use Rattle.std.proofs.Common.{ℕ, ◌≤◌, sym, refl, ◌∙◌, arith, rules}
 use Rattle.number.specs.Values.{value}
 use Rattle.machine.specs.declared.decoding.Parts.{Parts}
-use Rattle.machine.specs.Decoded.{partsMeant}
-use Rattle.machine.proofs.Decoded.{reads-bool, reads_int, reads-key, reads-field, reads-convert, reads-compare, reads-skip, reads_none, first_byte, past-six}
+use Rattle.machine.specs.Decoded.{parts_meant}
+use Rattle.machine.proofs.Decoded.{reads_bool, reads_int, reads_key, reads_field, reads_convert, reads_compare, reads_skip, reads_none, first_byte_lem, past_six}
 use Rattle.machine.proofs.decoding.op_of.Statement.{statement}
 use Rattle.machine.proofs.decoding.op_of.Tie as tie
 
@@ -25,56 +25,56 @@ constant c = value (given c).constant
 
 -- what each arm says, by the law of its operation
 
-bool-read : tie.Need-returns
-bool-read c =
+bool_read : tie.Need-returns
+bool_read c =
     let z = c.before.before in
     rw c.before.match.keys1
     (c.only.ensures _ _ refl
-    ∙ sym (reads-bool (left z) (detail z) (operand z) (constant z) z.is-zero.result z.is-zero.ensures))
+    ∙ sym (reads_bool (left z) (detail z) (operand z) (constant z) z.is_zero.result z.is_zero.ensures))
 
-int-read : tie.Need-returns-2
-int-read c =
+int_read : tie.Need-returns-2
+int_read c =
     let z = c.before.before in
     rw c.before.match.keys2
     (c.only2.ensures _ _ refl
-    ∙ sym (reads_int (left z) (detail z) (operand z) (constant z) z.is-zero.result z.is-zero.ensures))
+    ∙ sym (reads_int (left z) (detail z) (operand z) (constant z) z.is_zero.result z.is_zero.ensures))
 
-key-read : tie.Need-returns-3
-key-read c =
+key_read : tie.Need-returns-3
+key_read c =
     let z = c.before.before in
     rw c.before.match.keys3
     (c.only3.ensures _ _ refl
-    ∙ sym (reads-key (left z) (detail z) (operand z) (constant z) z.is-zero.result z.is-zero.ensures))
+    ∙ sym (reads_key (left z) (detail z) (operand z) (constant z) z.is_zero.result z.is_zero.ensures))
 
-field-read : tie.Need-returns-4
-field-read c =
+field_read : tie.Need-returns-4
+field_read c =
     let z = c.before.before in
     rw c.before.match.keys4
     (c.only4.ensures _ _ refl
-    ∙ sym (reads-field (left z) (detail z) (operand z) (constant z) z.is-zero.result z.is-zero.ensures))
+    ∙ sym (reads_field (left z) (detail z) (operand z) (constant z) z.is_zero.result z.is_zero.ensures))
 
-convert-read : tie.Need-returns-8
-convert-read c =
+convert_read : tie.Need-returns-8
+convert_read c =
     let z = c.before.before in
     rw c.before.match.keys8
     (c.only8.ensures _ _ refl
-    ∙ sym (reads-convert (left z) (detail z) (operand z) (constant z) z.is-zero.result z.is-zero.ensures))
+    ∙ sym (reads_convert (left z) (detail z) (operand z) (constant z) z.is_zero.result z.is_zero.ensures))
 
-compare-read : tie.Need-returns-9
-compare-read c =
+compare_read : tie.Need-returns-9
+compare_read c =
     let z = c.before.before in
     rw c.before.match.keys9
     (c.only9.ensures _ _ refl
-    ∙ sym (reads-compare (left z) (detail z) (operand z) (constant z) z.is-zero.result z.is-zero.ensures))
+    ∙ sym (reads_compare (left z) (detail z) (operand z) (constant z) z.is_zero.result z.is_zero.ensures))
 
 skip_read : tie.Need-returns-13
 skip_read c =
     let z = c.before.before.before in
-    let one = first_byte (given z).constant c.before.equal.ensures in
+    let one = first_byte_lem (given z).constant c.before.equal.ensures in
     rw c.before.before.match.keys13
     (c.only13.ensures _ _ refl
     ∙ sym
-    (reads-skip (left z) (detail z) (operand z) (constant z) z.is-zero.result z.is-zero.ensures c.before.equal.result one))
+    (reads_skip (left z) (detail z) (operand z) (constant z) z.is_zero.result z.is_zero.ensures c.before.equal.result one))
 
 -- any other operation
 none_read : tie.Need-returns-14
@@ -84,18 +84,18 @@ none_read c =
     let high = r.0 in
     let low = high.0.0.0.0.0.0 in
     sym
-    (reads_none (left c.before) (partsMeant p)
+    (reads_none (left c.before) (parts_meant p)
     (λ one most.
     let seven : 7 ≤ p.operation =
-    past-six p.operation 1 one low.0.0.0.0.0.1 low.0.0.0.0.1 low.0.0.0.1 low.0.0.1 low.0.1 low.1
+    past_six p.operation 1 one low.0.0.0.0.0.1 low.0.0.0.0.1 low.0.0.0.1 low.0.0.1 low.0.1 low.1
     in
     let thirteen : 13 ≤ p.operation =
-    past-six p.operation 7 seven high.0.0.0.0.0.1 high.0.0.0.0.1 high.0.0.0.1 high.0.0.1 high.0.1 high.1
+    past_six p.operation 7 seven high.0.0.0.0.0.1 high.0.0.0.0.1 high.0.0.0.1 high.0.0.1 high.0.1 high.1
     in
     omega (arith, r.1, thirteen, most)))
 
-pub op-of-spec : {M : Type 1} → statement M
-op-of-spec =
+pub op_of_spec : {M : Type 1} → statement M
+op_of_spec =
     tie.close
     (tie.spec
     (λ c κs. search rules)
@@ -114,17 +114,17 @@ op-of-spec =
     (λ c κs. search rules)
     (λ c κs. search rules)
     (λ c κs. search rules)
-    bool-read
-    int-read
-    key-read
-    field-read
-    (λ c. rw (c.before.match.keys5, ← c.before.before.is-zero.ensures) (c.only5.ensures _ _ refl))
-    (λ c. rw (c.before.match.keys6, ← c.before.before.is-zero.ensures) (c.only6.ensures _ _ refl))
-    (λ c. rw (c.before.match.keys7, ← c.before.before.is-zero.ensures) (c.only7.ensures _ _ refl))
-    convert-read
-    compare-read
-    (λ c. rw (c.before.match.keys10, ← c.before.before.is-zero.ensures) (c.only10.ensures _ _ refl))
-    (λ c. rw (c.before.match.keys11, ← c.before.before.is-zero.ensures) (c.only11.ensures _ _ refl))
-    (λ c. rw (c.before.match.keys12, ← c.before.before.is-zero.ensures) (c.only12.ensures _ _ refl))
+    bool_read
+    int_read
+    key_read
+    field_read
+    (λ c. rw (c.before.match.keys5, ← c.before.before.is_zero.ensures) (c.only5.ensures _ _ refl))
+    (λ c. rw (c.before.match.keys6, ← c.before.before.is_zero.ensures) (c.only6.ensures _ _ refl))
+    (λ c. rw (c.before.match.keys7, ← c.before.before.is_zero.ensures) (c.only7.ensures _ _ refl))
+    convert_read
+    compare_read
+    (λ c. rw (c.before.match.keys10, ← c.before.before.is_zero.ensures) (c.only10.ensures _ _ refl))
+    (λ c. rw (c.before.match.keys11, ← c.before.before.is_zero.ensures) (c.only11.ensures _ _ refl))
+    (λ c. rw (c.before.match.keys12, ← c.before.before.is_zero.ensures) (c.only12.ensures _ _ refl))
     skip_read
     none_read)

@@ -3,8 +3,8 @@ use Rattle.std.proofs.Common.{rules, eq-eqb, ne_eqb}
 use Rattle.machine.proofs.following.floor_on.Statement.{statement}
 use Rattle.machine.proofs.following.floor_on.Tie as tie
 
-pub floor-on-spec : {M : Type 1} → statement M
-floor-on-spec =
+pub floor_on_spec : {M : Type 1} → statement M
+floor_on_spec =
     tie.close
     (tie.spec
     (λ c. rw (c.before.if1.true, eq-eqb _ _ c.if2.true))

@@ -3,8 +3,8 @@ use Rattle.std.proofs.Common.{rules}
 use Rattle.machine.proofs.instruction.takes.Statement.{statement}
 use Rattle.machine.proofs.instruction.takes.Tie as tie
 
-pub takes-spec : {M : Type 1} → statement M
-takes-spec =
+pub takes_spec : {M : Type 1} → statement M
+takes_spec =
     tie.close
     (tie.spec
     (λ c. search rules)

@@ -1,6 +1,6 @@
 -- `machine::packed` meets its contract: the floor is below `floors`, so it is the lower digit to that base, and the type's number the upper.
 use Rattle.std.proofs.Common.{◌≡◌, ℕ, ◌+◌, ◌*◌, ◌/◌, ap, ◌∙◌, arith, rules}
-use Rattle.values.specs.Numbered.{tyNumbered}
+use Rattle.values.specs.Numbered.{ty_numbered}
 use Rattle.machine.specs.Following.{floors}
 use Rattle.machine.proofs.packing.packed.Statement.{statement}
 use Rattle.machine.proofs.packing.packed.Tie as tie
@@ -15,10 +15,10 @@ number c = c.number_of_lem.result
 abbrev floor : Numbered → ℕ
 floor c = c.before.args.floor
 
-on-floor : tie.Need-returns
-on-floor c =
+on_floor : tie.Need-returns
+on_floor c =
     let upper : (number c * floors + floor c) / floors ≡ number c = omega (arith, c.before.requires) in
-    (ap tyNumbered upper ∙ c.number_of_lem.ensures.0, omega (arith, c.before.requires))
+    (ap ty_numbered upper ∙ c.number_of_lem.ensures.0, omega (arith, c.before.requires))
 
-pub packed-spec : {M : Type 1} → statement M
-packed-spec = tie.close (tie.spec (λ c κs. search rules) (λ c. search rules) (λ c. search rules) on-floor)
+pub packed_spec : {M : Type 1} → statement M
+packed_spec = tie.close (tie.spec (λ c κs. search rules) (λ c. search rules) (λ c. search rules) on_floor)

@@ -2,7 +2,7 @@
 use Rattle.machine.proofs.running.verdict.Statement.{statement}
 use Rattle.machine.proofs.running.verdict.Tie as tie
 
-pub verdict-spec : {M : Type 1} → statement M
-verdict-spec =
+pub verdict_spec : {M : Type 1} → statement M
+verdict_spec =
     tie.close
     (tie.spec (λ c. rw (c.before.if1.true, c.if2.true)) (λ c. rw (c.before.if1.true, c.if2.false)) (λ c. rw c.if1.false))

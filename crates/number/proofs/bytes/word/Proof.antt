@@ -7,8 +7,8 @@ returns : tie.Need-returns
 returns c =
     rw (add-zero c.before.before.before.before.before.before.before.before.before.args.at) (omega arith)
 
-pub word-spec : {M : Type 1} → statement M
-word-spec =
+pub word_spec : {M : Type 1} → statement M
+word_spec =
     tie.close
     (tie.spec
     (λ c. search rules)

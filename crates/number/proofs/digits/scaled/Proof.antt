@@ -3,5 +3,5 @@ use Rattle.number.proofs.Carries.{product}
 use Rattle.number.proofs.digits.scaled.Statement.{statement}
 use Rattle.number.proofs.digits.scaled.Tie as tie
 
-pub scaled-spec : {M : Type 1} → statement M
-scaled-spec = tie.close (tie.spec (λ c. omega (arith, product c.ranges.limb c.ranges.base c.ranges.over)) (λ c. omega (arith, product c.ranges.limb c.ranges.base c.ranges.over)) (λ c. search rules) (λ c. omega (arith, product c.ranges.limb c.ranges.base c.ranges.over)) (λ c. search rules))
+pub scaled_spec : {M : Type 1} → statement M
+scaled_spec = tie.close (tie.spec (λ c. omega (arith, product c.ranges.limb c.ranges.base c.ranges.over)) (λ c. omega (arith, product c.ranges.limb c.ranges.base c.ranges.over)) (λ c. search rules) (λ c. omega (arith, product c.ranges.limb c.ranges.base c.ranges.over)) (λ c. search rules))

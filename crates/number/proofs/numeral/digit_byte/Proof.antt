@@ -9,5 +9,5 @@ low c = rw (lt-ltb _ 10 c.if1.true)
 high : tie.Need-returns-2
 high c = rw (le-ltb _ 10 c.if1.false)
 
-pub digit-byte-spec : {M : Type 1} → statement M
-digit-byte-spec = tie.close (tie.spec (λ c. search rules) (λ c. search rules) low (λ c. search rules) (λ c. search rules) high)
+pub digit_byte_spec : {M : Type 1} → statement M
+digit_byte_spec = tie.close (tie.spec (λ c. search rules) (λ c. search rules) low (λ c. search rules) (λ c. search rules) high)

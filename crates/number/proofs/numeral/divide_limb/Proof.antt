@@ -9,40 +9,40 @@ use Rattle.number.proofs.numeral.divide_limb.Tie as tie
 abbrev both : tie.Start → ℕ
 both s = s.args.over * 2 ^ 32 + s.args.limb
 
-some-divisor : (s : tie.Start) → 0 < s.args.by
-some-divisor s = omega (arith, s.requires)
+some_divisor : (s : tie.Start) → 0 < s.args.by
+some_divisor s = omega (arith, s.requires)
 
-whole-fits : tie.Need-overflow-cast-t9
-whole-fits c = record { fits = omega (arith, c.if1.true, c.before.ranges.by.fits) }
+whole_fits : tie.Need-overflow-cast-t9
+whole_fits c = record { fits = omega (arith, c.if1.true, c.before.ranges.by.fits) }
 
-left-whole : tie.Need-returns
-left-whole c = (omega arith, c.if1.true)
+left_whole : tie.Need-returns
+left_whole c = (omega arith, c.if1.true)
 
-limb-fits : tie.Need-overflow-cast-t10
-limb-fits c =
+limb_fits : tie.Need-overflow-cast-t10
+limb_fits c =
     let s : tie.Start = c.before in
     record { fits = quotient_fits s.args.limb s.args.over s.args.by s.ranges.limb.fits s.requires }
 
-rest-fits : tie.Need-overflow-cast-t12
-rest-fits c =
+rest_fits : tie.Need-overflow-cast-t12
+rest_fits c =
     let s : tie.Start = c.before in
-    record { fits = omega (arith, mod-lt (both s) (some-divisor s), s.ranges.by.fits) }
+    record { fits = omega (arith, mod-lt (both s) (some_divisor s), s.ranges.by.fits) }
 
 divided : tie.Need-returns-2
 divided c =
     let s : tie.Start = c.before in
-    (div-add-mod' (both s) s.args.by, mod-lt (both s) (some-divisor s))
+    (div-add-mod' (both s) s.args.by, mod-lt (both s) (some_divisor s))
 
-pub divide-limb-spec : {M : Type 1} → statement M
-divide-limb-spec =
+pub divide_limb_spec : {M : Type 1} → statement M
+divide_limb_spec =
     tie.close
     (tie.spec
     (λ c. search rules)
     (λ c. search rules)
-    whole-fits
-    left-whole
+    whole_fits
+    left_whole
     (λ c. search rules)
-    limb-fits
+    limb_fits
     (λ c. search rules)
-    rest-fits
+    rest_fits
     divided)

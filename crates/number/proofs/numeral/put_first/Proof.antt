@@ -13,21 +13,21 @@ start t = t.before.before
 asked : (t : Ten) → (start t).args.base ≡ 10
 asked t = t.if1.true
 
-ten-fits : tie.Need-put-limb-requires
-ten-fits c κs =
+ten_fits : tie.Need-put-limb-requires
+ten_fits c κs =
     let s = start c.before in
     ((omega arith, omega arith), s.pre.1)
 
-in-ten : tie.Need-returns
-in-ten c = rw (asked c.before.before.before.before) c.before.before.put-limb.ensures
+in_ten : tie.Need-returns
+in_ten c = rw (asked c.before.before.before.before) c.before.before.put-limb.ensures
 
-pub put-first-spec : {M : Type 1} → statement M
-put-first-spec =
+pub put_first_spec : {M : Type 1} → statement M
+put_first_spec =
     tie.close
     (tie.spec
-    ten-fits
+    ten_fits
     (λ c. search rules)
-    in-ten
+    in_ten
     (λ c κs. c.before.before.before.requires)
     (λ c. search rules)
     (λ c. c.before.before.put-limb2.ensures))

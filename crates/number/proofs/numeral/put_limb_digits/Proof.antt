@@ -1,19 +1,19 @@
--- The bytes before the end are as many as a limb has digits at most, so all of them are there (`enough-digits`); after the end there is nothing.
+-- The bytes before the end are as many as a limb has digits at most, so all of them are there (`enough_digits`); after the end there is nothing.
 use Rattle.std.proofs.Common.{◌≡◌, ℕ, ◌^◌, ◌<◌, ◌≤◌, List, ◌++◌, map, length, drop, sym, ap, ◌∙◌, ap₂, append-nil, lt_of_lt_of_le, arith, drop_of_length-le, rules}
 use native.Mathlib.Nat.{pow-le-pow_left}
-use Rattle.paper.specs.Print.{digitByte, digitsIn, mostDigits, numeralIn}
-use Rattle.number.specs.Numerals.{numeralWith, mostLimbDigits}
-use Rattle.number.proofs.EnoughDigits.{enough-digits}
+use Rattle.paper.specs.Print.{digit_byte, digits_in, most_digits, numeral_in}
+use Rattle.number.specs.Numerals.{numeral_with, most_limb_digits}
+use Rattle.number.proofs.EnoughDigits.{enough_digits}
 use Rattle.number.proofs.numeral.put_limb_digits.Statement.{statement}
 use Rattle.number.proofs.numeral.put_limb_digits.Tie as tie
 
-whole-numeral : (base n : ℕ) (s : List ℕ) → 2 ≤ base → n < 2 ^ 32 → length s ≡ mostLimbDigits → numeralWith base mostLimbDigits n s ≡ numeralIn base n
-whole-numeral base n s two limb full =
-    let below : n < base ^ mostLimbDigits = lt_of_lt_of_le limb (pow-le-pow_left two mostLimbDigits) in
-    let nothing = drop_of_length-le s {i = mostLimbDigits} (omega (arith, full)) in
-    ap (λ (l : List ℕ). map digitByte (digitsIn base mostLimbDigits n) ++ l) nothing
-    ∙ append-nil (map digitByte (digitsIn base mostLimbDigits n))
-    ∙ ap (map digitByte) (sym (enough-digits base mostLimbDigits mostDigits n two (omega arith) (omega arith) below))
+whole_numeral : (base n : ℕ) (s : List ℕ) → 2 ≤ base → n < 2 ^ 32 → length s ≡ most_limb_digits → numeral_with base most_limb_digits n s ≡ numeral_in base n
+whole_numeral base n s two limb full =
+    let below : n < base ^ most_limb_digits = lt_of_lt_of_le limb (pow-le-pow_left two most_limb_digits) in
+    let nothing = drop_of_length-le s {i = most_limb_digits} (omega (arith, full)) in
+    ap (λ (l : List ℕ). map digit_byte (digits_in base most_limb_digits n) ++ l) nothing
+    ∙ append-nil (map digit_byte (digits_in base most_limb_digits n))
+    ∙ ap (map digit_byte) (sym (enough_digits base most_limb_digits most_digits n two (omega arith) (omega arith) below))
 
 -- where the digits were written, and what the function was given
 abbrev start : tie.After-put-first → tie.Start
@@ -24,14 +24,14 @@ room c κs =
     let s = c.before.before in
     (s.requires.0, omega (arith, s.requires.1))
 
-numeral-lies : tie.Need-returns
-numeral-lies c =
+numeral_lies : tie.Need-returns
+numeral_lies c =
     let put : tie.After-put-first = c.before.before in
     let s = start put in
     record {
       inside = omega (arith, put.put_first.ensures.inside, put.put_first.auto, s.pre.1);
-      bytes = put.put_first.ensures.bytes ∙ whole-numeral s.args.base s.args.n s.args.bytes.now s.pre.0.0 s.fits.n.fits s.pre.1;
+      bytes = put.put_first.ensures.bytes ∙ whole_numeral s.args.base s.args.n s.args.bytes.now s.pre.0.0 s.fits.n.fits s.pre.1;
     }
 
-pub put-limb-digits-spec : {M : Type 1} → statement M
-put-limb-digits-spec = tie.close (tie.spec room (λ c. search rules) numeral-lies)
+pub put_limb_digits_spec : {M : Type 1} → statement M
+put_limb_digits_spec = tie.close (tie.spec room (λ c. search rules) numeral_lies)

@@ -16,21 +16,21 @@ asked t = t.if1.true
 below : (n base : ℕ) → base ≡ 10 → n < base ^ 7 → n < 10 ^ 7
 below n base ten h = rw ten at h
 
-ten-fits : tie.Need-put-cut-requires
-ten-fits c κs =
+ten_fits : tie.Need-put-cut-requires
+ten_fits c κs =
     let s = start c.before in
     ((omega arith, omega arith, below _ _ (asked c.before) s.pre.0.2), s.pre.1)
 
-in-ten : tie.Need-returns
-in-ten c = rw (asked c.before.before.before.before) c.before.before.put-cut.ensures
+in_ten : tie.Need-returns
+in_ten c = rw (asked c.before.before.before.before) c.before.before.put-cut.ensures
 
-pub put-seven-spec : {M : Type 1} → statement M
-put-seven-spec =
+pub put_seven_spec : {M : Type 1} → statement M
+put_seven_spec =
     tie.close
     (tie.spec
-    ten-fits
+    ten_fits
     (λ c. search rules)
-    in-ten
+    in_ten
     (λ c κs. c.before.before.before.requires)
     (λ c. search rules)
     (λ c. c.before.before.put-cut2.ensures))

@@ -1,14 +1,14 @@
--- Of a limb, which fits 32 bits, as many of the lowest k are zero as are counted at its end (`zeros-tell`).
+-- Of a limb, which fits 32 bits, as many of the lowest k are zero as are counted at its end (`zeros_tell`).
 use Rattle.std.proofs.Common.{ℕ, leb, ap, ◌∙◌, rules}
 use lib.Count.{count_trailing_zeros}
-use Rattle.number.proofs.Zeros.{zeros-tell}
+use Rattle.number.proofs.Zeros.{zeros_tell}
 use Rattle.number.proofs.width.clear.Statement.{statement}
 use Rattle.number.proofs.width.clear.Tie as tie
 
 returns : tie.Need-returns
 returns c =
     let a = c.before.args in
-    ap (λ (k : ℕ). leb k (count_trailing_zeros 32 a.limb)) c.at_most.ensures ∙ zeros-tell 32 a.limb a.k c.before.ranges.limb.fits
+    ap (λ (k : ℕ). leb k (count_trailing_zeros 32 a.limb)) c.at_most.ensures ∙ zeros_tell 32 a.limb a.k c.before.ranges.limb.fits
 
 pub clear_spec : {M : Type 1} → statement M
 clear_spec = tie.close (tie.spec (λ c κs. search rules) returns)

@@ -2,8 +2,8 @@
 use Prim.Native.Nat.{◌/◌, ◌<◌}
 use borrow.Author.Rules.{rules}
 use lib.ListN.{length}
-use Rattle.keys.proofs.Records.{key-at}
-use Rattle.keys.proofs.Conforming.{match-at}
+use Rattle.keys.proofs.Records.{key_at}
+use Rattle.keys.proofs.Conforming.{match_at_lem}
 use Rattle.operands.proofs.Conforming.{readable}
 use Rattle.operands.proofs.Indexed.{no_key}
 use Rattle.operands.proofs.cells.bare_cell.Statement.{statement}
@@ -30,9 +30,9 @@ returns-2 c =
     let key = c.before.before.read in
     let n = length a.list.now / 80 in
     let h : a.k < n = search rules in
-    rw (key-at a.list.now n a.k h, match-at a.list.now a.entry.now n a.k h, ← c.before.read2.ensures, ← key.ensures.kind, ← key.ensures.width) c.matched.ensures
+    rw (key_at a.list.now n a.k h, match_at_lem a.list.now a.entry.now n a.k h, ← c.before.read2.ensures, ← key.ensures.kind, ← key.ensures.width) c.matched.ensures
 
-pub bare-cell-spec : {M : Type 1} → statement M
-bare-cell-spec =
+pub bare_cell_spec : {M : Type 1} → statement M
+bare_cell_spec =
     tie.close
     (tie.spec (λ c κs. search rules) returns (λ c κs. search rules) read-requires-2 matched-requires returns-2)

@@ -5,10 +5,10 @@ use lib.ListN.{length}
 use Rattle.paper.specs.Keys.{kind_of}
 use Rattle.paper.specs.Types.{has}
 use Rattle.paper.specs.Code.{field_of}
-use Rattle.keys.proofs.Records.{key-at}
-use Rattle.keys.proofs.Conforming.{match-at}
+use Rattle.keys.proofs.Records.{key_at}
+use Rattle.keys.proofs.Conforming.{match_at_lem}
 use Rattle.operands.proofs.Conforming.{readable}
-use Rattle.operands.proofs.Indexed.{no_key, is-when}
+use Rattle.operands.proofs.Indexed.{no_key, is_when}
 use Rattle.operands.proofs.cells.field_cell.Statement.{statement}
 use Rattle.operands.proofs.cells.field_cell.Tie as tie
 
@@ -33,9 +33,9 @@ returns-2 c =
     let key = c.before.before.read in
     let n = length a.list.now / 80 in
     let h : a.k < n = search rules in
-    rw (key-at a.list.now n a.k h, match-at a.list.now a.entry.now n a.k h, ← c.before.read2.ensures, ← key.ensures.kind, ← key.ensures.width) (is-when (has (kind_of key.result.kind) (field_of a.field)) c.field.ensures)
+    rw (key_at a.list.now n a.k h, match_at_lem a.list.now a.entry.now n a.k h, ← c.before.read2.ensures, ← key.ensures.kind, ← key.ensures.width) (is_when (has (kind_of key.result.kind) (field_of a.field)) c.field.ensures)
 
-pub field-cell-spec : {M : Type 1} → statement M
-field-cell-spec =
+pub field_cell_spec : {M : Type 1} → statement M
+field_cell_spec =
     tie.close
     (tie.spec (λ c κs. search rules) returns (λ c κs. search rules) read-requires-2 field-requires returns-2)

@@ -2,7 +2,7 @@
 use borrow.Author.Rules.{rules}
 use Prim.Native.Nat.{◌/◌}
 use lib.ListN.{length}
-use Rattle.keys.proofs.Records.{key-at}
+use Rattle.keys.proofs.Records.{key_at}
 use Rattle.operands.proofs.Indexed.{no_key}
 use Rattle.operands.proofs.types.bare_type.Statement.{statement}
 use Rattle.operands.proofs.types.bare_type.Tie as tie
@@ -15,7 +15,7 @@ returns c =
 returns-2 : tie.Need-returns-2
 returns-2 c =
     let a = c.before.before.before.args in
-    rw (key-at a.list.now (length a.list.now / 80) a.k (search rules), ← c.read.ensures.kind, ← c.read.ensures.width)
+    rw (key_at a.list.now (length a.list.now / 80) a.k (search rules), ← c.read.ensures.kind, ← c.read.ensures.width)
 
-pub bare-type-spec : {M : Type 1} → statement M
-bare-type-spec = tie.close (tie.spec returns (λ c κs. search rules) returns-2)
+pub bare_type_spec : {M : Type 1} → statement M
+bare_type_spec = tie.close (tie.spec returns (λ c κs. search rules) returns-2)

@@ -1,8 +1,8 @@
 -- `parts::close` meets its contract: a part without a token is none (`closed_none`), any other is stored after those that are there
--- (`closed-one`). There is room for it, since the parts before it had a token each, and a ";".
+-- (`closed_one`). There is room for it, since the parts before it had a token each, and a ";".
 use native.Mathlib.Omega.{arith}
 use borrow.Author.Rules.{rules}
-use Rattle.parts.proofs.Going.{closed_none, closed-one}
+use Rattle.parts.proofs.Going.{closed_none, closed_one}
 use Rattle.parts.proofs.cutting.close.Statement.{statement}
 use Rattle.parts.proofs.cutting.close.Tie as tie
 
@@ -21,7 +21,7 @@ one c =
     let ended = at-put.before.before in
     let read = ended.before in
     let s = start at-put in
-    closed-one s.args.tape.now s.args.parts.now _ s.args.first s.args.past s.args.n read.before.if1.false s.pre.0.1 s.pre.1.1
+    closed_one s.args.tape.now s.args.parts.now _ s.args.first s.args.past s.args.n read.before.if1.false s.pre.0.1 s.pre.1.1
     (omega (arith, s.pre.0.0.few, s.pre.1.0)) (rw (← read.start-at.ensures, ← ended.end-at.ensures) at-put.put-stretch.ensures)
 
 pub close_spec : {M : Type 1} → statement M

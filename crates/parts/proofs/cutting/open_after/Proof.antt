@@ -1,4 +1,4 @@
--- `parts::open_after` meets its contract: each branch decides one test of the definition `kindOpens`.
+-- `parts::open_after` meets its contract: each branch decides one test of the definition `kind_opens`.
 use native.Mathlib.Omega.{arith}
 use borrow.Author.Rules.{rules}
 use borrow.Author.Tests.{eq-eqb, ne_eqb}
@@ -12,8 +12,8 @@ neither : tie.Need-returns-2
 neither c = let kind = c.before.before.args.kind in rw (ne_eqb kind _ c.before.if1.false, ne_eqb kind _ c.if2.true)
 
 -- a ")" where none is open
-closes-none : tie.Need-returns-3
-closes-none c =
+closes_none : tie.Need-returns-3
+closes_none c =
     let kind = c.before.before.before.args.kind in
     rw (ne_eqb kind _ c.before.before.if1.false, eq-eqb kind _ c.before.if2.false) (omega (arith, c.if3.true))
 
@@ -22,5 +22,5 @@ closes c =
     let kind = c.before.before.before.args.kind in
     rw (ne_eqb kind _ c.before.before.if1.false, eq-eqb kind _ c.before.if2.false)
 
-pub open-after-spec : {M : Type 1} → statement M
-open-after-spec = tie.close (tie.spec (λ c. search rules) opens neither (λ c. search rules) closes-none closes)
+pub open_after_spec : {M : Type 1} → statement M
+open_after_spec = tie.close (tie.spec (λ c. search rules) opens neither (λ c. search rules) closes_none closes)

@@ -5,8 +5,8 @@ use borrow.Author.Rules.{rules}
 use Rattle.parts.proofs.rows.put_stretch.Statement.{statement}
 use Rattle.parts.proofs.rows.put_stretch.Tie as tie
 
-pub put-stretch-spec : {M : Type 1} → statement M
-put-stretch-spec =
+pub put_stretch_spec : {M : Type 1} → statement M
+put_stretch_spec =
     tie.close
     (tie.spec
     (λ c. search rules)

@@ -11,5 +11,5 @@ few c = c.start.ensures ∙ rw (le-leb _ _ c.before.if1.true)
 more : tie.Need-returns-2
 more c = rw (lt-leb _ _ c.if1.false)
 
-pub first-blocks-spec : {M : Type 1} → statement M
-first-blocks-spec = tie.close (tie.spec (λ c. search rules) (λ c κs. search rules) few more)
+pub first_blocks_spec : {M : Type 1} → statement M
+first_blocks_spec = tie.close (tie.spec (λ c. search rules) (λ c κs. search rules) few more)

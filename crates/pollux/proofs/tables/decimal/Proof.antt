@@ -10,8 +10,8 @@ invariant-loop text from to n₀ i₀ n i = from ≤ i
 abbrev decreases-loop : tie.decreases-loop
 decreases-loop text from to n₀ i₀ n i = to - i
 
-pub decimal-spec : {M : Type 1} → statement M
-decimal-spec =
+pub decimal_spec : {M : Type 1} → statement M
+decimal_spec =
     tie.close
     (tie.spec
     invariant-loop

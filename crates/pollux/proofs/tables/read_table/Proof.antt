@@ -12,8 +12,8 @@ invariant-loop text table₀ count₀ at₀ table count at = length table ≡ le
 abbrev decreases-loop : tie.decreases-loop
 decreases-loop text table₀ count₀ at₀ table count at = length text - at
 
-pub read-table-spec : {M : Type 1} → statement M
-read-table-spec =
+pub read_table_spec : {M : Type 1} → statement M
+read_table_spec =
     tie.close
     (tie.spec
     invariant-loop

@@ -11,8 +11,8 @@ binary c = c.before.before.before
 abbrev hex : tie.After-write2 → tie.After-enum-told3
 hex c = c.before.before.before
 
-pub write-base-spec : {M : Type 1} → statement M
-write-base-spec =
+pub write_base_spec : {M : Type 1} → statement M
+write_base_spec =
     tie.close
     (tie.spec
     (λ c. search rules)

@@ -22,8 +22,8 @@ written c =
     wrote_as (sym (append_assoc (spelling given.text.now given.key) (bytes "::") (spelling given.text.now given.name)))
     (wrote_on (key name-at).write_word.ensures name-at.write-name.ensures)
 
-pub write-field-spec : {M : Type 1} → statement M
-write-field-spec =
+pub write_field_spec : {M : Type 1} → statement M
+write_field_spec =
     tie.close
     (tie.spec
     (λ c κs. search rules)

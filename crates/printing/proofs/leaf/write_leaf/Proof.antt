@@ -6,8 +6,8 @@ use borrow.Author.Rules.{rules}
 use Rattle.paper.specs.Print.{print}
 use Rattle.number.specs.Values.{value}
 use Rattle.trees.specs.declared.node.Leaf.{Leaf}
-use Rattle.trees.specs.Nodes.{leafAt, placeAt}
-use Rattle.trees.specs.Standing.{leafOn}
+use Rattle.trees.specs.Nodes.{leaf_at, place_at}
+use Rattle.trees.specs.Standing.{leaf_on}
 use Rattle.printing.proofs.Rows.{wrote_as}
 use Rattle.printing.proofs.leaf.write_leaf.Statement.{statement}
 use Rattle.printing.proofs.leaf.write_leaf.Tie as tie
@@ -18,64 +18,64 @@ start c = c.before.before.before.before
 
 -- the bytes of a leaf at this node
 abbrev bytes_of : tie.After-read → Leaf → List ℕ
-bytes_of c l = let a = (start c).args in print (leafOn a.text.now (placeAt a.nodes.now a.node) l)
+bytes_of c l = let a = (start c).args in print (leaf_on a.text.now (place_at a.nodes.now a.node) l)
 
-as_read : (c : tie.After-read) {l : Leaf} → c.read.result ≡ l → bytes_of c l ≡ bytes_of c (leafAt (start c).args.nodes.now (start c).args.node)
+as_read : (c : tie.After-read) {l : Leaf} → c.read.result ≡ l → bytes_of c l ≡ bytes_of c (leaf_at (start c).args.nodes.now (start c).args.node)
 as_read c e = ap (bytes_of c) (sym e ∙ c.read.ensures)
 
 -- from each write, where its arm knows the leaf
-abbrev truth-known : tie.After-write-truth → tie.After-leaf
-truth-known c = c.before.before.before
+abbrev truth_known : tie.After-write-truth → tie.After-leaf
+truth_known c = c.before.before.before
 
-abbrev number-known : tie.After-write-number → tie.After-leaf2
-number-known c = c.before.before.before
+abbrev number_known : tie.After-write-number → tie.After-leaf2
+number_known c = c.before.before.before
 
-abbrev key-known : tie.After-write-word → tie.After-leaf3
-key-known c = c.before.before.before
+abbrev key_known : tie.After-write-word → tie.After-leaf3
+key_known c = c.before.before.before
 
-abbrev field-known : tie.After-write-field → tie.After-leaf4
-field-known c = c.before.before.before
+abbrev field_known : tie.After-write-field → tie.After-leaf4
+field_known c = c.before.before.before
 
-abbrev attribute-known : tie.After-write-name → tie.After-leaf5
-attribute-known c = c.before.before.before
+abbrev attribute_known : tie.After-write-name → tie.After-leaf5
+attribute_known c = c.before.before.before
 
-truth-written : tie.Need-returns
+truth_written : tie.Need-returns
 unfolding print
-truth-written c =
+truth_written c =
     let write-at : tie.After-write-truth = c.before.before in
-    let known = truth-known write-at in
+    let known = truth_known write-at in
     wrote_as (as_read known.before.before known.leaf.given.1) write-at.write-truth.ensures
 
-number-written : tie.Need-returns-2
+number_written : tie.Need-returns-2
 unfolding print value
-number-written c =
+number_written c =
     let write-at : tie.After-write-number = c.before.before in
-    let known = number-known write-at in
+    let known = number_known write-at in
     wrote_as (as_read known.before.before known.leaf2.given.1) write-at.write-number.ensures
 
-key-written : tie.Need-returns-3
+key_written : tie.Need-returns-3
 unfolding print
-key-written c =
+key_written c =
     let write-at : tie.After-write-word = c.before.before in
-    let known = key-known write-at in
+    let known = key_known write-at in
     wrote_as (as_read known.before.before known.leaf3.given.1) write-at.write_word.ensures
 
-field-written : tie.Need-returns-4
+field_written : tie.Need-returns-4
 unfolding print
-field-written c =
+field_written c =
     let write-at : tie.After-write-field = c.before.before in
-    let known = field-known write-at in
+    let known = field_known write-at in
     wrote_as (as_read known.before.before known.leaf4.given.1) write-at.write-field.ensures
 
-attribute-written : tie.Need-returns-5
+attribute_written : tie.Need-returns-5
 unfolding print
-attribute-written c =
+attribute_written c =
     let write-at : tie.After-write-name = c.before.before in
-    let known = attribute-known write-at in
+    let known = attribute_known write-at in
     wrote_as (as_read known.before.before known.leaf5.given.1) write-at.write-name.ensures
 
-pub write-leaf-spec : {M : Type 1} → statement M
-write-leaf-spec =
+pub write_leaf_spec : {M : Type 1} → statement M
+write_leaf_spec =
     tie.close
     (tie.spec
     (λ c κs. search rules)
@@ -90,12 +90,12 @@ write-leaf-spec =
     (λ c. search rules)
     (λ c κs. search rules)
     (λ c. search rules)
-    truth-written
+    truth_written
     (λ c. search rules)
-    number-written
+    number_written
     (λ c. search rules)
-    key-written
+    key_written
     (λ c. search rules)
-    field-written
+    field_written
     (λ c. search rules)
-    attribute-written)
+    attribute_written)

@@ -16,21 +16,21 @@ start c = c.before.before
 room : tie.Need-put-limb-digits-requires
 room c κs = ((start c).requires, refl)
 
-first-inside : tie.Need-write-rest-requires
-first-inside c κs = (digits c).put-limb-digits.ensures.inside
+first_inside : tie.Need-write-rest-requires
+first_inside c κs = (digits c).put-limb-digits.ensures.inside
 
 written : tie.Need-returns
 written c =
     let write-at : tie.After-write-rest = c.before.before in
     wrote_as (digits write-at.before).put-limb-digits.ensures.bytes write-at.write-rest.ensures
 
-pub write-limb-spec : {M : Type 1} → statement M
-write-limb-spec =
+pub write_limb_spec : {M : Type 1} → statement M
+write_limb_spec =
     tie.close
     (tie.spec
     (λ c. search rules)
     room
     (λ c. search rules)
-    first-inside
+    first_inside
     (λ c. search rules)
     written)

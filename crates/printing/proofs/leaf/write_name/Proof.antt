@@ -8,8 +8,8 @@ use Rattle.printing.proofs.leaf.write_name.Tie as tie
 abbrev colons : tie.After-write-word → tie.After-write
 colons c = c.before.before.before.before
 
-pub write-name-spec : {M : Type 1} → statement M
-write-name-spec =
+pub write_name_spec : {M : Type 1} → statement M
+write_name_spec =
     tie.close
     (tie.spec
     (λ c. search rules)

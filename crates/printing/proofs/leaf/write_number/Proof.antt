@@ -3,7 +3,7 @@ use Prim.Native.Nat.{ℕ}
 use native.Mathlib.Omega.{arith}
 use mathlib.Core.Path.{ap}
 use borrow.Author.Rules.{rules}
-use Rattle.paper.specs.Print.{numeralIn}
+use Rattle.paper.specs.Print.{numeral_in}
 use Rattle.number.specs.Values.{value}
 use Rattle.printing.proofs.Rows.{wrote_as, wrote_on}
 use Rattle.printing.proofs.leaf.write_number.Statement.{statement}
@@ -25,7 +25,7 @@ written c =
     let based = radix write-at in
     let prefix = announced based in
     let number = value (start prefix).args.literal.number in
-    wrote_on prefix.write-base.ensures (wrote_as (ap (λ (r : ℕ). numeralIn r number) based.radix.ensures.0) write-at.write-digits.ensures)
+    wrote_on prefix.write-base.ensures (wrote_as (ap (λ (r : ℕ). numeral_in r number) based.radix.ensures.0) write-at.write-digits.ensures)
 
-pub write-number-spec : {M : Type 1} → statement M
-write-number-spec = tie.close (tie.spec (λ c κs. search rules) (λ c κs. search rules) (λ c κs. search rules) (λ c. search rules) written)
+pub write_number_spec : {M : Type 1} → statement M
+write_number_spec = tie.close (tie.spec (λ c κs. search rules) (λ c κs. search rules) (λ c κs. search rules) (λ c. search rules) written)

@@ -18,8 +18,8 @@ written c =
     let s = given.s.now in
     wrote_as (take_all (length s - given.first) (drop given.first s) (omega (arith, length-drop given.first s))) write-at.write.ensures
 
-pub write-rest-spec : {M : Type 1} → statement M
-write-rest-spec =
+pub write_rest_spec : {M : Type 1} → statement M
+write_rest_spec =
     tie.close
     (tie.spec
     (λ c. search rules)

@@ -9,8 +9,8 @@ taken c = c.before.before.before
 abbrev passed : tie.After-write2 → tie.Else1
 passed c = c.before.before.before
 
-pub write-truth-spec : {M : Type 1} → statement M
-write-truth-spec =
+pub write_truth_spec : {M : Type 1} → statement M
+write_truth_spec =
     tie.close
     (tie.spec
     (λ c. search rules)

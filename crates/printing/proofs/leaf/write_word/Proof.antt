@@ -9,8 +9,8 @@ written c =
     let write-at : tie.After-write = c.before.before in
     wrote_as write-at.before.before.spelled.ensures write-at.write.ensures
 
-pub write-word-spec : {M : Type 1} → statement M
-write-word-spec =
+pub write_word_spec : {M : Type 1} → statement M
+write_word_spec =
     tie.close
     (tie.spec
     (λ c κs. search rules)

@@ -3,8 +3,8 @@ use borrow.Author.Rules.{rules}
 use Rattle.printing.proofs.signs.is_looser.Statement.{statement}
 use Rattle.printing.proofs.signs.is_looser.Tie as tie
 
-pub is-looser-spec : {M : Type 1} → statement M
-is-looser-spec =
+pub is_looser_spec : {M : Type 1} → statement M
+is_looser_spec =
     tie.close
     (tie.spec
     (λ c κs. search rules)

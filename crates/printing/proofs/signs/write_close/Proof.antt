@@ -7,8 +7,8 @@ use Rattle.printing.proofs.signs.write_close.Tie as tie
 abbrev taken : tie.After-write → tie.Then1
 taken c = c.before.before.before
 
-pub write-close-spec : {M : Type 1} → statement M
-write-close-spec =
+pub write_close_spec : {M : Type 1} → statement M
+write_close_spec =
     tie.close
     (tie.spec
     (λ c. search rules)

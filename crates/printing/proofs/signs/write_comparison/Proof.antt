@@ -22,8 +22,8 @@ told5 c = c.before.before.before
 abbrev told6 : tie.After-write6 → tie.After-enum-told6
 told6 c = c.before.before.before
 
-pub write-comparison-spec : {M : Type 1} → statement M
-write-comparison-spec =
+pub write_comparison_spec : {M : Type 1} → statement M
+write_comparison_spec =
     tie.close
     (tie.spec
     (λ c. search rules)

@@ -16,8 +16,8 @@ told3 c = c.before.before.before
 abbrev told4 : tie.After-write4 → tie.After-enum-told4
 told4 c = c.before.before.before
 
-pub write-join-spec : {M : Type 1} → statement M
-write-join-spec =
+pub write_join_spec : {M : Type 1} → statement M
+write_join_spec =
     tie.close
     (tie.spec
     (λ c. search rules)

@@ -7,8 +7,8 @@ use Rattle.printing.proofs.signs.write_open.Tie as tie
 abbrev taken : tie.After-write → tie.Then1
 taken c = c.before.before.before
 
-pub write-open-spec : {M : Type 1} → statement M
-write-open-spec =
+pub write_open_spec : {M : Type 1} → statement M
+write_open_spec =
     tie.close
     (tie.spec
     (λ c. search rules)

@@ -10,8 +10,8 @@ joins c = c.before.before.before
 abbrev compares : tie.After-write-comparison → tie.After-o2
 compares c = c.before.before.before
 
-pub write-operator-spec : {M : Type 1} → statement M
-write-operator-spec =
+pub write_operator_spec : {M : Type 1} → statement M
+write_operator_spec =
     tie.close
     (tie.spec
     (λ c. search rules)

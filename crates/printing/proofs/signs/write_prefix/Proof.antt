@@ -10,8 +10,8 @@ told c = c.before.before.before
 abbrev told2 : tie.After-write2 → tie.After-enum-told2
 told2 c = c.before.before.before
 
-pub write-prefix-spec : {M : Type 1} → statement M
-write-prefix-spec =
+pub write_prefix_spec : {M : Type 1} → statement M
+write_prefix_spec =
     tie.close
     (tie.spec
     (λ c. search rules)

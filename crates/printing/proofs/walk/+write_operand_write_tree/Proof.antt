@@ -5,9 +5,9 @@ mod Operand
 mod Tree
 use Rattle.printing.proofs.walk.+write_operand_write_tree.{statement}
 use Rattle.printing.proofs.walk.+write_operand_write_tree.Tie.{close}
-use Rattle.printing.proofs.walk.+write_operand_write_tree.Proof.Common.{μ-operand, μ-tree}
-use Rattle.printing.proofs.walk.+write_operand_write_tree.Proof.Operand.{operand-closed}
-use Rattle.printing.proofs.walk.+write_operand_write_tree.Proof.Tree.{tree-closed}
+use Rattle.printing.proofs.walk.+write_operand_write_tree.Proof.Common.{μ_operand, μ_tree}
+use Rattle.printing.proofs.walk.+write_operand_write_tree.Proof.Operand.{operand_closed}
+use Rattle.printing.proofs.walk.+write_operand_write_tree.Proof.Tree.{tree_closed}
 
 pub +write-operand-write-tree-spec : {M : Type 1} → statement M
-+write-operand-write-tree-spec = close μ-operand μ-tree operand-closed tree-closed
++write-operand-write-tree-spec = close μ_operand μ_tree operand_closed tree_closed

@@ -2,5 +2,5 @@ use Rattle.tried.proofs.WrongDrafters as Theorem
 use Rattle.promises.proofs.accounts.wrong_drafters_fail.Statement.{statement}
 use Rattle.promises.proofs.accounts.wrong_drafters_fail.Tie as tie
 
-pub wrong-drafters-fail-spec : {M : Type 1} → statement M
-wrong-drafters-fail-spec = tie.close (tie.spec (λ c. Theorem.wrong-drafters-fail))
+pub wrong_drafters_fail_spec : {M : Type 1} → statement M
+wrong_drafters_fail_spec = tie.close (tie.spec (λ c. Theorem.wrong_drafters_fail))

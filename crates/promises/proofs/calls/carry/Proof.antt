@@ -9,11 +9,11 @@ use lib.Seq.{length-take-le}
 use borrow.Author.Rules.{rules}
 use Rattle.paper.specs.declared.Translation.{Translation}
 use Rattle.paper.specs.declared.Translation.TheVariants as T
-use Rattle.paper.specs.Blocks.{blockSize, blocksNeeded}
+use Rattle.paper.specs.Blocks.{block_size, blocks_needed}
 use Rattle.paper.specs.Promised.{TranslatePromised, LoadPromised, RunPromised}
-use Rattle.paper.proofs.DemandOne.{translate-answered}
+use Rattle.paper.proofs.DemandOne.{translate_answered}
 use Rattle.promises.specs.Held.{gave}
-use Rattle.promises.proofs.Held.{room-there, held}
+use Rattle.promises.proofs.Held.{room_there, held}
 use Rattle.promises.proofs.calls.carry.Statement.{statement}
 use Rattle.promises.proofs.calls.carry.Tie as tie
 
@@ -52,22 +52,22 @@ written : (c : tie.After-needed)
 written c = promised (translated c) (T.Written (count c)) c.before.before.translated2.given.1
 
 -- the blocks lie in the buffer
-fits : (c : tie.After-needed) → blockSize * c.needed.result ≤ length (exit (translated c))
+fits : (c : tie.After-needed) → block_size * c.needed.result ≤ length (exit (translated c))
 fits c =
-    let r = room-there _ _ _ _ _ (written c) in
-    subst (λ (m : ℕ). blockSize * m ≤ length (exit (translated c))) (sym c.needed.ensures) (omega (arith, r.0, r.1))
+    let r = room_there _ _ _ _ _ (written c) in
+    subst (λ (m : ℕ). block_size * m ≤ length (exit (translated c))) (sym c.needed.ensures) (omega (arith, r.0, r.1))
 
 -- so many bytes are lent
-whole : (c : tie.After-needed) → blockSize * c.needed.result ≡ length (take (blockSize * c.needed.result) (exit (translated c)))
-whole c = sym (length-take-le (blockSize * c.needed.result) (exit (translated c)) (fits c))
+whole : (c : tie.After-needed) → block_size * c.needed.result ≡ length (take (block_size * c.needed.result) (exit (translated c)))
+whole c = sym (length-take-le (block_size * c.needed.result) (exit (translated c)) (fits c))
 
-mul-size : tie.Need-overflow-mul-size
-mul-size c = omega (arith, (room-there _ _ _ _ _ (written c)).2, c.needed.ensures)
+mul_size : tie.Need-overflow-mul-size
+mul_size c = omega (arith, (room_there _ _ _ _ _ (written c)).2, c.needed.ensures)
 
-refused-answered : tie.Need-returns
-refused-answered c =
+refused_answered : tie.Need-returns
+refused_answered c =
     let t = c.before.before.before.before.before in
-    translate-answered _ _ _ _ (promised t _ c.before.translated.given.1)
+    translate_answered _ _ _ _ (promised t _ c.before.translated.given.1)
 
 all_held : tie.Need-returns-2
 all_held c =
@@ -76,19 +76,19 @@ all_held c =
     let loaded = c.before.before.before.load in
     let ran = c.before.run in
     held _ _ _ _ _ (written s) (entry t) loaded.result ran.result c.judge.result
-    (subst (λ (m : ℕ). LoadPromised (list t) (take (blockSize * m) (exit t)) loaded.result) s.needed.ensures loaded.ensures)
-    (subst (λ (m : ℕ). RunPromised (list t) (take (blockSize * m) (exit t)) (entry t) ran.result) s.needed.ensures ran.ensures)
+    (subst (λ (m : ℕ). LoadPromised (list t) (take (block_size * m) (exit t)) loaded.result) s.needed.ensures loaded.ensures)
+    (subst (λ (m : ℕ). RunPromised (list t) (take (block_size * m) (exit t)) (entry t) ran.result) s.needed.ensures ran.ensures)
     c.judge.ensures
 
-pub carry-spec : {M : Type 1} → statement M
-carry-spec =
+pub carry_spec : {M : Type 1} → statement M
+carry_spec =
     tie.close
     (tie.spec
     (λ c κs. search rules)
     (λ c. search rules)
     (λ c. search rules)
     (λ c κs. search rules)
-    mul-size
+    mul_size
     fits
     (λ c. whole c.before)
     (λ c κs. search rules)
@@ -97,6 +97,6 @@ carry-spec =
     (λ c κs. search rules)
     (λ c κs. search rules)
     (λ c. search rules)
-    refused-answered
+    refused_answered
     (λ c. search rules)
     all_held)

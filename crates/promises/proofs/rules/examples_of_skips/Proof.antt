@@ -2,5 +2,5 @@ use Rattle.tried.proofs.SkipExamples as Theorem
 use Rattle.promises.proofs.rules.examples_of_skips.Statement.{statement}
 use Rattle.promises.proofs.rules.examples_of_skips.Tie as tie
 
-pub examples-of-skips-spec : {M : Type 1} → statement M
-examples-of-skips-spec = tie.close (tie.spec (λ c. Theorem.skipExamples))
+pub examples_of_skips_spec : {M : Type 1} → statement M
+examples_of_skips_spec = tie.close (tie.spec (λ c. Theorem.skip_examples))

@@ -2,5 +2,5 @@ use Rattle.tried.proofs.MeaningExamples as Theorem
 use Rattle.promises.proofs.rules.examples_of_values.Statement.{statement}
 use Rattle.promises.proofs.rules.examples_of_values.Tie as tie
 
-pub examples-of-values-spec : {M : Type 1} → statement M
-examples-of-values-spec = tie.close (tie.spec (λ c. Theorem.meaningExamples))
+pub examples_of_values_spec : {M : Type 1} → statement M
+examples_of_values_spec = tie.close (tie.spec (λ c. Theorem.meaning_examples))

@@ -2,5 +2,5 @@ use Rattle.tried.proofs.Limits as Theorem
 use Rattle.promises.proofs.rules.limits_of_sizes.Statement.{statement}
 use Rattle.promises.proofs.rules.limits_of_sizes.Tie as tie
 
-pub limits-of-sizes-spec : {M : Type 1} → statement M
-limits-of-sizes-spec = tie.close (tie.spec (λ c. Theorem.sizes))
+pub limits_of_sizes_spec : {M : Type 1} → statement M
+limits_of_sizes_spec = tie.close (tie.spec (λ c. Theorem.sizes))

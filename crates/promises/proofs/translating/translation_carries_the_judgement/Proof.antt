@@ -2,5 +2,5 @@ use Rattle.paper.proofs.TranslationCorrect as Theorem
 use Rattle.promises.proofs.translating.translation_carries_the_judgement.Statement.{statement}
 use Rattle.promises.proofs.translating.translation_carries_the_judgement.Tie as tie
 
-pub translation-carries-the-judgement-spec : {M : Type 1} → statement M
-translation-carries-the-judgement-spec = tie.close (tie.spec (λ c. Theorem.translation-carries))
+pub translation_carries_the_judgement_spec : {M : Type 1} → statement M
+translation_carries_the_judgement_spec = tie.close (tie.spec (λ c. Theorem.translation_carries))

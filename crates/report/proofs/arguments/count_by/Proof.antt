@@ -5,17 +5,17 @@ use Rattle.report.proofs.arguments.count_by.Statement.{statement}
 use Rattle.report.proofs.arguments.count_by.Tie as tie
 
 -- where the text is known to pass; and from there where it was looked at
-abbrev looked-at : tie.After-n → tie.After-restrict-parts
-looked-at c = c.before.before.before.before
+abbrev looked_at : tie.After-n → tie.After-restrict-parts
+looked_at c = c.before.before.before.before
 
-parts-stand : tie.Need-count-argument-requires
-parts-stand c κs =
+parts_stand : tie.Need-count-argument-requires
+parts_stand c κs =
     let told : tie.After-n = c.before.before.before in
-    let t = (looked-at told).restrict-parts in
+    let t = (looked_at told).restrict-parts in
     (_, passed _ _ _ _ t.result t.ensures told.n.given.1)
 
-pub count-by-spec : {M : Type 1} → statement M
-count-by-spec =
+pub count_by_spec : {M : Type 1} → statement M
+count_by_spec =
     tie.close
     (tie.spec
     (λ c. search rules)
@@ -26,6 +26,6 @@ count-by-spec =
     (λ c. search rules)
     (λ c. search rules)
     (λ c. search rules)
-    parts-stand
+    parts_stand
     (λ c. search rules)
     (λ c. search rules))

@@ -7,7 +7,7 @@ use lib.ListN.{length, take}
 use lib.Seq.{length-take-le}
 use borrow.Author.Rules.{rules}
 use Rattle.paper.specs.Counting.{cut_in}
-use Rattle.keys.specs.Says.{keysIn}
+use Rattle.keys.specs.Says.{keys_in}
 use Rattle.report.proofs.arguments.count_file.Statement.{statement}
 use Rattle.report.proofs.arguments.count_file.Tie as tie
 
@@ -27,22 +27,22 @@ given c = c.before.before.before.before.before.before.before.before.before
 abbrev want : Buffered → ℕ
 want c = c.before.whole-entries.result
 
-part-size : (c : Buffered) → length (take (want c) c.large-buffer.result) ≡ want c
-part-size c = length-take-le (want c) c.large-buffer.result (omega (arith, c.before.whole-entries.ensures.1, c.large-buffer.ensures))
+part_size : (c : Buffered) → length (take (want c) c.large-buffer.result) ≡ want c
+part_size c = length-take-le (want c) c.large-buffer.result (omega (arith, c.before.whole-entries.ensures.1, c.large-buffer.ensures))
 
-whole_part : (c : Buffered) → cut_in (keysIn (given c).args.list.now) (take (want c) c.large-buffer.result) ≡ 0
+whole_part : (c : Buffered) → cut_in (keys_in (given c).args.list.now) (take (want c) c.large-buffer.result) ≡ 0
 whole_part c =
-    let x = c.before.before.entry-size in
-    ap₂ (λ (m : ℕ) (k : ℕ). m % k) (part-size c ∙ c.before.whole-entries.ensures.0) (sym x.ensures) ∙ multiple x.result
+    let x = c.before.before.entry_size in
+    ap₂ (λ (m : ℕ) (k : ℕ). m % k) (part_size c ∙ c.before.whole-entries.ensures.0) (sym x.ensures) ∙ multiple x.result
 
-turns-can : tie.Need-count-turns-requires
-turns-can c κs =
+turns_can : tie.Need-count-turns-requires
+turns_can c κs =
     let b : Buffered = c.before.before in
     let s = given b in
     (s.pre, (whole_part b, omega (arith, s.pre.1.parted.few)))
 
-pub count-file-spec : {M : Type 1} → statement M
-count-file-spec =
+pub count_file_spec : {M : Type 1} → statement M
+count_file_spec =
     tie.close
     (tie.spec
     (λ c κs. search rules)
@@ -52,9 +52,9 @@ count-file-spec =
     (λ c κs. search rules)
     (λ c κs. search rules)
     (λ c. search rules)
-    (λ c. sym (part-size c.before))
+    (λ c. sym (part_size c.before))
     (λ c. search rules)
-    turns-can
+    turns_can
     (λ c κs. search rules)
     (λ c. search rules)
     (λ c κs. search rules)

@@ -11,8 +11,8 @@ invariant-loop counts k₀ k = k ≤ length counts
 abbrev decreases-loop : tie.decreases-loop
 decreases-loop counts k₀ k = length counts - k
 
-pub say-parts-spec : {M : Type 1} → statement M
-say-parts-spec =
+pub say_parts_spec : {M : Type 1} → statement M
+say_parts_spec =
     tie.close
     (tie.spec
     invariant-loop

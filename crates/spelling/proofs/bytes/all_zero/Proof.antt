@@ -7,13 +7,13 @@ use borrow.Author.Rules.{rules}
 use lib.Dec.{eqb}
 use lib.ListN.{length, take}
 use lib.Seq.{take_all}
-use Rattle.paper.specs.Keys.{allZero}
+use Rattle.paper.specs.Keys.{all_zero}
 use Rattle.spelling.proofs.Steps.{gathers}
 use Rattle.spelling.proofs.bytes.all_zero.Statement.{statement}
 use Rattle.spelling.proofs.bytes.all_zero.Tie as tie
 
 abbrev invariant-loop : tie.invariant-loop
-invariant-loop s any₀ i₀ any i = (i ≤ length s) × (eqb any 0 ≡ allZero (take i s))
+invariant-loop s any₀ i₀ any i = (i ≤ length s) × (eqb any 0 ≡ all_zero (take i s))
 
 abbrev decreases-loop : tie.decreases-loop
 decreases-loop s any₀ i₀ any i = length s - i
@@ -21,8 +21,8 @@ decreases-loop s any₀ i₀ any i = length s - i
 abbrev bytes : tie.At-loop invariant-loop decreases-loop → List ℕ
 bytes l = l.before.args.s.now
 
-loop-again : tie.Need-loop-preserved invariant-loop decreases-loop
-loop-again c =
+loop_again : tie.Need-loop-preserved invariant-loop decreases-loop
+loop_again c =
     let l = c.before.before in
     (search rules, gathers (bytes l) l.loop.i l.loop.any (search rules) l.loop.invariant.1)
 
@@ -30,10 +30,10 @@ loop-again c =
 returns : tie.Need-returns invariant-loop decreases-loop
 returns c =
     let l = c.before in
-    l.loop.invariant.1 ∙ ap allZero (take_all l.loop.i (bytes l) c.loop-test.false)
+    l.loop.invariant.1 ∙ ap all_zero (take_all l.loop.i (bytes l) c.loop-test.false)
 
-pub all-zero-spec : {M : Type 1} → statement M
-all-zero-spec =
+pub all_zero_spec : {M : Type 1} → statement M
+all_zero_spec =
     tie.close
     (tie.spec
     invariant-loop
@@ -42,5 +42,5 @@ all-zero-spec =
     (λ c. search rules)
     (λ c. search rules)
     (λ c. search rules)
-    loop-again
+    loop_again
     returns)

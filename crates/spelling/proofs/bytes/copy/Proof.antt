@@ -21,8 +21,8 @@ Turning = tie.At-loop invariant-loop decreases-loop
 abbrev start : Turning → tie.Start invariant-loop decreases-loop
 start l = l.before
 
-loop-again : tie.Need-loop-preserved invariant-loop decreases-loop
-loop-again c =
+loop_again : tie.Need-loop-preserved invariant-loop decreases-loop
+loop_again c =
     let turn = c.before.before in
     let given = (start turn).args in
     let l = turn.loop in (
@@ -31,8 +31,8 @@ loop-again c =
       rw l.invariant.2 (copied_more given.out.now given.s.now given.at l.i (search rules)),
     )
 
-all-copied : tie.Need-returns invariant-loop decreases-loop
-all-copied c =
+all_copied : tie.Need-returns invariant-loop decreases-loop
+all_copied c =
     let turn = c.before in
     let given = (start turn).args in
     turn.loop.invariant.2 ∙ ap (sets given.out.now given.at) (take_all turn.loop.i given.s.now (omega (arith, c.loop-test.false)))
@@ -49,6 +49,6 @@ copy_spec =
     (λ c. omega (arith, (start c.before.before).pre, c.before.loop-test.true, c.before.before.loop.invariant.1))
     (λ c. search rules)
     (λ c. search rules)
-    loop-again
+    loop_again
     (λ c. c.before.loop.invariant.1)
-    all-copied)
+    all_copied)

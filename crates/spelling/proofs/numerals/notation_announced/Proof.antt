@@ -9,7 +9,7 @@ use Rattle.paper.specs.Tokens.{spelled}
 use Rattle.spelling.specs.declared.numerals.Announced.{Announced}
 use Rattle.spelling.specs.declared.numerals.Announced.TheVariants.{Digits, Nothing}
 use Rattle.spelling.specs.Numerals.{Long}
-use Rattle.spelling.proofs.Numbers.{spelled-short, spelled-plain, spelled_by}
+use Rattle.spelling.proofs.Numbers.{spelled_short, spelled_plain, spelled_by}
 use Rattle.spelling.proofs.numerals.notation_announced.Statement.{statement}
 use Rattle.spelling.proofs.numerals.notation_announced.Tie as tie
 
@@ -18,10 +18,10 @@ long_of s (Digits notation) h = h
 long_of s Nothing h = tt
 
 returns : tie.Need-returns
-returns c = record { says = spelled-short c.before.before.args.run.now c.if1.true; long = tt }
+returns c = record { says = spelled_short c.before.before.args.run.now c.if1.true; long = tt }
 
 returns-2 : tie.Need-returns-2
-returns-2 c = record { says = spelled-plain c.before.before.before.before.args.run.now c.if2.true; long = tt }
+returns-2 c = record { says = spelled_plain c.before.before.before.before.args.run.now c.if2.true; long = tt }
 
 returns-3 : tie.Need-returns-3
 returns-3 c =
@@ -31,8 +31,8 @@ returns-3 c =
       long = long_of s c.notation-of.result (omega arith);
     }
 
-pub notation-announced-spec : {M : Type 1} → statement M
-notation-announced-spec =
+pub notation_announced_spec : {M : Type 1} → statement M
+notation_announced_spec =
     tie.close
     (tie.spec
     returns

@@ -17,8 +17,8 @@ returns-5 c =
     let r = c.match.rest in
     rw (neither x 100 68 r.0.0.0.1, neither x 98 66 r.0.0.1, neither x 111 79 r.0.1, neither x 120 88 r.1)
 
-pub notation-of-spec : {M : Type 1} → statement M
-notation-of-spec =
+pub notation_of_spec : {M : Type 1} → statement M
+notation_of_spec =
     tie.close
     (tie.spec
     (λ c. ⊎_elim (λ e. rw e) (λ e. rw e) c.match.keys1)

@@ -8,7 +8,7 @@ use lib.ListN.{length, drop, take, length-drop}
 use lib.Seq.{take_all}
 use Rattle.paper.specs.Tokens.{spelling, spelled, based, decimal}
 use Rattle.spelling.specs.declared.numerals.Announced.{Announced}
-use Rattle.spelling.specs.Numerals.{notationMeant, announced, Long, writtenIn, Spells}
+use Rattle.spelling.specs.Numerals.{notation_meant, announced, Long, written_in, Spells}
 use Rattle.spelling.proofs.numerals.read_numeral.Statement.{statement}
 use Rattle.spelling.proofs.numerals.read_numeral.Tie as tie
 
@@ -25,29 +25,29 @@ spelled_as c e = c.notation-announced.ensures.says ∙ ap (λ (r : Announced). s
 plain : tie.Need-returns
 plain c =
     let told : Told = c.before.before.before in
-    let e : spelling (run told) ≡ writtenIn (based decimal) (run told) = spelled_as told c.before.enum_told.given.1 in
+    let e : spelling (run told) ≡ written_in (based decimal) (run told) = spelled_as told c.before.enum_told.given.1 in
     subst (λ n. Spells n c.in-notation.result) (sym e) c.in-notation.ensures
 
 -- a notation is announced
 
-abbrev known-told : tie.After-known-told → Told
-known-told c = c.before.before.before
+abbrev known_told : tie.After-known-told → Told
+known_told c = c.before.before.before
 
-long : (c : tie.After-known-told) → 2 ≤ length (run (known-told c))
-long c = let told = known-told c in subst (Long (run told)) c.before.notation.given.1 told.notation-announced.ensures.long
+long : (c : tie.After-known-told) → 2 ≤ length (run (known_told c))
+long c = let told = known_told c in subst (Long (run told)) c.before.notation.given.1 told.notation-announced.ensures.long
 
-announced-there : tie.Need-returns-2
-announced-there c =
+announced_there : tie.Need-returns-2
+announced_there c =
     let known : tie.After-known-told = c.before.before in
-    let told = known-told known in
+    let told = known_told known in
     let s = run told in
-    let w = notationMeant known.before.notation.given.0.0 in
-    let e : spelling s ≡ writtenIn w (drop 2 s) = spelled_as told known.before.notation.given.1 in
+    let w = notation_meant known.before.notation.given.0.0 in
+    let e : spelling s ≡ written_in w (drop 2 s) = spelled_as told known.before.notation.given.1 in
     let p : take (length s - 2) (drop 2 s) ≡ drop 2 s = take_all (length s - 2) (drop 2 s) (omega (arith, length-drop 2 s)) in
-    subst (λ n. Spells n c.in-notation2.result) (ap (writtenIn w) p ∙ sym e) c.in-notation2.ensures
+    subst (λ n. Spells n c.in-notation2.result) (ap (written_in w) p ∙ sym e) c.in-notation2.ensures
 
-pub read-numeral-spec : {M : Type 1} → statement M
-read-numeral-spec =
+pub read_numeral_spec : {M : Type 1} → statement M
+read_numeral_spec =
     tie.close
     (tie.spec
     (λ c κs. search rules)
@@ -59,4 +59,4 @@ read-numeral-spec =
     long
     (λ c. search rules)
     (λ c κs. search rules)
-    announced-there)
+    announced_there)

@@ -20,8 +20,8 @@ returns-4 c = rw (c.before.enum-told3.given.1, ne_eqb _ _ c.if1.false, or-false)
 returns-5 : tie.Need-returns-5
 returns-5 c = rw (c.before.before.run.given.1, c.digit-of.ensures)
 
-pub goes-on-spec : {M : Type 1} → statement M
-goes-on-spec =
+pub goes_on_spec : {M : Type 1} → statement M
+goes_on_spec =
     tie.close
     (tie.spec
     (λ c. search rules)

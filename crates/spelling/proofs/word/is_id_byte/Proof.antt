@@ -2,8 +2,8 @@ use borrow.Author.Rules.{rules}
 use Rattle.spelling.proofs.word.is_id_byte.Statement.{statement}
 use Rattle.spelling.proofs.word.is_id_byte.Tie as tie
 
-pub is-id-byte-spec : {M : Type 1} → statement M
-is-id-byte-spec =
+pub is_id_byte_spec : {M : Type 1} → statement M
+is_id_byte_spec =
     tie.close
     (tie.spec
     (λ c κs. search rules)

@@ -3,8 +3,8 @@ use borrow.Author.Rules.{rules}
 use Rattle.spelling.proofs.word.is_id_start.Statement.{statement}
 use Rattle.spelling.proofs.word.is_id_start.Tie as tie
 
-pub is-id-start-spec : {M : Type 1} → statement M
-is-id-start-spec =
+pub is_id_start_spec : {M : Type 1} → statement M
+is_id_start_spec =
     tie.close
     (tie.spec
     (λ c κs. search rules)

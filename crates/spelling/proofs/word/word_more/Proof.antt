@@ -4,14 +4,14 @@ use mathlib.Core.Path.{◌≡◌, refl}
 use native.Mathlib.Omega.{arith}
 use lib.ListN.{length, drop}
 use borrow.Author.Rules.{rules}
-use Rattle.paper.specs.Tokens.{wordMore}
+use Rattle.paper.specs.Tokens.{word_more}
 use Rattle.spelling.proofs.Steps.{refuted, granted}
-use Rattle.spelling.proofs.Words.{word_on, word-stop, word_end}
+use Rattle.spelling.proofs.Words.{word_on, word_stop, word_end}
 use Rattle.spelling.proofs.word.word_more.Statement.{statement}
 use Rattle.spelling.proofs.word.word_more.Tie as tie
 
 abbrev invariant-loop : tie.invariant-loop
-invariant-loop s at i₀ i = (at ≤ i) × (i + wordMore (drop i s) ≡ at + wordMore (drop at s))
+invariant-loop s at i₀ i = (at ≤ i) × (i + word_more (drop i s) ≡ at + word_more (drop at s))
 
 abbrev decreases-loop : tie.decreases-loop
 decreases-loop s at i₀ i = length s - i
@@ -20,10 +20,10 @@ returns : tie.Need-returns invariant-loop decreases-loop
 returns c =
     let s = c.before.before.before.before.before.args.s.now in
     let l = c.before.before.before.loop in
-    omega (arith, word-stop s l.i (search rules) (refuted c.before.goes_on.ensures c.if1.true))
+    omega (arith, word_stop s l.i (search rules) (refuted c.before.goes_on.ensures c.if1.true))
 
-loop-again : tie.Need-loop-preserved invariant-loop decreases-loop
-loop-again c =
+loop_again : tie.Need-loop-preserved invariant-loop decreases-loop
+loop_again c =
     let s = c.before.before.before.before.before.args.s.now in
     let l = c.before.before.before.loop in (
       search rules,
@@ -39,8 +39,8 @@ returns-2 c =
     let l = c.before.loop in
     omega (arith, word_end c.before.before.before.args.s.now l.i c.loop-test.false)
 
-pub word-more-spec : {M : Type 1} → statement M
-word-more-spec =
+pub word_more_spec : {M : Type 1} → statement M
+word_more_spec =
     tie.close
     (tie.spec
     invariant-loop
@@ -51,6 +51,6 @@ word-more-spec =
     returns
     (λ c. search rules)
     (λ c. search rules)
-    loop-again
+    loop_again
     (λ c. search rules)
     returns-2)

@@ -12,8 +12,8 @@ judge-turns-requires c κs =
     let e = length-take-le c.before.before.whole-entries.result c.before.large-buffer.result (search rules) in
     omega (arith, e)
 
-pub judge-entries-spec : {M : Type 1} → statement M
-judge-entries-spec =
+pub judge_entries_spec : {M : Type 1} → statement M
+judge_entries_spec =
     tie.close
     (tie.spec
     (λ c κs. search rules)

@@ -10,8 +10,8 @@ invariant-loop explains text list entries size tally₀ at₀ tally at = (at ≤
 abbrev decreases-loop : tie.decreases-loop
 decreases-loop explains text list entries size tally₀ at₀ tally at = length entries - at
 
-pub judge-held-spec : {M : Type 1} → statement M
-judge-held-spec =
+pub judge_held_spec : {M : Type 1} → statement M
+judge_held_spec =
     tie.close
     (tie.spec
     invariant-loop

@@ -12,17 +12,17 @@ abbrev decreases-loop : tie.decreases-loop
 decreases-loop way rule list fd part₀ totals₀ turns₀ part totals turns = turns
 
 -- no more is held than was read into the part
-held-length : (c : tie.After-start invariant-loop decreases-loop) → length c.start.result.now ≤ 65536
-held-length c = rw (c.start.ensures, length-take) (omega arith)
+held_length : (c : tie.After-start invariant-loop decreases-loop) → length c.start.result.now ≤ 65536
+held_length c = rw (c.start.ensures, length-take) (omega arith)
 
-full-turn : tie.Need-loop-preserved invariant-loop decreases-loop
-full-turn c = (search rules, omega (arith, held-length c.before.before))
+full_turn : tie.Need-loop-preserved invariant-loop decreases-loop
+full_turn c = (search rules, omega (arith, held_length c.before.before))
 
 last_turn : tie.Need-loop-preserved-2 invariant-loop decreases-loop
-last_turn c = (search rules, omega (arith, held-length c.before.before))
+last_turn c = (search rules, omega (arith, held_length c.before.before))
 
-pub judge-turns-spec : {M : Type 1} → statement M
-judge-turns-spec =
+pub judge_turns_spec : {M : Type 1} → statement M
+judge_turns_spec =
     tie.close
     (tie.spec
     invariant-loop
@@ -31,10 +31,10 @@ judge-turns-spec =
     (λ c. search rules)
     (λ c κs. search rules)
     (λ c κs. search rules)
-    (λ c κs. omega (arith, held-length c))
+    (λ c κs. omega (arith, held_length c))
     (λ c. search rules)
     (λ c. search rules)
-    full-turn
+    full_turn
     (λ c. search rules)
     last_turn
     (λ c. search rules)

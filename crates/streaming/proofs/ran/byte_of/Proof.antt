@@ -7,5 +7,5 @@ use Rattle.streaming.proofs.ran.byte_of.Tie as tie
 no_byte : tie.Need-returns-2
 no_byte c = sym (get_or-eq_default c.before.args.answers.now 0 c.if1.false)
 
-pub byte-of-spec : {M : Type 1} → statement M
-byte-of-spec = tie.close (tie.spec (λ c. search rules) (λ c. search rules) no_byte)
+pub byte_of_spec : {M : Type 1} → statement M
+byte_of_spec = tie.close (tie.spec (λ c. search rules) (λ c. search rules) no_byte)

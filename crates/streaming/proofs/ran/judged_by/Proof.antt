@@ -6,7 +6,7 @@ use Rattle.streaming.proofs.ran.judged_by.Tie as tie
 refused : tie.Need-returns-3
 refused c = rw c.before.running.given.1
 
-pub judged-by-spec : {M : Type 1} → statement M
-judged-by-spec =
+pub judged_by_spec : {M : Type 1} → statement M
+judged_by_spec =
     tie.close
     (tie.spec (λ c. search rules) (λ c. search rules) (λ c. search rules) (λ c. search rules) (λ c. search rules) refused)

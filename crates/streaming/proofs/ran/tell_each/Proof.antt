@@ -10,8 +10,8 @@ invariant-loop list blocks entries answers size tally₀ at₀ k₀ t12 tally at
 abbrev decreases-loop : tie.decreases-loop
 decreases-loop list blocks entries answers size tally₀ at₀ k₀ t12 tally at k = length entries - at
 
-pub tell-each-spec : {M : Type 1} → statement M
-tell-each-spec =
+pub tell_each_spec : {M : Type 1} → statement M
+tell_each_spec =
     tie.close
     (tie.spec
     invariant-loop

@@ -3,26 +3,26 @@ use Rattle.std.proofs.Common.{sym, arith, length-take-le, rules}
 use Rattle.streaming.proofs.rechecks.recheck_entries.Statement.{statement}
 use Rattle.streaming.proofs.rechecks.recheck_entries.Tie as tie
 
-old-part : tie.Need-slice-aggregate-recheck-turns
-old-part c =
+old_part : tie.Need-slice-aggregate-recheck-turns
+old_part c =
     let made = c.before.before in
     sym (length-take-le made.before.whole-entries.result made.large-buffer.result (search rules))
 
-new-part : tie.Need-slice-aggregate-recheck-turns-2
-new-part c =
+new_part : tie.Need-slice-aggregate-recheck-turns-2
+new_part c =
     let made = c.before.before in
     sym (length-take-le made.before.before.whole-entries.result made.large-buffer2.result (search rules))
 
-both-parts : tie.Need-recheck-turns-requires
-both-parts c κs =
+both_parts : tie.Need-recheck-turns-requires
+both_parts c κs =
     let made = c.before.before in
     let want = made.before.before.whole-entries.result in
     let old = length-take-le want made.before.large-buffer.result (search rules) in
     let new = length-take-le want made.large-buffer2.result (search rules) in
     (omega (arith, old, new), omega (arith, new))
 
-pub recheck-entries-spec : {M : Type 1} → statement M
-recheck-entries-spec =
+pub recheck_entries_spec : {M : Type 1} → statement M
+recheck_entries_spec =
     tie.close
     (tie.spec
     (λ c κs. search rules)
@@ -36,9 +36,9 @@ recheck-entries-spec =
     (λ c κs. search rules)
     (λ c κs. search rules)
     (λ c. search rules)
-    old-part
+    old_part
     (λ c. search rules)
-    new-part
-    both-parts
+    new_part
+    both_parts
     (λ c κs. search rules)
     (λ c. search rules))

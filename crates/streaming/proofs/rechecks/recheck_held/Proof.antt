@@ -11,8 +11,8 @@ invariant-loop text list old new got size tally₀ reused₀ at₀ tally reused 
 abbrev decreases-loop : tie.decreases-loop
 decreases-loop text list old new got size tally₀ reused₀ at₀ tally reused at = got - at
 
-pub recheck-held-spec : {M : Type 1} → statement M
-recheck-held-spec =
+pub recheck_held_spec : {M : Type 1} → statement M
+recheck_held_spec =
     tie.close
     (tie.spec
     invariant-loop

@@ -14,8 +14,8 @@ invariant-loop text list files old₀ new₀ counts₀ a₀ b₀ turns₀ old ne
 abbrev decreases-loop : tie.decreases-loop
 decreases-loop text list files old₀ new₀ counts₀ a₀ b₀ turns₀ old new counts a b turns = turns
 
-pub recheck-turns-spec : {M : Type 1} → statement M
-recheck-turns-spec =
+pub recheck_turns_spec : {M : Type 1} → statement M
+recheck_turns_spec =
     tie.close
     (tie.spec
     invariant-loop

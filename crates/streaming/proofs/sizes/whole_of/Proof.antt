@@ -13,5 +13,5 @@ whole_length c =
     let entries = a.entries.now in
     sym (length-take-le (length entries - length entries % a.size) entries (omega arith))
 
-pub whole-of-spec : {M : Type 1} → statement M
-whole-of-spec = tie.close (tie.spec (λ c. search rules) left_over whole_length (λ c. search rules))
+pub whole_of_spec : {M : Type 1} → statement M
+whole_of_spec = tie.close (tie.spec (λ c. search rules) left_over whole_length (λ c. search rules))

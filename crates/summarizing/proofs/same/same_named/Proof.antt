@@ -7,9 +7,9 @@ use lib.Dec.{eqb}
 use lib.ListN.{length}
 use borrow.Author.Rules.{rules}
 use borrow.Author.Tests.{not-true, not-false}
-use Rattle.paper.specs.Rechecking.{sameFrom, samePriority}
-use Rattle.keys.specs.Says.{keysIn}
-use Rattle.operands.proofs.Conforming.{entry-size}
+use Rattle.paper.specs.Rechecking.{same_from, same_priority}
+use Rattle.keys.specs.Says.{keys_in}
+use Rattle.operands.proofs.Conforming.{entry_size}
 use Rattle.summarizing.specs.Sums.{Sums}
 use Rattle.summarizing.proofs.same.same_named.Statement.{statement}
 use Rattle.summarizing.proofs.same.same_named.Tie as tie
@@ -23,34 +23,34 @@ start c = c.before.before.before.before
 
 -- whether the priority is the same, if marked
 abbrev rank : Asked → Bool → Bool
-rank c m = samePriority m (start c).args.old.now (start c).args.new.now
+rank c m = same_priority m (start c).args.old.now (start c).args.new.now
 
-one-differs : tie.Need-returns
-one-differs c p m sums =
+one_differs : tie.Need-returns
+one_differs c p m sums =
     let asked : Asked = c.before in
-    sym (ap (λ (b : Bool). b && rank asked m) (sym (asked.same-records.ensures p sums.keys) ∙ not-true _ c.if1.true))
+    sym (ap (λ (b : Bool). b && rank asked m) (sym (asked.same_records.ensures p sums.keys) ∙ not-true _ c.if1.true))
 
 -- where none differs, the priority decides
-by-priority : (c : tie.Else1) (p : ℕ → Bool) (m : Bool) → Sums p m (start c.before).args.summary → {b : Bool} → b ≡ rank c.before m
-    → b ≡ (sameFrom p (start c.before).args.old.now (start c.before).args.new.now 0 (length (keysIn (start c.before).args.list.now)) && rank c.before m)
-by-priority c p m sums e =
+by_priority : (c : tie.Else1) (p : ℕ → Bool) (m : Bool) → Sums p m (start c.before).args.summary → {b : Bool} → b ≡ rank c.before m
+    → b ≡ (same_from p (start c.before).args.old.now (start c.before).args.new.now 0 (length (keys_in (start c.before).args.list.now)) && rank c.before m)
+by_priority c p m sums e =
     let asked : Asked = c.before in
-    e ∙ sym (ap (λ (b : Bool). b && rank asked m) (sym (asked.same-records.ensures p sums.keys) ∙ not-false _ c.if1.false))
+    e ∙ sym (ap (λ (b : Bool). b && rank asked m) (sym (asked.same_records.ensures p sums.keys) ∙ not-false _ c.if1.false))
 
-not-marked : tie.Need-returns-2
-not-marked c p m sums =
+not_marked : tie.Need-returns-2
+not_marked c p m sums =
     let same : tie.Else1 = c.before.before in
-    by-priority same p m sums (sym (ap (rank same.before) (sym sums.priority ∙ not-true _ c.if2.true)))
+    by_priority same p m sums (sym (ap (rank same.before) (sym sums.priority ∙ not-true _ c.if2.true)))
 
-old-read : tie.Need-read-requires
-old-read c κs =
+old_read : tie.Need-read-requires
+old_read c κs =
     let s = start c.before.before.before in
-    omega (arith, entry-size s.args.list.now s.args.old.now s.pre.0)
+    omega (arith, entry_size s.args.list.now s.args.old.now s.pre.0)
 
-new-read : tie.Need-read-requires-2
-new-read c κs =
+new_read : tie.Need-read-requires-2
+new_read c κs =
     let s = start c.before.before.before.before in
-    omega (arith, entry-size s.args.list.now s.args.new.now s.pre.1)
+    omega (arith, entry_size s.args.list.now s.args.new.now s.pre.1)
 
 marked : tie.Need-returns-3
 marked c p m sums =
@@ -58,8 +58,8 @@ marked c p m sums =
     let at_old = at_new.before in
     let other = at_old.before in
     let same : tie.Else1 = other.before.before in
-    by-priority same p m sums
+    by_priority same p m sums
     (ap₂ eqb at_old.read.ensures at_new.read2.ensures ∙ sym (ap (rank same.before) (sym sums.priority ∙ not-false _ other.if2.false)))
 
-pub same-named-spec : {M : Type 1} → statement M
-same-named-spec = tie.close (tie.spec (λ c κs. search rules) one-differs not-marked old-read new-read marked)
+pub same_named_spec : {M : Type 1} → statement M
+same_named_spec = tie.close (tie.spec (λ c κs. search rules) one_differs not_marked old_read new_read marked)

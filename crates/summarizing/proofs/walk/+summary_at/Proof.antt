@@ -1,6 +1,6 @@
 -- `summarizing::summary_at` meets its contract, by recursion on the node number: an operator's operands stand below it (`below`). The node
 -- that was read says which tree is at it, and what that names is what its operands name (proofs/Walked). A text is one over which the
--- tree has a type, and so have its operands (`operand_known`, `left-known`, `right-known`).
+-- tree has a type, and so have its operands (`operand_known`, `left_known`, `right_known`).
 use Prim.Native.Nat.{ℕ, ◌+◌, ◌-◌, ◌<◌}
 use native.Mathlib.Omega.{arith}
 use mathlib.Core.Path.{◌≡◌, sym, ◌∙◌}
@@ -11,10 +11,10 @@ use borrow.Fn.PlainCycle.{Measures, is, falls, and}
 use Rattle.trees.specs.declared.node.Node.{Node}
 use Rattle.trees.specs.declared.node.Node.TheVariants.{Without, Before, Between}
 use Rattle.trees.specs.declared.node.Operator.{Operator}
-use Rattle.trees.specs.Nodes.{nodeAt}
+use Rattle.trees.specs.Nodes.{node_at}
 use Rattle.trees.proofs.Walks.{below}
-use Rattle.typing.proofs.Knowing.{operand_known, left-known, right-known}
-use Rattle.summarizing.proofs.Walked.{leaf-summed, prefix-summed, operator-summed}
+use Rattle.typing.proofs.Knowing.{operand_known, left_known, right_known}
+use Rattle.summarizing.proofs.Walked.{leaf_summed, prefix_summed, operator_summed}
 use Rattle.summarizing.proofs.walk.summary_at.Reads as summary-at
 use Rattle.summarizing.proofs.walk.summary_at.Kinds as kinds
 use Rattle.summarizing.proofs.walk.+summary_at.Lts-summary_at as lts
@@ -25,15 +25,15 @@ use Rattle.summarizing.proofs.walk.+summary_at.{statement}
 use Rattle.summarizing.proofs.walk.+summary_at.Tie.{close}
 
 -- the measure: the node number, which is the second argument
-abbrev node-number : Measures 1 kinds.ps ℕ
-node-number κs a = a.1.0
+abbrev node_number : Measures 1 kinds.ps ℕ
+node_number κs a = a.1.0
 
 -- what is asked of a call where the measure is t, and of a call from there
 abbrev asked : ℕ → In 1 kinds.ps
-asked t = and 1 kinds.ps (is 1 kinds.ps node-number t) summary-at.Pre
+asked t = and 1 kinds.ps (is 1 kinds.ps node_number t) summary-at.Pre
 
-abbrev asked-below : ℕ → In 1 kinds.ps
-asked-below t = and 1 kinds.ps (falls 1 kinds.ps ◌<◌ node-number t) summary-at.Pre
+abbrev asked_below : ℕ → In 1 kinds.ps
+asked_below t = and 1 kinds.ps (falls 1 kinds.ps ◌<◌ node_number t) summary-at.Pre
 
 -- the contracts of the functions that are called
 abbrev calls : ℕ → lts.Claims
@@ -42,7 +42,7 @@ calls t = (
   read.Learnt,
   leaf-summary.Asked,
   leaf-summary.Learnt,
-  asked-below t,
+  asked_below t,
   summary-at.Post,
   with.Asked,
   with.Learnt,
@@ -62,108 +62,108 @@ module _ (t : ℕ) where
   abbrev at : Read → ℕ
   at c = (start c).args.at
 
-  is-node : (c : Read) {n : Node} → c.read.result ≡ n → n ≡ nodeAt (nodes c) (at c)
-  is-node c e = sym e ∙ c.read.ensures
+  is_node : (c : Read) {n : Node} → c.read.result ≡ n → n ≡ node_at (nodes c) (at c)
+  is_node c e = sym e ∙ c.read.ensures
 
   -- a leaf
 
-  leaf-returns : lts.Need-returns (calls t) (asked t) summary-at.Post
-  leaf-returns c list text known =
+  leaf_returns : lts.Need-returns (calls t) (asked t) summary-at.Post
+  leaf_returns c list text known =
       let told = c.before in
       let r = told.before.before in
-      leaf-summed list (nodes r) (at r) text (is-node r told.enum_told.given.1) known c.leaf-summary.result c.leaf-summary.ensures
+      leaf_summed list (nodes r) (at r) text (is_node r told.enum_told.given.1) known c.leaf-summary.result c.leaf-summary.ensures
 
   -- an operator before its operand
 
   abbrev Prefixed : Type 0
   Prefixed = lts.After-enum-told2 (calls t) (asked t) summary-at.Post
 
-  abbrev prefixed-read : Prefixed → Read
-  prefixed-read c = c.before.before
+  abbrev prefixed_read : Prefixed → Read
+  prefixed_read c = c.before.before
 
-  prefixed-is : (c : Prefixed) → Before c.enum-told2.given.0.0 ≡ nodeAt (nodes (prefixed-read c)) (at (prefixed-read c))
-  prefixed-is c = is-node (prefixed-read c) c.enum-told2.given.1
+  prefixed_is : (c : Prefixed) → Before c.enum-told2.given.0.0 ≡ node_at (nodes (prefixed_read c)) (at (prefixed_read c))
+  prefixed_is c = is_node (prefixed_read c) c.enum-told2.given.1
 
-  prefixed-below : (c : Prefixed) → 0 < at (prefixed-read c)
-  prefixed-below c = let r = prefixed-read c in below (nodes r) (at r) _ (prefixed-is c)
+  prefixed_below : (c : Prefixed) → 0 < at (prefixed_read c)
+  prefixed_below c = let r = prefixed_read c in below (nodes r) (at r) _ (prefixed_is c)
 
-  operand-is : lts.Need-overflow-sub-summary-at (calls t) (asked t) summary-at.Post
-  operand-is c = let l = prefixed-below c in omega arith
+  operand_is : lts.Need-overflow-sub-summary-at (calls t) (asked t) summary-at.Post
+  operand_is c = let l = prefixed_below c in omega arith
 
-  operand-falls : lts.Need-summary-at-requires (calls t) (asked t) summary-at.Post
-  operand-falls c κs =
-      let l = prefixed-below c in
-      let given = (start (prefixed-read c)).pre in
+  operand_falls : lts.Need-summary-at-requires (calls t) (asked t) summary-at.Post
+  operand_falls c κs =
+      let l = prefixed_below c in
+      let given = (start (prefixed_read c)).pre in
       (omega (arith, given.0), omega (arith, given.1))
 
-  prefixed-returns : lts.Need-returns-2 (calls t) (asked t) summary-at.Post
-  prefixed-returns c list text known =
+  prefixed_returns : lts.Need-returns-2 (calls t) (asked t) summary-at.Post
+  prefixed_returns c list text known =
       let node : Prefixed = c.before in
-      let r = prefixed-read node in
-      prefix-summed list (nodes r) (at r) text _ (prefixed-is node) c.summary-at.result
-      (c.summary-at.ensures list text (operand_known list (nodes r) (at r) text _ (prefixed-is node) known))
+      let r = prefixed_read node in
+      prefix_summed list (nodes r) (at r) text _ (prefixed_is node) c.summary-at.result
+      (c.summary-at.ensures list text (operand_known list (nodes r) (at r) text _ (prefixed_is node) known))
 
   -- an operator between its operands
 
   abbrev Operated : Type 0
   Operated = lts.After-known-told (calls t) (asked t) summary-at.Post
 
-  abbrev operated-read : Operated → Read
-  operated-read c = c.before.before.before
+  abbrev operated_read : Operated → Read
+  operated_read c = c.before.before.before
 
-  abbrev operator-is : Operated → Operator
-  operator-is c = c.before.n.given.0.0
+  abbrev operator_is : Operated → Operator
+  operator_is c = c.before.n.given.0.0
 
   abbrev left_at : Operated → ℕ
   left_at c = c.before.n.given.0.1.0
 
-  operated-is : (c : Operated) → Between (operator-is c) (left_at c) ≡ nodeAt (nodes (operated-read c)) (at (operated-read c))
-  operated-is c = is-node (operated-read c) c.before.n.given.1
+  operated_is : (c : Operated) → Between (operator_is c) (left_at c) ≡ node_at (nodes (operated_read c)) (at (operated_read c))
+  operated_is c = is_node (operated_read c) c.before.n.given.1
 
-  operated-below : (c : Operated) → left_at c < at (operated-read c)
-  operated-below c = let r = operated-read c in below (nodes r) (at r) _ (operated-is c)
+  operated_below : (c : Operated) → left_at c < at (operated_read c)
+  operated_below c = let r = operated_read c in below (nodes r) (at r) _ (operated_is c)
 
-  left-falls : lts.Need-summary-at-requires-2 (calls t) (asked t) summary-at.Post
-  left-falls c κs =
-      let l = operated-below c in
-      let given = (start (operated-read c)).pre in
+  left_falls : lts.Need-summary-at-requires-2 (calls t) (asked t) summary-at.Post
+  left_falls c κs =
+      let l = operated_below c in
+      let given = (start (operated_read c)).pre in
       (omega (arith, given.0), omega (arith, given.1))
 
   right_is : lts.Need-overflow-sub-summary-at-2 (calls t) (asked t) summary-at.Post
-  right_is c = let l = operated-below c.before in omega arith
+  right_is c = let l = operated_below c.before in omega arith
 
-  right-falls : lts.Need-summary-at-requires-3 (calls t) (asked t) summary-at.Post
-  right-falls c κs =
+  right_falls : lts.Need-summary-at-requires-3 (calls t) (asked t) summary-at.Post
+  right_falls c κs =
       let node = c.before in
-      let l = operated-below node in
-      let given = (start (operated-read node)).pre in
+      let l = operated_below node in
+      let given = (start (operated_read node)).pre in
       (omega (arith, given.0), omega (arith, given.1))
 
-  operated-returns : lts.Need-returns-3 (calls t) (asked t) summary-at.Post
-  operated-returns c list text known =
+  operated_returns : lts.Need-returns-3 (calls t) (asked t) summary-at.Post
+  operated_returns c list text known =
       let right = c.before in
       let left = right.before in
       let node : Operated = left.before in
-      let r = operated-read node in
-      operator-summed list (nodes r) (at r) text (operator-is node) (left_at node) (operated-is node) c.with.result
+      let r = operated_read node in
+      operator_summed list (nodes r) (at r) text (operator_is node) (left_at node) (operated_is node) c.with.result
       (c.with.ensures _ _ _ _
-      (left.summary-at2.ensures list text (left-known list (nodes r) (at r) text (operator-is node) (left_at node) (operated-is node) known))
-      (right.summary-at3.ensures list text (right-known list (nodes r) (at r) text (operator-is node) (left_at node) (operated-is node) known)))
+      (left.summary-at2.ensures list text (left_known list (nodes r) (at r) text (operator_is node) (left_at node) (operated_is node) known))
+      (right.summary-at3.ensures list text (right_known list (nodes r) (at r) text (operator_is node) (left_at node) (operated_is node) known)))
 
 pub +summary-at-spec : {M : Type 1} → statement M
 +summary-at-spec =
-    close node-number λ t. lts.spec (calls t) (asked t) summary-at.Post
+    close node_number λ t. lts.spec (calls t) (asked t) summary-at.Post
     (λ c κs. search rules)
     (λ c. search rules)
     (λ c κs. search rules)
     (λ c. search rules)
-    (operand-is t)
-    (operand-falls t)
+    (operand_is t)
+    (operand_falls t)
     (λ c. search rules)
-    (left-falls t)
+    (left_falls t)
     (right_is t)
-    (right-falls t)
+    (right_falls t)
     (λ c κs. search rules)
-    (leaf-returns t)
-    (prefixed-returns t)
-    (operated-returns t)
+    (leaf_returns t)
+    (prefixed_returns t)
+    (operated_returns t)

@@ -4,7 +4,7 @@ use borrow.Author.Rules.{rules}
 use Rattle.trees.specs.declared.marks.Operand.{Operand}
 use Rattle.trees.specs.Marks.{operand_at}
 use Rattle.summarizing.specs.declared.set.Summary.{Summary}
-use Rattle.summarizing.specs.Sums.{Sums, operandNames, operandMarked}
+use Rattle.summarizing.specs.Sums.{Sums, operand_names, operand_marked}
 use Rattle.summarizing.proofs.walk.leaf_summary.Statement.{statement}
 use Rattle.summarizing.proofs.walk.leaf_summary.Tie as tie
 
@@ -13,13 +13,13 @@ abbrev start : tie.After-read → tie.Start
 start c = c.before.before
 
 abbrev Right : Operand → Summary → Type 0
-Right o s = Sums (operandNames o) (operandMarked o) s
+Right o s = Sums (operand_names o) (operand_marked o) s
 
 as_read : (c : tie.After-read) {o : Operand} → c.read.result ≡ o → (s : Summary) → Right o s → Right (operand_at (start c).args.nodes.now (start c).args.i) s
 as_read c e s h = subst (λ (o : Operand). Right o s) (sym e ∙ c.read.ensures) h
 
-pub leaf-summary-spec : {M : Type 1} → statement M
-leaf-summary-spec =
+pub leaf_summary_spec : {M : Type 1} → statement M
+leaf_summary_spec =
     tie.close
     (tie.spec
     (λ c κs. search rules)
@@ -39,7 +39,7 @@ leaf-summary-spec =
     (λ c κs. search rules)
     (λ c. as_read c.before.before.before c.before.enum_told.given.1 c.nothing.result c.nothing.ensures)
     (λ c. as_read c.before.before.before c.before.enum-told2.given.1 c.nothing2.result c.nothing2.ensures)
-    (λ c. as_read c.before.before.before.before c.before.before.operand.given.1 c.of-key.result c.of-key.ensures)
+    (λ c. as_read c.before.before.before.before c.before.before.operand.given.1 c.of_key.result c.of_key.ensures)
     (λ c. as_read c.before.before.before.before c.before.before.operand2.given.1 c.of-key2.result c.of-key2.ensures)
     (λ c. as_read c.before.before.before c.before.enum-told3.given.1 c.of-priority.result c.of-priority.ensures)
     (λ c. as_read c.before.before.before c.before.enum-told4.given.1 c.nothing3.result c.nothing3.ensures)

@@ -8,10 +8,10 @@ use mathlib.Core.List.{List}
 use lib.ListN.{length}
 use borrow.Author.Rules.{rules}
 use Rattle.number.specs.Values.{value}
-use Rattle.number.specs.Bases.{literalMeant}
+use Rattle.number.specs.Bases.{literal_meant}
 use Rattle.tokens.specs.declared.fixing.Step.{Step}
 use Rattle.tokens.specs.declared.fixing.Step.TheVariants as S
-use Rattle.tokens.proofs.Rewriting.{Right, step_right, Passing, passing-start, room-there, passing-on, passing-refused, all-stands, all-counted}
+use Rattle.tokens.proofs.Rewriting.{Right, step_right, Passing, passing_start, room_there, passing_on, passing_refused, all_stands, all_counted}
 use Rattle.tokens.proofs.fixing.fix.Statement.{statement}
 use Rattle.tokens.proofs.fixing.fix.Tie as tie
 
@@ -43,117 +43,117 @@ large l = omega (arith, (start l).pre, l.loop.inv.0)
 abbrev Known : Type 0
 Known = tie.After-by-old-rules invariant-loop decreases-loop
 
-abbrev at-loop : Known → Loop
-at-loop c = c.before.before.before
+abbrev at_loop : Known → Loop
+at_loop c = c.before.before.before
 
 abbrev number : Known → ℕ
 number c = value c.before.scan.result.literal.number
 
 right : (c : Known) (step : Step) → c.by-old-rules.result ≡ step
-    → (let l = at-loop c in Right (text l) l.loop.n l.loop.at (number c) step)
+    → (let l = at_loop c in Right (text l) l.loop.n l.loop.at (number c) step)
 right c step e =
-    let l = at-loop c in
+    let l = at_loop c in
     let scanned = c.before.scan in
     subst (Right (text l) l.loop.n l.loop.at (number c)) (sym c.by-old-rules.ensures ∙ e)
-    (step_right (text l) l.loop.n l.loop.at (going l).few c.before.before.loop-test.true (literalMeant scanned.result.literal) scanned.result.found scanned.ensures)
+    (step_right (text l) l.loop.n l.loop.at (going l).few c.before.before.loop-test.true (literal_meant scanned.result.literal) scanned.result.found scanned.ensures)
 
 -- a piece that is copied
 
 abbrev Copied : Type 0
 Copied = tie.After-known-told invariant-loop decreases-loop
 
-abbrev copied-known : Copied → Known
-copied-known c = c.before.before.before
+abbrev copied_known : Copied → Known
+copied_known c = c.before.before.before
 
-abbrev copied-loop : Copied → Loop
-copied-loop c = at-loop (copied-known c)
+abbrev copied_loop : Copied → Loop
+copied_loop c = at_loop (copied_known c)
 
-copied-right : (c : Copied)
-    → (let l = copied-loop c in let step = c.before.next.given.0 in Right (text l) l.loop.n l.loop.at (number (copied-known c)) (S.Copied step.0 step.1.0))
-copied-right c = right (copied-known c) _ c.before.next.given.1
+copied_right : (c : Copied)
+    → (let l = copied_loop c in let step = c.before.next.given.0 in Right (text l) l.loop.n l.loop.at (number (copied_known c)) (S.Copied step.0 step.1.0))
+copied_right c = right (copied_known c) _ c.before.next.given.1
 
-copied-room : tie.Need-put-requires invariant-loop decreases-loop
-copied-room c κs = let piece : Copied = c.before.before in let l = copied-loop piece in room-there (going l) (large l) (copied-right piece)
+copied_room : tie.Need-put-requires invariant-loop decreases-loop
+copied_room c κs = let piece : Copied = c.before.before in let l = copied_loop piece in room_there (going l) (large l) (copied_right piece)
 
 -- where it has been written
-abbrev copied-put : tie.After-slice-known2 invariant-loop decreases-loop → tie.After-put invariant-loop decreases-loop
-copied-put c = c.before.before
+abbrev copied_put : tie.After-slice-known2 invariant-loop decreases-loop → tie.After-put invariant-loop decreases-loop
+copied_put c = c.before.before
 
 copied_on : tie.Need-loop-preserved invariant-loop decreases-loop
 copied_on c =
-    let put = copied-put c in
+    let put = copied_put c in
     let piece : Copied = put.before.before.before in
-    let l = copied-loop piece in
-    (omega (arith, put.put.kept, l.loop.inv.0), passing-on (going l) (large l) (copied-right piece) put.put.ensures)
+    let l = copied_loop piece in
+    (omega (arith, put.put.kept, l.loop.inv.0), passing_on (going l) (large l) (copied_right piece) put.put.ensures)
 
-copied-taken : tie.Need-loop-smaller invariant-loop decreases-loop
-copied-taken c = let on = copied-right (copied-put c).before.before.before in omega (arith, on.forward, on.inside)
+copied_taken : tie.Need-loop-smaller invariant-loop decreases-loop
+copied_taken c = let on = copied_right (copied_put c).before.before.before in omega (arith, on.forward, on.inside)
 
 -- an octal numeral
 
 abbrev InHex : Type 0
 InHex = tie.After-known-told2 invariant-loop decreases-loop
 
-abbrev hex-known : InHex → Known
-hex-known c = c.before.before.before
+abbrev hex_known : InHex → Known
+hex_known c = c.before.before.before
 
-abbrev hex-loop : InHex → Loop
-hex-loop c = at-loop (hex-known c)
+abbrev hex_loop : InHex → Loop
+hex_loop c = at_loop (hex_known c)
 
-hex-right : (c : InHex)
-    → (let l = hex-loop c in let step = c.before.next2.given.0 in Right (text l) l.loop.n l.loop.at (number (hex-known c)) (S.InHex step.0 step.1.0))
-hex-right c = right (hex-known c) _ c.before.next2.given.1
+hex_right : (c : InHex)
+    → (let l = hex_loop c in let step = c.before.next2.given.0 in Right (text l) l.loop.n l.loop.at (number (hex_known c)) (S.InHex step.0 step.1.0))
+hex_right c = right (hex_known c) _ c.before.next2.given.1
 
-hex-room : tie.Need-put-hex-requires invariant-loop decreases-loop
-hex-room c κs = let piece : InHex = c.before.before.before in let l = hex-loop piece in room-there (going l) (large l) (hex-right piece)
+hex_room : tie.Need-put-hex-requires invariant-loop decreases-loop
+hex_room c κs = let piece : InHex = c.before.before.before in let l = hex_loop piece in room_there (going l) (large l) (hex_right piece)
 
-abbrev hex-put : tie.After-slice-known3 invariant-loop decreases-loop → tie.After-put-hex invariant-loop decreases-loop
-hex-put c = c.before.before
+abbrev hex_put : tie.After-slice-known3 invariant-loop decreases-loop → tie.After-put-hex invariant-loop decreases-loop
+hex_put c = c.before.before
 
-hex-on : tie.Need-loop-preserved-2 invariant-loop decreases-loop
-hex-on c =
-    let put = hex-put c in
+hex_on : tie.Need-loop-preserved-2 invariant-loop decreases-loop
+hex_on c =
+    let put = hex_put c in
     let piece : InHex = put.before.before.before.before in
-    let l = hex-loop piece in
-    (omega (arith, put.put-hex.kept, l.loop.inv.0), passing-on (going l) (large l) (hex-right piece) put.put-hex.ensures)
+    let l = hex_loop piece in
+    (omega (arith, put.put-hex.kept, l.loop.inv.0), passing_on (going l) (large l) (hex_right piece) put.put-hex.ensures)
 
-hex-taken : tie.Need-loop-smaller-2 invariant-loop decreases-loop
-hex-taken c = let on = hex-right (hex-put c).before.before.before.before in omega (arith, on.forward, on.inside)
+hex_taken : tie.Need-loop-smaller-2 invariant-loop decreases-loop
+hex_taken c = let on = hex_right (hex_put c).before.before.before.before in omega (arith, on.forward, on.inside)
 
 -- a refusal, and the end
 
 refusal : tie.Need-returns invariant-loop decreases-loop
 refusal c =
     let known : Known = c.before.before.before in
-    let l = at-loop known in
-    record { says = passing-refused (going l) (large l) (right known _ c.before.next3.given.1); holds = tt }
+    let l = at_loop known in
+    record { says = passing_refused (going l) (large l) (right known _ c.before.next3.given.1); holds = tt }
 
 all : tie.Need-returns-2 invariant-loop decreases-loop
 all c =
     let l : Loop = c.before in
     let end = c.loop-test.false in
-    record { says = all-counted (going l) (large l) end; holds = all-stands (going l) (large l) end }
+    record { says = all_counted (going l) (large l) end; holds = all_stands (going l) (large l) end }
 
-pub fix-spec : {M : Type 1} → statement M
-fix-spec =
+pub fix_spec : {M : Type 1} → statement M
+fix_spec =
     tie.close
     (tie.spec
     invariant-loop
     decreases-loop
-    (λ c. (refl, passing-start _ _))
+    (λ c. (refl, passing_start _ _))
     (λ c κs. search rules)
     (λ c κs. (going c.before.before).few)
     (λ c. search rules)
-    (λ c. let on = copied-right c in omega (arith, on.forward))
-    (λ c. let on = copied-right c in omega (arith, on.forward))
-    (λ c. let on = copied-right c in omega (arith, on.inside))
-    copied-room
-    copied-taken
+    (λ c. let on = copied_right c in omega (arith, on.forward))
+    (λ c. let on = copied_right c in omega (arith, on.forward))
+    (λ c. let on = copied_right c in omega (arith, on.inside))
+    copied_room
+    copied_taken
     copied_on
     (λ c. search rules)
-    hex-room
-    hex-taken
-    hex-on
+    hex_room
+    hex_taken
+    hex_on
     (λ c. search rules)
     (λ c. search rules)
     refusal

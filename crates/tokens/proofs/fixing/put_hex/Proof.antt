@@ -4,7 +4,7 @@ use mathlib.Core.Path.{ap}
 use lib.ListN.{length, length-append}
 use borrow.Author.Rules.{rules}
 use Rattle.paper.specs.Tokens.{bytes}
-use Rattle.paper.specs.Print.{numeralIn}
+use Rattle.paper.specs.Print.{numeral_in}
 use Rattle.number.specs.Values.{value}
 use Rattle.tokens.proofs.Rewriting.{put_as, put_on}
 use Rattle.tokens.proofs.fixing.put_hex.Statement.{statement}
@@ -26,7 +26,7 @@ room c κs =
     let prefix = announced (made c) in
     let s = start prefix in (
       omega (arith, digits.inside, digits.size),
-      omega (arith, ap length digits.bytes, length-append (bytes "0x") (numeralIn 16 (value s.args.number)), s.pre, prefix.put.ensures.ends, prefix.put.kept),
+      omega (arith, ap length digits.bytes, length-append (bytes "0x") (numeral_in 16 (value s.args.number)), s.pre, prefix.put.ensures.ends, prefix.put.kept),
     )
 
 written : tie.Need-returns
@@ -35,8 +35,8 @@ written c =
     let digits = made rest.before in
     put_on (announced digits).put.ensures (put_as digits.digits_in.ensures.bytes rest.put_rest.ensures)
 
-pub put-hex-spec : {M : Type 1} → statement M
-put-hex-spec =
+pub put_hex_spec : {M : Type 1} → statement M
+put_hex_spec =
     tie.close
     (tie.spec
     (λ c. search rules)

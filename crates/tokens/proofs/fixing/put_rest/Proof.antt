@@ -25,8 +25,8 @@ written c =
     let at-put : tie.After-put = c.before.before in
     put_as (the_rest (start at-put.before)) at-put.put.ensures
 
-pub put-rest-spec : {M : Type 1} → statement M
-put-rest-spec =
+pub put_rest_spec : {M : Type 1} → statement M
+put_rest_spec =
     tie.close
     (tie.spec
     (λ c. search rules)

@@ -1,6 +1,6 @@
--- `tokens::string` meets its contract: the bytes up to a quote or the line's end, and the quote (`string-closed`).
+-- `tokens::string` meets its contract: the bytes up to a quote or the line's end, and the quote (`string_closed`).
 use borrow.Author.Rules.{rules}
-use Rattle.tokens.proofs.Quoting.{string-open, string-broken, string-closed}
+use Rattle.tokens.proofs.Quoting.{string_open, string_broken, string_closed}
 use Rattle.tokens.proofs.quotes.string.Statement.{statement}
 use Rattle.tokens.proofs.quotes.string.Tie as tie
 
@@ -12,22 +12,22 @@ unclosed : tie.Need-returns
 unclosed c =
     let run = c.before in
     let given = (start run).args in
-    string-open given.text.now given.at run.run-end.result run.run-end.ensures c.if1.true
+    string_open given.text.now given.at run.run-end.result run.run-end.ensures c.if1.true
 
 broken : tie.Need-returns-2
 broken c =
     let run = c.before.before.before in
     let given = (start run).args in
-    string-broken given.text.now given.at run.run-end.result run.run-end.ensures (search rules) c.if2.true
+    string_broken given.text.now given.at run.run-end.result run.run-end.ensures (search rules) c.if2.true
 
 closed : tie.Need-returns-3
 closed c =
     let run = c.before.before.before in
     let given = (start run).args in
-    string-closed given.text.now given.at run.run-end.result run.run-end.ensures (search rules) c.if2.false
+    string_closed given.text.now given.at run.run-end.result run.run-end.ensures (search rules) c.if2.false
 
-pub string-spec : {M : Type 1} → statement M
-string-spec =
+pub string_spec : {M : Type 1} → statement M
+string_spec =
     tie.close
     (tie.spec
     (λ c. search rules)

@@ -4,5 +4,5 @@ use borrow.Author.Rules.{rules}
 use Rattle.tokens.proofs.rows.kind_at.Statement.{statement}
 use Rattle.tokens.proofs.rows.kind_at.Tie as tie
 
-pub kind-at-spec : {M : Type 1} → statement M
-kind-at-spec = tie.close (tie.spec (λ c. search rules) (λ c. search rules) (λ c. search rules) (λ c. rw add-zero))
+pub kind_at_spec : {M : Type 1} → statement M
+kind_at_spec = tie.close (tie.spec (λ c. search rules) (λ c. search rules) (λ c. search rules) (λ c. rw add-zero))

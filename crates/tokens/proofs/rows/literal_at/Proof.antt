@@ -5,15 +5,15 @@ use Rattle.tokens.proofs.rows.literal_at.Statement.{statement}
 use Rattle.tokens.proofs.rows.literal_at.Tie as tie
 
 -- where the base is known
-abbrev base-at : tie.After-shared-slice-known6 → tie.After-of-radix
-base-at c = c.before.before.before.before
+abbrev base_at : tie.After-shared-slice-known6 → tie.After-of-radix
+base_at c = c.before.before.before.before
 
 returns : tie.Need-returns
 unfolding value
-returns c = rw (base-at c).of-radix.ensures
+returns c = rw (base_at c).of-radix.ensures
 
-pub literal-at-spec : {M : Type 1} → statement M
-literal-at-spec =
+pub literal_at_spec : {M : Type 1} → statement M
+literal_at_spec =
     tie.close
     (tie.spec
     (λ c. search rules)

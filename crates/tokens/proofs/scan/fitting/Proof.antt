@@ -10,5 +10,5 @@ based c = rw c.before.notation.given.1 (refl, refl)
 octal : tie.Need-returns-2
 octal c = rw c.enum_told.given.1 (refl, refl)
 
-pub fitting-spec : {M : Type 1} → statement M
-fitting-spec = tie.close (tie.spec (λ c. search rules) (λ c. search rules) based octal)
+pub fitting_spec : {M : Type 1} → statement M
+fitting_spec = tie.close (tie.spec (λ c. search rules) (λ c. search rules) based octal)

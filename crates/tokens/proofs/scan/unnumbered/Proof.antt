@@ -4,8 +4,8 @@ use borrow.Author.Rules.{rules}
 use Rattle.tokens.proofs.scan.unnumbered.Statement.{statement}
 use Rattle.tokens.proofs.scan.unnumbered.Tie as tie
 
-plain-zero : tie.Need-returns
-plain-zero c = let made = c.plain.ensures in (refl, rw (made.0, made.1, c.before.zero.ensures))
+plain_zero : tie.Need-returns
+plain_zero c = let made = c.plain.ensures in (refl, rw (made.0, made.1, c.before.zero.ensures))
 
-pub unnumbered-spec : {M : Type 1} → statement M
-unnumbered-spec = tie.close (tie.spec (λ c κs. search rules) (λ c κs. search rules) plain-zero)
+pub unnumbered_spec : {M : Type 1} → statement M
+unnumbered_spec = tie.close (tie.spec (λ c κs. search rules) (λ c κs. search rules) plain_zero)

@@ -8,5 +8,5 @@ use Rattle.tokens.proofs.signs.byte_or_zero.Tie as tie
 returns-2 : tie.Need-returns-2
 returns-2 c = sym (get_or-eq_default c.before.args.text.now 0 c.if1.false)
 
-pub byte-or-zero-spec : {M : Type 1} → statement M
-byte-or-zero-spec = tie.close (tie.spec (λ c. search rules) (λ c. search rules) returns-2)
+pub byte_or_zero_spec : {M : Type 1} → statement M
+byte_or_zero_spec = tie.close (tie.spec (λ c. search rules) (λ c. search rules) returns-2)

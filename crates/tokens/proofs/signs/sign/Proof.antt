@@ -10,8 +10,8 @@ none c = let coded = c.before.sign-code in rw (eq-eqb coded.result 0 c.if1.true)
 some : tie.Need-returns-2
 some c = let coded = c.before.sign-code in rw (ne_eqb coded.result 0 c.if1.false) at coded.ensures.0
 
-pub sign-spec : {M : Type 1} → statement M
-sign-spec =
+pub sign_spec : {M : Type 1} → statement M
+sign_spec =
     tie.close
     (tie.spec
     (λ c κs. search rules)

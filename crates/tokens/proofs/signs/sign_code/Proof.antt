@@ -1,12 +1,12 @@
--- `tokens::sign_code` meets its contract: of the signs that begin with the byte, the longer one where the next byte is its second (`pair-stands`),
--- and else the one of the byte alone (`alone-stands`).
+-- `tokens::sign_code` meets its contract: of the signs that begin with the byte, the longer one where the next byte is its second (`pair_stands`),
+-- and else the one of the byte alone (`alone_stands`).
 use Prim.Native.Nat.{ℕ, ◌+◌}
 use mathlib.Core.Path.{◌≡◌, sym, ◌∙◌}
 use mathlib.Core.List.{List}
 use borrow.Author.Rules.{rules}
 use lib.ListN.{get_or}
 use Rattle.tokens.specs.Scanned.{Begins, second_of}
-use Rattle.tokens.proofs.SignBytes.{pair-stands, alone-coded, alone-stands}
+use Rattle.tokens.proofs.SignBytes.{pair_stands, alone_coded, alone_stands}
 use Rattle.tokens.proofs.signs.sign_code.Statement.{statement}
 use Rattle.tokens.proofs.signs.sign_code.Tie as tie
 
@@ -34,17 +34,17 @@ pair : tie.Need-returns
 pair c =
     let known = c.before in
     let same : get_or (text known) (at known + 1) 0 ≡ second_of (signs known) = sym known.byte-or-zero.ensures ∙ c.if1.true in
-    (pair-stands (text known) (at known) (signs known) (begins known) (search rules) same, (begins known).pair)
+    (pair_stands (text known) (at known) (signs known) (begins known) (search rules) same, (begins known).pair)
 
 alone : tie.Need-returns-2
 alone c =
     let known = c.before in (
-      alone-stands (text known) (at known) (signs known) (begins known) (search rules) (λ e. c.if1.false (known.byte-or-zero.ensures ∙ e)),
-      alone-coded (text known) (at known) (signs known) (begins known) (search rules),
+      alone_stands (text known) (at known) (signs known) (begins known) (search rules) (λ e. c.if1.false (known.byte-or-zero.ensures ∙ e)),
+      alone_coded (text known) (at known) (signs known) (begins known) (search rules),
     )
 
-pub sign-code-spec : {M : Type 1} → statement M
-sign-code-spec =
+pub sign_code_spec : {M : Type 1} → statement M
+sign_code_spec =
     tie.close
     (tie.spec
     (λ c. search rules)

@@ -1,16 +1,16 @@
 -- `tokens::signs_from` meets its contract: the signs of each byte that begins one are the paper's, whatever byte is next (`chosen`, `either`);
--- any other byte begins none (`begins-none`).
+-- any other byte begins none (`begins_none`).
 use native.Mathlib.Omega.{arith}
 use mathlib.Core.Path.{refl}
 use borrow.Author.Rules.{rules}
 use lib.Dec.{eqb}
 use Rattle.paper.specs.Tokens.{join, implies, or_else, andAlso, comparison, equal, unequal, at_least, at_most, colons}
-use Rattle.tokens.proofs.SignBytes.{chosen, either, NoSign, begins-none}
+use Rattle.tokens.proofs.SignBytes.{chosen, either, NoSign, begins_none}
 use Rattle.tokens.proofs.signs.signs_from.Statement.{statement}
 use Rattle.tokens.proofs.signs.signs_from.Tie as tie
 
-or-else : tie.Need-returns
-or-else c =
+or_else_lem : tie.Need-returns
+or_else_lem c =
     rw c.if2.true
     (record { scans = λ x. chosen (eqb x 124) (join or_else) 124 _ _ refl refl; pair = search rules; alone = search rules; single = search rules })
 
@@ -18,7 +18,7 @@ above : tie.Need-returns-2
 above c =
     let b = c.before.before.args.byte in
     let over = c.before.if1.true in
-    begins-none b
+    begins_none b
     (record {
       semicolon = λ e. omega (arith, over, e);
       opens = λ e. omega (arith, over, e);
@@ -38,7 +38,7 @@ rest c =
     let b = c.before.before.args.byte in
     let under = c.before.if1.false in
     let r = c.match.rest in
-    begins-none b
+    begins_none b
     (record {
       semicolon = r.0.0.0.0.0.0.0.0.0.1;
       opens = r.0.0.0.0.0.0.0.0.1;
@@ -53,11 +53,11 @@ rest c =
       colon = r.1;
     })
 
-pub signs-from-spec : {M : Type 1} → statement M
-signs-from-spec =
+pub signs_from_spec : {M : Type 1} → statement M
+signs_from_spec =
     tie.close
     (tie.spec
-    or-else
+    or_else_lem
     above
     (λ c. rw c.match.keys1 (record { scans = λ x. either (eqb x 0) _ _ refl; pair = search rules; alone = search rules; single = search rules }))
     (λ c. rw c.match.keys2 (record { scans = λ x. either (eqb x 0) _ _ refl; pair = search rules; alone = search rules; single = search rules }))

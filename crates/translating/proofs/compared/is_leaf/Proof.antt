@@ -2,8 +2,8 @@
 use mathlib.Core.Path.{◌≡◌, sym, ◌∙◌, ap}
 use borrow.Author.Rules.{rules}
 use Rattle.trees.specs.declared.node.Node.{Node}
-use Rattle.trees.specs.Nodes.{nodeAt}
-use Rattle.translating.specs.Compared.{isLeaf}
+use Rattle.trees.specs.Nodes.{node_at}
+use Rattle.translating.specs.Compared.{is_leaf}
 use Rattle.translating.proofs.compared.is_leaf.Statement.{statement}
 use Rattle.translating.proofs.compared.is_leaf.Tie as tie
 
@@ -11,8 +11,8 @@ use Rattle.translating.proofs.compared.is_leaf.Tie as tie
 abbrev start : tie.After-read → tie.Start
 start c = c.before.before
 
-as_read : (c : tie.After-read) {n : Node} → c.read.result ≡ n → isLeaf n ≡ isLeaf (nodeAt (start c).args.nodes.now (start c).args.at)
-as_read c e = ap isLeaf (sym e ∙ c.read.ensures)
+as_read : (c : tie.After-read) {n : Node} → c.read.result ≡ n → is_leaf n ≡ is_leaf (node_at (start c).args.nodes.now (start c).args.at)
+as_read c e = ap is_leaf (sym e ∙ c.read.ensures)
 
 leaf : tie.Need-returns
 leaf c = as_read c.before.before c.enum_told.given.1
@@ -23,8 +23,8 @@ prefixed c = as_read c.before.before c.enum-told2.given.1
 operated : tie.Need-returns-3
 operated c = as_read c.before.before c.enum-told3.given.1
 
-pub is-leaf-spec : {M : Type 1} → statement M
-is-leaf-spec =
+pub is_leaf_spec : {M : Type 1} → statement M
+is_leaf_spec =
     tie.close
     (tie.spec
     (λ c κs. search rules)

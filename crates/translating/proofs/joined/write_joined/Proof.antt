@@ -1,4 +1,4 @@
--- `translating::write_joined` meets its contract: the code behind the skip's place, the join, and the skip, which passes over both (`joined-written`).
+-- `translating::write_joined` meets its contract: the code behind the skip's place, the join, and the skip, which passes over both (`joined_written`).
 use Prim.Native.Nat.{ℕ, ◌+◌, ◌-◌}
 use native.Mathlib.Omega.{arith}
 use mathlib.Core.Path.{◌≡◌, ap, ◌∙◌}
@@ -8,11 +8,11 @@ use lib.ListN.{length}
 use borrow.Author.Rules.{rules}
 use Rattle.paper.specs.Meaning.{both}
 use Rattle.paper.specs.Code.{Instruction, Parts, parts_of, connects, skip}
-use Rattle.paper.specs.Translating.{code_of, skipFor}
-use Rattle.keys.specs.Says.{keysIn}
-use Rattle.trees.specs.Standing.{treeAt}
+use Rattle.paper.specs.Translating.{code_of, skip_for}
+use Rattle.keys.specs.Says.{keys_in}
+use Rattle.trees.specs.Standing.{tree_at}
 use Rattle.translating.specs.Writing.{Writes, WritesJoined}
-use Rattle.translating.proofs.AsJoined.{joined_length, joined-written}
+use Rattle.translating.proofs.AsJoined.{joined_length, joined_written}
 use Rattle.translating.proofs.joined.write_joined.Statement.{statement}
 use Rattle.translating.proofs.joined.write_joined.Tie as tie
 
@@ -21,7 +21,7 @@ abbrev Has : tie.Start → List ℕ → Type 0
 Has s text = WritesJoined s.args.list.now s.args.nodes.now s.args.code.now s.args.at s.args.i text
 
 abbrev own : tie.Start → List ℕ → List Instruction
-own s text = code_of (keysIn s.args.list.now) (treeAt text s.args.nodes.now s.args.at)
+own s text = code_of (keys_in s.args.list.now) (tree_at text s.args.nodes.now s.args.at)
 
 writes : (s : tie.Start) (text : List ℕ) → Has s text
     → Writes s.args.list.now s.args.nodes.now s.args.code.now s.args.at (s.args.i + 1) text
@@ -46,8 +46,8 @@ code_fits c κs =
 end : (c : tie.After-write-code) (text : List ℕ) → Has (start c) text → c.write-code.result ≡ (start c).args.i + 1 + length (own (start c) text)
 end c text w = (c.write-code.ensures text (writes (start c) text w)).next
 
-join-fits : tie.Need-write-requires
-join-fits c κs =
+join_fits : tie.Need-write-requires
+join_fits c κs =
     let code : tie.After-write-code = c.before.before.before.before in
     let s = start code in
     let text = s.pre.1.0 in
@@ -60,8 +60,8 @@ behind c =
     let s = start code in
     omega (arith, end code s.pre.1.0 s.pre.1.1)
 
-skip-fits : tie.Need-write-requires-2
-skip-fits c κs =
+skip_fits : tie.Need-write-requires-2
+skip_fits c κs =
     let join : tie.After-write = c.before.before.before.before in
     let code = coded join in
     let s = start code in
@@ -72,7 +72,7 @@ skip-fits c κs =
 -- the skip passes over the code and the join
 reaches : (c : tie.After-write2) (text : List ℕ) → Has (start (coded (joined c))) text
     → parts_of (skip (record { on = false; to = false; over = (coded (joined c)).write-code.result - (start (coded (joined c))).args.i }))
-    ≡ parts_of (skip (skipFor both (length (own (start (coded (joined c))) text))))
+    ≡ parts_of (skip (skip_for both (length (own (start (coded (joined c))) text))))
 reaches c text w =
     let code = coded (joined c) in
     let s = start code in
@@ -84,21 +84,21 @@ written c text w =
     let first : tie.After-write2 = c.before.before in
     let join = joined first in
     let code = coded join in
-    joined-written
+    joined_written
     (code.write-code.ensures text (writes (start code) text w))
     (join.write.ensures (connects both) join.before.before.plain.ensures)
-    (first.write2.ensures (skip (skipFor both (length (own (start code) text)))) (first.before.before.skip.ensures ∙ reaches first text w))
+    (first.write2.ensures (skip (skip_for both (length (own (start code) text)))) (first.before.before.skip.ensures ∙ reaches first text w))
 
-pub write-joined-spec : {M : Type 1} → statement M
-write-joined-spec =
+pub write_joined_spec : {M : Type 1} → statement M
+write_joined_spec =
     tie.close
     (tie.spec
     (λ c. let s = c.before.before.before in omega (arith, s.requires.1.1.room, joined_length (own s s.requires.1.0)))
     code_fits
     (λ c κs. search rules)
-    join-fits
+    join_fits
     behind
     (λ c κs. search rules)
-    skip-fits
+    skip_fits
     (λ c. omega (arith, c.before.before.write2.auto, (joined c.before.before).write.auto, (coded (joined c.before.before)).write-code.auto))
     written)

@@ -3,8 +3,8 @@ use borrow.Author.Rules.{rules}
 use Rattle.translating.proofs.operator.skip_parts.Statement.{statement}
 use Rattle.translating.proofs.operator.skip_parts.Tie as tie
 
-pub skip-parts-spec : {M : Type 1} → statement M
-skip-parts-spec =
+pub skip_parts_spec : {M : Type 1} → statement M
+skip_parts_spec =
     tie.close
     (tie.spec
     (λ c. search rules)

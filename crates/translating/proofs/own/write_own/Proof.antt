@@ -6,7 +6,7 @@ use borrow.Author.Rules.{rules}
 use Rattle.trees.specs.declared.node.Node.{Node}
 use Rattle.trees.specs.Marks.{operand_at}
 use Rattle.translating.specs.Writing.{Room}
-use Rattle.translating.specs.Own.{ownCode, own_at}
+use Rattle.translating.specs.Own.{own_code, own_at}
 use Rattle.translating.proofs.Rows.{wrote_as}
 use Rattle.translating.proofs.own.write_own.Statement.{statement}
 use Rattle.translating.proofs.own.write_own.Tie as tie
@@ -16,11 +16,11 @@ abbrev start : tie.After-read → tie.Start
 start c = c.before.before.before
 
 as_read : (c : tie.After-read) {n : Node} → c.read.result ≡ n
-    → ownCode n (operand_at (start c).args.nodes.now (start c).args.at) ≡ own_at (start c).args.nodes.now (start c).args.at
-as_read c e = ap (λ (n : Node). ownCode n (operand_at (start c).args.nodes.now (start c).args.at)) (sym e ∙ c.read.ensures)
+    → own_code n (operand_at (start c).args.nodes.now (start c).args.at) ≡ own_at (start c).args.nodes.now (start c).args.at
+as_read c e = ap (λ (n : Node). own_code n (operand_at (start c).args.nodes.now (start c).args.at)) (sym e ∙ c.read.ensures)
 
 room : (c : tie.After-read) {n : Node} → c.read.result ≡ n
-    → Room (start c).args.code.now (start c).args.i (ownCode n (operand_at (start c).args.nodes.now (start c).args.at))
+    → Room (start c).args.code.now (start c).args.i (own_code n (operand_at (start c).args.nodes.now (start c).args.at))
 room c e = omega (arith, ap length (as_read c e), (start c).requires.1)
 
 -- a leaf
@@ -28,42 +28,42 @@ room c e = omega (arith, ap length (as_read c e), (start c).requires.1)
 leaf_room : tie.Need-write-leaf-requires
 leaf_room c κs = let told = c.before in ((start told.before.before).requires.0, room told.before.before told.enum_told.given.1)
 
-leaf-written : tie.Need-returns
-leaf-written c =
+leaf_written : tie.Need-returns
+leaf_written c =
     let write-at : tie.After-write-leaf = c.before.before in
     let told = write-at.before.before in
     wrote_as (as_read told.before.before told.enum_told.given.1) write-at.write-leaf.ensures
 
 -- an operator before its operand
 
-abbrev prefix-read : tie.After-prefix-parts → tie.After-read
-prefix-read c = c.before.before.before.before
+abbrev prefix_read : tie.After-prefix-parts → tie.After-read
+prefix_read c = c.before.before.before.before
 
-prefix-room : tie.Need-write-requires
-prefix-room c κs = let made = c.before in omega (arith, room (prefix-read made) made.before.before.n.given.1)
+prefix_room : tie.Need-write-requires
+prefix_room c κs = let made = c.before in omega (arith, room (prefix_read made) made.before.before.n.given.1)
 
-prefix-written : tie.Need-returns-2
-prefix-written c =
+prefix_written : tie.Need-returns-2
+prefix_written c =
     let write-at : tie.After-write = c.before.before in
     let made = write-at.before.before in
-    wrote_as (as_read (prefix-read made) made.before.before.n.given.1) (write-at.write.ensures _ made.prefix-parts.ensures)
+    wrote_as (as_read (prefix_read made) made.before.before.n.given.1) (write-at.write.ensures _ made.prefix-parts.ensures)
 
 -- an operator between its operands
 
-abbrev operator-read : tie.After-operator-parts → tie.After-read
-operator-read c = c.before.before.before.before
+abbrev operator_read : tie.After-operator-parts → tie.After-read
+operator_read c = c.before.before.before.before
 
-operator-room : tie.Need-write-requires-2
-operator-room c κs = let made = c.before in omega (arith, room (operator-read made) made.before.before.n2.given.1)
+operator_room : tie.Need-write-requires-2
+operator_room c κs = let made = c.before in omega (arith, room (operator_read made) made.before.before.n2.given.1)
 
-operator-written : tie.Need-returns-3
-operator-written c =
+operator_written : tie.Need-returns-3
+operator_written c =
     let write-at : tie.After-write2 = c.before.before in
     let made = write-at.before.before in
-    wrote_as (as_read (operator-read made) made.before.before.n2.given.1) (write-at.write2.ensures _ made.operator-parts.ensures)
+    wrote_as (as_read (operator_read made) made.before.before.n2.given.1) (write-at.write2.ensures _ made.operator-parts.ensures)
 
-pub write-own-spec : {M : Type 1} → statement M
-write-own-spec =
+pub write_own_spec : {M : Type 1} → statement M
+write_own_spec =
     tie.close
     (tie.spec
     (λ c κs. search rules)
@@ -71,13 +71,13 @@ write-own-spec =
     leaf_room
     (λ c. search rules)
     (λ c κs. search rules)
-    prefix-room
+    prefix_room
     (λ c. search rules)
     (λ c κs. search rules)
-    operator-room
+    operator_room
     (λ c. search rules)
-    leaf-written
+    leaf_written
     (λ c. search rules)
-    prefix-written
+    prefix_written
     (λ c. search rules)
-    operator-written)
+    operator_written)

@@ -11,5 +11,5 @@ one c = rw c.if1.true
 zero : tie.Need-returns-2
 zero c = rw (c.before.if1.false, c.of.ensures)
 
-pub in-first-byte-spec : {M : Type 1} → statement M
-in-first-byte-spec = tie.close (tie.spec (λ c κs. search rules) one zero)
+pub in_first_byte_spec : {M : Type 1} → statement M
+in_first_byte_spec = tie.close (tie.spec (λ c κs. search rules) one zero)

@@ -4,7 +4,7 @@ use mathlib.Core.Path.{◌≡◌, sym, ◌∙◌, ap}
 use lib.ListN.{length}
 use borrow.Author.Rules.{rules}
 use Rattle.trees.specs.declared.node.Node.{Node}
-use Rattle.translating.specs.Own.{nodeSkips, skipsAt}
+use Rattle.translating.specs.Own.{node_skips, skips_at}
 use Rattle.translating.proofs.Rows.{wrote_as, wrote_nothing}
 use Rattle.translating.proofs.skip.write_skip.Statement.{statement}
 use Rattle.translating.proofs.skip.write_skip.Tie as tie
@@ -14,8 +14,8 @@ abbrev start : tie.After-read → tie.Start
 start c = c.before.before.before
 
 as_read : (c : tie.After-read) {n : Node} → c.read.result ≡ n
-    → nodeSkips n (start c).args.over ≡ skipsAt (start c).args.nodes.now (start c).args.at (start c).args.over
-as_read c e = ap (λ (n : Node). nodeSkips n (start c).args.over) (sym e ∙ c.read.ensures)
+    → node_skips n (start c).args.over ≡ skips_at (start c).args.nodes.now (start c).args.at (start c).args.over
+as_read c e = ap (λ (n : Node). node_skips n (start c).args.over) (sym e ∙ c.read.ensures)
 
 leaf : tie.Need-returns
 leaf c = wrote_as (as_read c.before.before c.enum_told.given.1) (wrote_nothing _ _)
@@ -25,30 +25,30 @@ prefixed c = wrote_as (as_read c.before.before c.enum-told2.given.1) (wrote_noth
 
 -- an operator between its operands
 
-abbrev operator-read : tie.After-n → tie.After-read
-operator-read c = c.before.before
+abbrev operator_read : tie.After-n → tie.After-read
+operator_read c = c.before.before
 
-operator-room : tie.Need-write-operator-skip-requires
-operator-room c κs =
+operator_room : tie.Need-write-operator-skip-requires
+operator_room c κs =
     let told : tie.After-n = c.before.before in
-    let s = start (operator-read told) in
-    omega (arith, s.pre.1, ap length (as_read (operator-read told) told.n.given.1))
+    let s = start (operator_read told) in
+    omega (arith, s.pre.1, ap length (as_read (operator_read told) told.n.given.1))
 
 operated : tie.Need-returns-3
 operated c =
     let write-at : tie.After-write-operator-skip = c.before.before in
     let told : tie.After-n = write-at.before.before.before in
-    wrote_as (as_read (operator-read told) told.n.given.1) write-at.write-operator-skip.ensures
+    wrote_as (as_read (operator_read told) told.n.given.1) write-at.write-operator-skip.ensures
 
-pub write-skip-spec : {M : Type 1} → statement M
-write-skip-spec =
+pub write_skip_spec : {M : Type 1} → statement M
+write_skip_spec =
     tie.close
     (tie.spec
     (λ c κs. search rules)
     (λ c. search rules)
     (λ c. search rules)
     (λ c. search rules)
-    operator-room
+    operator_room
     leaf
     prefixed
     (λ c. search rules)

@@ -5,9 +5,9 @@ mod Write_comparison
 mod Write_tree
 use Rattle.translating.proofs.walk.+write_comparison_write_tree.{statement}
 use Rattle.translating.proofs.walk.+write_comparison_write_tree.Tie.{close}
-use Rattle.translating.proofs.walk.+write_comparison_write_tree.Proof.Common.{μ-write-comparison, μ-write-tree}
-use Rattle.translating.proofs.walk.+write_comparison_write_tree.Proof.Write_comparison.{write-comparison-closed}
-use Rattle.translating.proofs.walk.+write_comparison_write_tree.Proof.Write_tree.{write-tree-closed}
+use Rattle.translating.proofs.walk.+write_comparison_write_tree.Proof.Common.{μ_write_comparison, μ_write_tree}
+use Rattle.translating.proofs.walk.+write_comparison_write_tree.Proof.Write_comparison.{write_comparison_closed}
+use Rattle.translating.proofs.walk.+write_comparison_write_tree.Proof.Write_tree.{write_tree_closed}
 
 pub +write-comparison-write-tree-spec : {M : Type 1} → statement M
-+write-comparison-write-tree-spec = close μ-write-comparison μ-write-tree write-comparison-closed write-tree-closed
++write-comparison-write-tree-spec = close μ_write_comparison μ_write_tree write_comparison_closed write_tree_closed

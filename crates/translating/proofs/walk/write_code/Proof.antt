@@ -12,23 +12,23 @@ use Rattle.translating.proofs.walk.write_code.Tie as tie
 abbrev operated : tie.After-enum-told → tie.After-n
 operated c = c.before.before.before
 
-abbrev node-read : tie.After-enum-told → tie.After-read
-node-read c = (operated c).before.before
+abbrev node_read : tie.After-enum-told → tie.After-read
+node_read c = (operated c).before.before
 
 abbrev start : tie.After-enum-told → tie.Start
-start c = (node-read c).before.before.before.before
+start c = (node_read c).before.before.before.before
 
-is-comparison : (c : tie.After-enum-told) → ComparesAt (start c).args.nodes.now (start c).args.at (operated c).n.given.0.1.0
-is-comparison c = (
+is_comparison : (c : tie.After-enum-told) → ComparesAt (start c).args.nodes.now (start c).args.at (operated c).n.given.0.1.0
+is_comparison c = (
   c.enum_told.given.0.0,
-  ap (λ (o : Operator). Between o (operated c).n.given.0.1.0) (sym c.enum_told.given.1) ∙ sym (operated c).n.given.1 ∙ (node-read c).read.ensures,
+  ap (λ (o : Operator). Between o (operated c).n.given.0.1.0) (sym c.enum_told.given.1) ∙ sym (operated c).n.given.1 ∙ (node_read c).read.ensures,
 )
 
-comparison-asked : tie.Need-write-comparison-requires
-comparison-asked c κs = let told : tie.After-enum-told = c.before in (is-comparison told, (start told).requires)
+comparison_asked : tie.Need-write-comparison-requires
+comparison_asked c κs = let told : tie.After-enum-told = c.before in (is_comparison told, (start told).requires)
 
-pub write-code-spec : {M : Type 1} → statement M
-write-code-spec =
+pub write_code_spec : {M : Type 1} → statement M
+write_code_spec =
     tie.close
     (tie.spec
     (λ c κs. search rules)
@@ -41,6 +41,6 @@ write-code-spec =
     (λ c κs. search rules)
     (λ c. search rules)
     (λ c. search rules)
-    comparison-asked
+    comparison_asked
     (λ c. search rules)
     (λ c. search rules))

@@ -4,8 +4,8 @@ use borrow.Author.Rules.{rules}
 use Rattle.trees.proofs.marks.key_marked.Statement.{statement}
 use Rattle.trees.proofs.marks.key_marked.Tie as tie
 
-pub key-marked-spec : {M : Type 1} → statement M
-key-marked-spec =
+pub key_marked_spec : {M : Type 1} → statement M
+key_marked_spec =
     tie.close
     (tie.spec
     (λ c. rw c.if1.true)

@@ -3,8 +3,8 @@ use borrow.Author.Rules.{rules}
 use Rattle.trees.proofs.marks.operand_of.Statement.{statement}
 use Rattle.trees.proofs.marks.operand_of.Tie as tie
 
-pub operand-of-spec : {M : Type 1} → statement M
-operand-of-spec =
+pub operand_of_spec : {M : Type 1} → statement M
+operand_of_spec =
     tie.close
     (tie.spec
     (λ c. search rules)

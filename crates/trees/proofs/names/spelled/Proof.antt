@@ -5,5 +5,5 @@ use Rattle.trees.proofs.names.spelled.Tie as tie
 returns : tie.Need-returns
 returns c = c.stretch.ensures.bytes
 
-pub spelled-spec : {M : Type 1} → statement M
-spelled-spec = tie.close (tie.spec (λ c. search rules) returns)
+pub spelled_spec : {M : Type 1} → statement M
+spelled_spec = tie.close (tie.spec (λ c. search rules) returns)

@@ -27,8 +27,8 @@ returns-4 c =
     let a = c.before.before.before.before.args in
     record { bytes = sym (slice-part a.text.now a.from a.to (omega arith)); block = refl; offset = λ h. refl }
 
-pub stretch-spec : {M : Type 1} → statement M
-stretch-spec =
+pub stretch_spec : {M : Type 1} → statement M
+stretch_spec =
     tie.close
     (tie.spec
     (λ c. search rules)

@@ -6,5 +6,5 @@ use Rattle.trees.proofs.node.join_of.Tie as tie
 returns-4 : tie.Need-returns-4
 returns-4 c = let r = c.match.rest in rw (ne_eqb c.before.args.kind 7 r.0.0.1, ne_eqb c.before.args.kind 8 r.0.1, ne_eqb c.before.args.kind 9 r.1)
 
-pub join-of-spec : {M : Type 1} → statement M
-join-of-spec = tie.close (tie.spec (λ c. rw c.match.keys1) (λ c. rw c.match.keys2) (λ c. rw c.match.keys3) returns-4)
+pub join_of_spec : {M : Type 1} → statement M
+join_of_spec = tie.close (tie.spec (λ c. rw c.match.keys1) (λ c. rw c.match.keys2) (λ c. rw c.match.keys3) returns-4)

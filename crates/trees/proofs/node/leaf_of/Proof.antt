@@ -10,8 +10,8 @@ returns-4 c = rw (c.before.before.match.keys4, c.before.span-of2.ensures, c.span
 returns-6 : tie.Need-returns-6
 returns-6 c = let r = c.match.rest in rw (ne_eqb c.before.args.kind 0 r.0.0.0.0.1, ne_eqb c.before.args.kind 1 r.0.0.0.1, ne_eqb c.before.args.kind 2 r.0.0.1, ne_eqb c.before.args.kind 3 r.0.1, ne_eqb c.before.args.kind 4 r.1)
 
-pub leaf-of-spec : {M : Type 1} → statement M
-leaf-of-spec =
+pub leaf_of_spec : {M : Type 1} → statement M
+leaf_of_spec =
     tie.close
     (tie.spec
     (λ c κs. search rules)

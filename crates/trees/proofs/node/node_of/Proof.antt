@@ -7,5 +7,5 @@ use Rattle.trees.proofs.node.node_of.Tie as tie
 returns-2 : tie.Need-returns-2
 returns-2 c = rw (le-ltb _ _ c.before.if1.false) c.operator-of.ensures
 
-pub node-of-spec : {M : Type 1} → statement M
-node-of-spec = tie.close (tie.spec (λ c. rw (lt-ltb _ _ c.if1.true)) (λ c κs. search rules) returns-2)
+pub node_of_spec : {M : Type 1} → statement M
+node_of_spec = tie.close (tie.spec (λ c. rw (lt-ltb _ _ c.if1.true)) (λ c κs. search rules) returns-2)

@@ -3,5 +3,5 @@ use borrow.Author.Tests.{eq-eqb, ne_eqb, lt-ltb, le-ltb}
 use Rattle.trees.proofs.node.prefix_of.Statement.{statement}
 use Rattle.trees.proofs.node.prefix_of.Tie as tie
 
-pub prefix-of-spec : {M : Type 1} → statement M
-prefix-of-spec = tie.close (tie.spec (λ c. rw c.if1.true) (λ c. rw (ne_eqb c.before.args.kind 5 c.if1.false)))
+pub prefix_of_spec : {M : Type 1} → statement M
+prefix_of_spec = tie.close (tie.spec (λ c. rw c.if1.true) (λ c. rw (ne_eqb c.before.args.kind 5 c.if1.false)))

@@ -4,5 +4,5 @@ use borrow.Author.Rules.{rules}
 use Rattle.trees.proofs.node.span_of.Statement.{statement}
 use Rattle.trees.proofs.node.span_of.Tie as tie
 
-pub span-of-spec : {M : Type 1} → statement M
-span-of-spec = tie.close (tie.spec (λ c κs. search rules) (λ c κs. search rules) (λ c. rw (c.before.wide.ensures, c.wide2.ensures)))
+pub span_of_spec : {M : Type 1} → statement M
+span_of_spec = tie.close (tie.spec (λ c κs. search rules) (λ c κs. search rules) (λ c. rw (c.before.wide.ensures, c.wide2.ensures)))

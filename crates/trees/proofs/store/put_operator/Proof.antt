@@ -5,9 +5,9 @@ use Rattle.trees.proofs.store.put_operator.Tie as tie
 
 returns : tie.Need-returns
 returns c =
-    let put-at : tie.After-put = c.before.before in
-    rw (← put-at.before.before.operator-number.ensures) put-at.put.ensures
+    let put_at : tie.After-put = c.before.before in
+    rw (← put_at.before.before.operator-number.ensures) put_at.put.ensures
 
-pub put-operator-spec : {M : Type 1} → statement M
-put-operator-spec =
+pub put_operator_spec : {M : Type 1} → statement M
+put_operator_spec =
     tie.close (tie.spec (λ c κs. search rules) (λ c. search rules) (λ c κs. search rules) (λ c. search rules) returns)

@@ -5,8 +5,8 @@ use Rattle.trees.proofs.store.put_prefix.Tie as tie
 
 returns : tie.Need-returns
 returns c =
-    let put-at : tie.After-put = c.before.before in
-    rw (← put-at.before.before.prefix-number.ensures) put-at.put.ensures
+    let put_at : tie.After-put = c.before.before in
+    rw (← put_at.before.before.prefix-number.ensures) put_at.put.ensures
 
-pub put-prefix-spec : {M : Type 1} → statement M
-put-prefix-spec = tie.close (tie.spec (λ c κs. search rules) (λ c κs. search rules) (λ c. search rules) returns)
+pub put_prefix_spec : {M : Type 1} → statement M
+put_prefix_spec = tie.close (tie.spec (λ c κs. search rules) (λ c κs. search rules) (λ c. search rules) returns)

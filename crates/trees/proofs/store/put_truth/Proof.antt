@@ -5,8 +5,8 @@ use Rattle.trees.proofs.store.put_truth.Tie as tie
 
 returns : tie.Need-returns
 returns c =
-    let put-at : tie.After-put = c.before.before in
-    rw (← put-at.before.before.bit.ensures) put-at.put.ensures
+    let put_at : tie.After-put = c.before.before in
+    rw (← put_at.before.before.bit.ensures) put_at.put.ensures
 
-pub put-truth-spec : {M : Type 1} → statement M
-put-truth-spec = tie.close (tie.spec (λ c κs. search rules) (λ c κs. search rules) (λ c. search rules) returns)
+pub put_truth_spec : {M : Type 1} → statement M
+put_truth_spec = tie.close (tie.spec (λ c κs. search rules) (λ c κs. search rules) (λ c. search rules) returns)

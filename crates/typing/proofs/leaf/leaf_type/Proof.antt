@@ -8,5 +8,5 @@ returns c =
     let named : tie.After-name-at = c.before in
     rw (← named.before.before.read.ensures, ← named.before.place_at.ensures, ← named.name-at.ensures) c.operand_type.ensures
 
-pub leaf-type-spec : {M : Type 1} → statement M
-leaf-type-spec = tie.close (tie.spec (λ c κs. search rules) (λ c κs. search rules) (λ c κs. search rules) (λ c κs. search rules) returns)
+pub leaf_type_spec : {M : Type 1} → statement M
+leaf_type_spec = tie.close (tie.spec (λ c κs. search rules) (λ c κs. search rules) (λ c κs. search rules) (λ c κs. search rules) returns)

@@ -6,18 +6,18 @@ use mathlib.Core.Bool.{true}
 use mathlib.Core.List.{List}
 use borrow.Author.Rules.{rules}
 use borrow.Author.Tests.{not-true, not-false}
-use Rattle.paper.specs.Answers.{Answer, ok, refused, inText}
+use Rattle.paper.specs.Answers.{Answer, ok, refused, InText}
 use Rattle.paper.specs.Grammar.{place_of}
-use Rattle.paper.specs.Types.{Ty, keepsBits, operatorType}
-use Rattle.values.specs.Typed.{typingMeant}
-use Rattle.trees.specs.Nodes.{placeAt}
-use Rattle.trees.specs.Standing.{treeAt}
+use Rattle.paper.specs.Types.{Ty, keeps_bits, operator_type}
+use Rattle.values.specs.Typed.{typing_meant}
+use Rattle.trees.specs.Nodes.{place_at}
+use Rattle.trees.specs.Standing.{tree_at}
 use Rattle.trees.proofs.Walks.{place_is}
-use Rattle.typing.specs.Says.{operatorMade}
-use Rattle.typing.specs.Coded.{tyIn, codeSays}
-use Rattle.typing.proofs.Coded.{says-type, says-refusal}
-use Rattle.typing.proofs.Leaves.{or-wrong}
-use Rattle.typing.proofs.Compared.{unsuited, joined, left-lost, right-lost, both-kept}
+use Rattle.typing.specs.Says.{operator_made}
+use Rattle.typing.specs.Coded.{ty_in, code_says}
+use Rattle.typing.proofs.Coded.{says_type, says_refusal}
+use Rattle.typing.proofs.Leaves.{or_wrong}
+use Rattle.typing.proofs.Compared.{unsuited, joined, left_lost, right_lost, both_kept}
 use Rattle.typing.proofs.walk.between.Statement.{statement}
 use Rattle.typing.proofs.walk.between.Tie as tie
 
@@ -32,36 +32,36 @@ abbrev nodes : Made → List ℕ
 nodes c = (start c).args.nodes.now
 
 abbrev place : Made → ℕ
-place c = placeAt (nodes c) (start c).args.at
+place c = place_at (nodes c) (start c).args.at
 
 abbrev code : Made → ℕ
 code c = c.coded-or.result
 
 -- what it makes of the types
 abbrev made : Made → Answer Ty
-made c = operatorType (place c) (operatorMade (start c).args.o (tyIn (start c).args.a) (tyIn (start c).args.b))
+made c = operator_type (place c) (operator_made (start c).args.o (ty_in (start c).args.a) (ty_in (start c).args.b))
 
 -- its place is one of the words of the nodes, which have 32 bits
-place-held : tie.Need-coded-or-requires
-place-held c κs =
+place_held : tie.Need-coded-or-requires
+place_held c κs =
     let known = c.before.before.before.before in
     rw c.place_at.ensures (known.shared-slice-known.given (known.before.args.at * 8 + 1)).fits
 
-says : (c : Made) → codeSays (code c) ≡ made c
+says : (c : Made) → code_says (code c) ≡ made c
 says c =
     let at_place = c.before in
     let typing = at_place.before in
-    let right-read = typing.before in
-    let left-read = right-read.before in
-    let types = ap₂ (operatorMade (start c).args.o) left-read.type-in.ensures right-read.type-in2.ensures in
-    c.coded-or.ensures ∙ or-wrong at_place.place_at.result (typingMeant typing.operator-type.result)
-    ∙ ap₂ operatorType at_place.place_at.ensures (typing.operator-type.ensures ∙ types)
+    let right_read = typing.before in
+    let left_read = right_read.before in
+    let types = ap₂ (operator_made (start c).args.o) left_read.type-in.ensures right_read.type-in2.ensures in
+    c.coded-or.ensures ∙ or_wrong at_place.place_at.result (typing_meant typing.operator-type.result)
+    ∙ ap₂ operator_type at_place.place_at.ensures (typing.operator-type.ensures ∙ types)
 
-types-wrong : tie.Need-returns
-types-wrong c text =
+types_wrong : tie.Need-returns
+types_wrong c text =
     let tested = c.before in
     let m = tested.before in
-    let refusal = says-refusal (code m) (sym tested.is-type.ensures ∙ not-true _ c.if1.true) in
+    let refusal = says_refusal (code m) (sym tested.is-type.ensures ∙ not-true _ c.if1.true) in
     refusal ∙ unsuited (place m) _ _ _ _ (start m).args.o _ _ _ (sym (says m) ∙ refusal)
 
 joins : tie.Need-returns-2
@@ -77,69 +77,69 @@ abbrev taken : Compared → Made
 taken c = c.before.before.before.before
 
 -- so its code is a type's
-typed : (c : Compared) → codeSays (code (taken c)) ≡ ok (tyIn (code (taken c)))
+typed : (c : Compared) → code_says (code (taken c)) ≡ ok (ty_in (code (taken c)))
 typed c =
-    let is-typed = c.before.before in
-    says-type (code (taken c)) (sym is-typed.before.is-type.ensures ∙ not-false _ is-typed.if1.false)
+    let is_typed = c.before.before in
+    says_type (code (taken c)) (sym is_typed.before.is-type.ensures ∙ not-false _ is_typed.if1.false)
 
-suited : (c : Compared) → made (taken c) ≡ ok (tyIn (code (taken c)))
+suited : (c : Compared) → made (taken c) ≡ ok (ty_in (code (taken c)))
 suited c = sym (says (taken c)) ∙ typed c
 
 -- refused at an operand's place
-at-operand : (m : Made) (text : List ℕ) (i : ℕ) → ◌≡◌ {A = Answer Ty} (refused 23 inText (placeAt (nodes m) i)) (refused 23 inText (place_of (treeAt text (nodes m) i)))
-at-operand m text i = ap (refused 23 inText) (sym (place_is text (nodes m) i))
+at_operand : (m : Made) (text : List ℕ) (i : ℕ) → ◌≡◌ {A = Answer Ty} (refused 23 InText (place_at (nodes m) i)) (refused 23 InText (place_of (tree_at text (nodes m) i)))
+at_operand m text i = ap (refused 23 InText) (sym (place_is text (nodes m) i))
 
-left-loses : tie.Need-returns-3
-left-loses c text =
+left_loses : tie.Need-returns-3
+left_loses c text =
     let left = c.before.before in
     let m = taken left.before in
-    c.lost.ensures ∙ at-operand m text (start m).args.left
-    ∙ left-lost (place m) _ _ _ _ _ left.before.enum_told.given.1 _ (suited left.before)
+    c.lost.ensures ∙ at_operand m text (start m).args.left
+    ∙ left_lost (place m) _ _ _ _ _ left.before.enum_told.given.1 _ (suited left.before)
     (sym (left.kept.ensures text) ∙ not-true _ c.before.if2.true)
 
 -- where the left operand keeps its bits, and the right one has been looked at
 abbrev looked : tie.After-kept2 → Compared
 looked c = c.before.before.before
 
-left-kept : (c : tie.After-kept2) (text : List ℕ)
-    → keepsBits (treeAt text (nodes (taken (looked c))) (start (taken (looked c))).args.left) (tyIn (start (taken (looked c))).args.b) ≡ true
-left-kept c text = sym (c.before.before.kept.ensures text) ∙ not-false _ c.before.if2.false
+left_kept : (c : tie.After-kept2) (text : List ℕ)
+    → keeps_bits (tree_at text (nodes (taken (looked c))) (start (taken (looked c))).args.left) (ty_in (start (taken (looked c))).args.b) ≡ true
+left_kept c text = sym (c.before.before.kept.ensures text) ∙ not-false _ c.before.if2.false
 
-right-loses : tie.Need-returns-4
-right-loses c text =
+right_loses : tie.Need-returns-4
+right_loses c text =
     let right = c.before.before in
     let m = taken (looked right) in
-    c.lost2.ensures ∙ at-operand m text ((start m).args.at - 1)
-    ∙ right-lost (place m) _ _ _ _ _ (looked right).enum_told.given.1 _ (suited (looked right)) (left-kept right text)
+    c.lost2.ensures ∙ at_operand m text ((start m).args.at - 1)
+    ∙ right_lost (place m) _ _ _ _ _ (looked right).enum_told.given.1 _ (suited (looked right)) (left_kept right text)
     (sym (right.kept2.ensures text) ∙ not-true _ c.before.if3.true)
 
-both-keep : tie.Need-returns-5
-both-keep c text =
+both_keep : tie.Need-returns-5
+both_keep c text =
     let right = c.before in
     let m = taken (looked right) in
     typed (looked right)
-    ∙ both-kept (place m) _ _ _ _ _ (looked right).enum_told.given.1 _ (suited (looked right)) (left-kept right text)
+    ∙ both_kept (place m) _ _ _ _ _ (looked right).enum_told.given.1 _ (suited (looked right)) (left_kept right text)
     (sym (right.kept2.ensures text) ∙ not-false _ c.if3.false)
 
-pub between-spec : {M : Type 1} → statement M
-between-spec =
+pub between_spec : {M : Type 1} → statement M
+between_spec =
     tie.close
     (tie.spec
     (λ c κs. search rules)
     (λ c κs. search rules)
     (λ c κs. search rules)
     (λ c κs. search rules)
-    place-held
+    place_held
     (λ c κs. search rules)
-    types-wrong
+    types_wrong
     (λ c. search rules)
     (λ c. search rules)
     joins
     (λ c κs. search rules)
     (λ c κs. search rules)
-    left-loses
+    left_loses
     (λ c. search rules)
     (λ c κs. search rules)
     (λ c κs. search rules)
-    right-loses
-    both-keep)
+    right_loses
+    both_keep)

@@ -6,5 +6,5 @@ use Rattle.typing.proofs.walk.comparison_type.Tie as tie
 returns : tie.Need-returns
 returns c = rw (← c.before.number.ensures.1) c.comparison-type.ensures
 
-pub comparison-type-spec : {M : Type 1} → statement M
-comparison-type-spec = tie.close (tie.spec (λ c κs. search rules) (λ c κs. search rules) returns)
+pub comparison_type_spec : {M : Type 1} → statement M
+comparison_type_spec = tie.close (tie.spec (λ c κs. search rules) (λ c κs. search rules) returns)

@@ -2,17 +2,17 @@
 use mathlib.Core.Path.{◌∙◌, ap}
 use Prim.Native.Nat.{◌+◌, ◌*◌}
 use borrow.Author.Rules.{rules}
-use Rattle.paper.specs.Answers.{refused, inText}
+use Rattle.paper.specs.Answers.{refused, InText}
 use Rattle.typing.proofs.walk.lost.Statement.{statement}
 use Rattle.typing.proofs.walk.lost.Tie as tie
 
-place-held : tie.Need-refusal-code-requires
-place-held c κs =
+place_held : tie.Need-refusal-code-requires
+place_held c κs =
     let known = c.before in
     rw c.place_at.ensures (known.shared-slice-known.given (known.before.args.i * 8 + 1)).fits
 
 at_place : tie.Need-returns
-at_place c = c.refusal-code.ensures ∙ ap (refused 23 inText) c.before.place_at.ensures
+at_place c = c.refusal-code.ensures ∙ ap (refused 23 InText) c.before.place_at.ensures
 
-pub lost-spec : {M : Type 1} → statement M
-lost-spec = tie.close (tie.spec (λ c κs. search rules) place-held at_place)
+pub lost_spec : {M : Type 1} → statement M
+lost_spec = tie.close (tie.spec (λ c κs. search rules) place_held at_place)

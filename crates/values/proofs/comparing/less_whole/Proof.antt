@@ -8,8 +8,8 @@ returns-2 : tie.Need-returns-2
 returns-2 c = rw c.before.before.before.before.other.given.1
     (c.less.ensures ∙ rw (c.before.before.as-whole.ensures, c.before.as-whole2.ensures))
 
-pub less-whole-spec : {M : Type 1} → statement M
-less-whole-spec =
+pub less_whole_spec : {M : Type 1} → statement M
+less_whole_spec =
     tie.close
     (tie.spec
     (λ c. search rules)

@@ -10,8 +10,8 @@ returns-3 c = rw (
   c.before.before.equal2.ensures,
 )
 
-pub same-match-spec : {M : Type 1} → statement M
-same-match-spec =
+pub same_match_spec : {M : Type 1} → statement M
+same_match_spec =
     tie.close
     (tie.spec
     (λ c. search rules)

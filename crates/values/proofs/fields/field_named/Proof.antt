@@ -1,6 +1,6 @@
--- The names are asked for one after another, in the definition's order (`named-if`).
+-- The names are asked for one after another, in the definition's order (`named_if`).
 use mathlib.Core.Path.{sym, ◌∙◌}
-use Rattle.values.proofs.Numbered.{named-if}
+use Rattle.values.proofs.Numbered.{named_if}
 use borrow.Author.Rules.{rules}
 use Rattle.values.proofs.fields.field_named.Statement.{statement}
 use Rattle.values.proofs.fields.field_named.Tie as tie
@@ -14,10 +14,10 @@ returns c =
       c.before.before.before.before.before.before.spelled2.ensures,
       c.before.before.before.before.before.before.before.before.spelled.ensures,
     )
-    (sym (simp named-if))
+    (sym (simp named_if))
 
-pub field-named-spec : {M : Type 1} → statement M
-field-named-spec =
+pub field_named_spec : {M : Type 1} → statement M
+field_named_spec =
     tie.close
     (tie.spec
     (λ c. search rules)

@@ -2,8 +2,8 @@ use borrow.Author.Rules.{rules}
 use Rattle.values.proofs.fields.field_type.Statement.{statement}
 use Rattle.values.proofs.fields.field_type.Tie as tie
 
-pub field-type-spec : {M : Type 1} → statement M
-field-type-spec =
+pub field_type_spec : {M : Type 1} → statement M
+field_type_spec =
     tie.close
     (tie.spec
     (λ c κs. search rules)

@@ -2,8 +2,8 @@ use borrow.Author.Rules.{rules}
 use Rattle.values.proofs.fields.spelled.Statement.{statement}
 use Rattle.values.proofs.fields.spelled.Tie as tie
 
-pub spelled-spec : {M : Type 1} → statement M
-spelled-spec =
+pub spelled_spec : {M : Type 1} → statement M
+spelled_spec =
     tie.close
     (tie.spec
     (λ c κs. search rules)

@@ -4,8 +4,8 @@ use borrow.Author.Tests.{ne_eqb}
 use Rattle.values.proofs.operations.connect.Statement.{statement}
 use Rattle.values.proofs.operations.connect.Tie as tie
 
-pub connect-spec : {M : Type 1} → statement M
-connect-spec =
+pub connect_spec : {M : Type 1} → statement M
+connect_spec =
     tie.close
     (tie.spec
     (λ c. rw c.match.keys1)

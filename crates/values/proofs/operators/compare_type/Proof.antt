@@ -2,8 +2,8 @@ use borrow.Author.Rules.{rules}
 use Rattle.values.proofs.operators.compare_type.Statement.{statement}
 use Rattle.values.proofs.operators.compare_type.Tie as tie
 
-pub compare-type-spec : {M : Type 1} → statement M
-compare-type-spec =
+pub compare_type_spec : {M : Type 1} → statement M
+compare_type_spec =
     tie.close
     (tie.spec
     (λ c κs. search rules)

@@ -2,8 +2,8 @@ use borrow.Author.Rules.{rules}
 use Rattle.values.proofs.operators.convert_type.Statement.{statement}
 use Rattle.values.proofs.operators.convert_type.Tie as tie
 
-pub convert-type-spec : {M : Type 1} → statement M
-convert-type-spec =
+pub convert_type_spec : {M : Type 1} → statement M
+convert_type_spec =
     tie.close
     (tie.spec
     (λ c κs. search rules)

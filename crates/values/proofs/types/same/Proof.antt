@@ -13,6 +13,6 @@ same_spec =
     (λ c κs. search rules)
     (λ c. search rules)
     (λ c κs. search rules)
-    (λ c. rw c.before.enum_told.given.1 c.is-bool.ensures)
+    (λ c. rw c.before.enum_told.given.1 c.is_bool.ensures)
     (λ c. rw c.before.enum-told2.given.1 c.is-int.ensures)
     (λ c. rw c.before.before.b.given.1 c.is-of.ensures))

@@ -2,5 +2,5 @@
 use Rattle.valve.proofs.comparison.agreement.Statement.{statement}
 use Rattle.valve.proofs.comparison.agreement.Tie as tie
 
-pub agreement-spec : {M : Type 1} → statement M
-agreement-spec = tie.close (tie.spec (λ c. rw c.if1.true) (λ c. rw c.if1.false))
+pub agreement_spec : {M : Type 1} → statement M
+agreement_spec = tie.close (tie.spec (λ c. rw c.if1.true) (λ c. rw c.if1.false))

@@ -6,26 +6,26 @@ use Rattle.valve.proofs.comparison.compare.Statement.{statement}
 use Rattle.valve.proofs.comparison.compare.Tie as tie
 
 -- where it is answered; and from there where it was tried
-abbrev answered-at : tie.After-rows5 → tie.After-tried
-answered-at c = c.before.before.before
+abbrev answered_at : tie.After-rows5 → tie.After-tried
+answered_at c = c.before.before.before
 
-abbrev tried-at : tie.After-tried → tie.After-try-parts
-tried-at c = c.before.before.before.before
+abbrev tried_at : tie.After-tried → tie.After-try-parts
+tried_at c = c.before.before.before.before
 
-answer-stands : tie.Need-compare-told-requires
-answer-stands c κs =
-    let at-answer = answered-at c in
-    let t = (tried-at at-answer).try-parts in
+answer_stands : tie.Need-compare-told-requires
+answer_stands c κs =
+    let at-answer = answered_at c in
+    let t = (tried_at at-answer).try-parts in
     (_, answered _ t.result t.ensures at-answer.tried.given.1)
 
 compares : tie.Need-returns-2
 compares c =
-    let at-answer = answered-at c.before in
-    let t = (tried-at at-answer).try-parts in
+    let at-answer = answered_at c.before in
+    let t = (tried_at at-answer).try-parts in
     c.compare-told.ensures _ (answered _ t.result t.ensures at-answer.tried.given.1)
 
-pub compare-spec : {M : Type 1} → statement M
-compare-spec =
+pub compare_spec : {M : Type 1} → statement M
+compare_spec =
     tie.close
     (tie.spec
     (λ c. search rules)
@@ -38,5 +38,5 @@ compare-spec =
     (λ c. search rules)
     (λ c. search rules)
     (λ c. search rules)
-    answer-stands
+    answer_stands
     compares)

@@ -1,7 +1,7 @@
--- `valve::compare_told` meets its contract: the refusal of text or list (`text-refused`), or the comparison by the parts (`compare_by`).
+-- `valve::compare_told` meets its contract: the refusal of text or list (`text_refused`), or the comparison by the parts (`compare_by`).
 use borrow.Author.Rules.{rules}
-use Rattle.reading.proofs.Parted.{not-parted, passed}
-use Rattle.valve.proofs.Agreements.{text-refused}
+use Rattle.reading.proofs.Parted.{not_parted, passed}
+use Rattle.valve.proofs.Agreements.{text_refused}
 use Rattle.valve.proofs.comparison.compare_told.Statement.{statement}
 use Rattle.valve.proofs.comparison.compare_told.Tie as tie
 
@@ -12,10 +12,10 @@ start c = c.before.before.before.before.before.before
 refuses : tie.Need-returns
 refuses c text told =
     let at-refusal : tie.After-restricted = c.before in
-    text-refused _ _ _ (not-parted _ _ _ _ _ told at-refusal.restricted.given.1)
+    text_refused _ _ _ (not_parted _ _ _ _ _ told at-refusal.restricted.given.1)
 
-parts-stand : tie.Need-compare-by-requires
-parts-stand c κs =
+parts_stand : tie.Need-compare-by-requires
+parts_stand c κs =
     let at-parts : tie.After-restricted2 = c.before in
     (_, passed _ _ _ _ _ (start at-parts).requires.1 at-parts.restricted2.given.1)
 
@@ -24,5 +24,5 @@ compares c text told =
     let at-parts : tie.After-restricted2 = c.before.before in
     c.compare-by.ensures text (passed _ _ _ _ _ told at-parts.restricted2.given.1)
 
-pub compare-told-spec : {M : Type 1} → statement M
-compare-told-spec = tie.close (tie.spec (λ c. search rules) (λ c. search rules) parts-stand refuses compares)
+pub compare_told_spec : {M : Type 1} → statement M
+compare_told_spec = tie.close (tie.spec (λ c. search rules) (λ c. search rules) parts_stand refuses compares)

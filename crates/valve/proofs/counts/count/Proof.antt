@@ -6,22 +6,22 @@ use Rattle.valve.proofs.counts.count.Statement.{statement}
 use Rattle.valve.proofs.counts.count.Tie as tie
 
 -- where it is answered; and from there where it was tried
-abbrev answered-at : tie.After-count-told-arg → tie.After-tried
-answered-at c = c.before.before.before.before
+abbrev answered_at : tie.After-count-told-arg → tie.After-tried
+answered_at c = c.before.before.before.before
 
-abbrev tried-at : tie.After-tried → tie.After-try-parts
-tried-at c = c.before.before.before.before
+abbrev tried_at : tie.After-tried → tie.After-try-parts
+tried_at c = c.before.before.before.before
 
-answer-stands : tie.Need-count-told-requires
-answer-stands c κs =
-    let at-answer = answered-at c in
-    let t = (tried-at at-answer).try-parts in
+answer_stands : tie.Need-count-told-requires
+answer_stands c κs =
+    let at-answer = answered_at c in
+    let t = (tried_at at-answer).try-parts in
     (_, answered _ t.result t.ensures at-answer.tried.given.1)
 
 counts : tie.Need-returns-2
 counts c =
-    let at-answer = answered-at c.before in
-    let t = (tried-at at-answer).try-parts in
+    let at-answer = answered_at c.before in
+    let t = (tried_at at-answer).try-parts in
     c.count-told.ensures _ (answered _ t.result t.ensures at-answer.tried.given.1)
 
 pub count_spec : {M : Type 1} → statement M
@@ -38,5 +38,5 @@ count_spec =
     (λ c. search rules)
     (λ c. search rules)
     (λ c. search rules)
-    answer-stands
+    answer_stands
     counts)

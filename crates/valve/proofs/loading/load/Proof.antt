@@ -1,8 +1,8 @@
--- `valve::load` meets its contract: the refusal of the list (`list-refused`), or what `load_for` answers for the count of its keys (`list-passed`).
+-- `valve::load` meets its contract: the refusal of the list (`list_refused`), or what `load_for` answers for the count of its keys (`list_passed`).
 use mathlib.Core.Path.{sym, ◌∙◌, ap}
 use borrow.Author.Rules.{rules}
-use Rattle.paper.specs.Answers.{countedSays}
-use Rattle.valve.proofs.Loads.{list-refused, keys-counted, list-passed}
+use Rattle.paper.specs.Answers.{counted_says}
+use Rattle.valve.proofs.Loads.{list_refused, keys_counted, list_passed}
 use Rattle.valve.proofs.loading.load.Statement.{statement}
 use Rattle.valve.proofs.loading.load.Tie as tie
 
@@ -10,26 +10,26 @@ use Rattle.valve.proofs.loading.load.Tie as tie
 abbrev start : tie.After-check-list → tie.Start
 start c = c.before.before.before
 
-keys-known : tie.Need-load-for-requires
-keys-known c κs =
+keys_known : tie.Need-load-for-requires
+keys_known c κs =
     let at-list : tie.After-check-list = c.before.before.before in
     let a = (start at-list).args in
-    keys-counted a.list.now a.blocks.now (sym at-list.check-list.ensures ∙ ap countedSays c.before.count.given.1)
+    keys_counted a.list.now a.blocks.now (sym at-list.check-list.ensures ∙ ap counted_says c.before.count.given.1)
 
-no-list : tie.Need-returns
-no-list c =
+no_list : tie.Need-returns
+no_list c =
     let at-list : tie.After-check-list = c.before.before.before in
     let a = (start at-list).args in
-    list-refused a.list.now a.blocks.now (sym at-list.check-list.ensures ∙ ap countedSays c.before.number.given.1)
+    list_refused a.list.now a.blocks.now (sym at-list.check-list.ensures ∙ ap counted_says c.before.number.given.1)
 
 loads : tie.Need-returns-2
 loads c =
     let at-list : tie.After-check-list = c.before.before.before.before in
     let a = (start at-list).args in
     c.load-for.ensures
-    ∙ list-passed a.list.now a.blocks.now (sym at-list.check-list.ensures ∙ ap countedSays c.before.before.count.given.1)
+    ∙ list_passed a.list.now a.blocks.now (sym at-list.check-list.ensures ∙ ap counted_says c.before.before.count.given.1)
 
 pub load_spec : {M : Type 1} → statement M
 load_spec =
     tie.close
-    (tie.spec (λ c κs. search rules) (λ c. search rules) (λ c. search rules) keys-known no-list loads)
+    (tie.spec (λ c κs. search rules) (λ c. search rules) (λ c. search rules) keys_known no_list loads)

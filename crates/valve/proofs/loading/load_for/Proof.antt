@@ -1,14 +1,14 @@
--- `valve::load_for` meets its contract: a refusal of the layout is passed up (`layout-refused`); its count goes on to the check of types
--- (`types-told`).
+-- `valve::load_for` meets its contract: a refusal of the layout is passed up (`layout_refused`); its count goes on to the check of types
+-- (`types_told`).
 use Prim.Native.Nat.{ℕ}
 use mathlib.Core.Path.{◌≡◌, sym, ◌∙◌, ap}
 use lib.ListN.{length}
 use borrow.Author.Rules.{rules}
-use Rattle.paper.specs.Answers.{checkingSays, countedSays}
-use Rattle.keys.specs.Says.{keysIn}
-use Rattle.blocks.specs.Layout.{laidOut}
-use Rattle.machine.proofs.Loaded.{laid-within}
-use Rattle.valve.proofs.Loads.{layout-refused, types-told}
+use Rattle.paper.specs.Answers.{checking_says, counted_says}
+use Rattle.keys.specs.Says.{keys_in}
+use Rattle.blocks.specs.Layout.{laid_out}
+use Rattle.machine.proofs.Loaded.{laid_within}
+use Rattle.valve.proofs.Loads.{layout_refused, types_told}
 use Rattle.valve.proofs.loading.load_for.Statement.{statement}
 use Rattle.valve.proofs.loading.load_for.Tie as tie
 
@@ -17,43 +17,43 @@ abbrev start : tie.After-layout → tie.Start
 start c = c.before.before.before
 
 -- its answer, for the keys of the list
-laid : (c : tie.After-layout) → countedSays c.layout.result ≡ laidOut (length (keysIn (start c).args.list.now)) (start c).args.blocks.now
-laid c = c.layout.ensures ∙ ap (λ (k : ℕ). laidOut k (start c).args.blocks.now) (start c).requires
+laid : (c : tie.After-layout) → counted_says c.layout.result ≡ laid_out (length (keys_in (start c).args.list.now)) (start c).args.blocks.now
+laid c = c.layout.ensures ∙ ap (λ (k : ℕ). laid_out k (start c).args.blocks.now) (start c).requires
 
-not-laid : tie.Need-returns
-not-laid c =
+not_laid : tie.Need-returns
+not_laid c =
     let at-layout = c.before.before.before in
     let a = (start at-layout).args in
-    layout-refused (keysIn a.list.now) a.blocks.now at-layout.layout.result (laid at-layout) c.before.number.given.1
+    layout_refused (keys_in a.list.now) a.blocks.now at-layout.layout.result (laid at-layout) c.before.number.given.1
 
 -- where it counts
-abbrev layout-at : tie.After-count → tie.After-layout
-layout-at c = c.before.before
+abbrev layout_at : tie.After-count → tie.After-layout
+layout_at c = c.before.before
 
 within : tie.Need-check-code-requires
 within c κs =
-    let at-layout = layout-at c.before in
+    let at-layout = layout_at c.before in
     let a = (start at-layout).args in
-    laid-within _ a.blocks.now _ (sym (laid at-layout) ∙ ap countedSays c.before.count.given.1)
+    laid_within _ a.blocks.now _ (sym (laid at-layout) ∙ ap counted_says c.before.count.given.1)
 
-types-refused : tie.Need-returns-2
-types-refused c =
+types_refused : tie.Need-returns-2
+types_refused c =
     let counted = c.before.before.before.before.before in
-    let at-layout = layout-at counted in
+    let at-layout = layout_at counted in
     let a = (start at-layout).args in
-    types-told (keysIn a.list.now) a.blocks.now at-layout.layout.result (laid at-layout) counted.count.given.1
-    (sym c.before.before.before.check-code.ensures ∙ ap checkingSays c.before.number2.given.1)
+    types_told (keys_in a.list.now) a.blocks.now at-layout.layout.result (laid at-layout) counted.count.given.1
+    (sym c.before.before.before.check-code.ensures ∙ ap checking_says c.before.number2.given.1)
 
-types-passed : tie.Need-returns-3
-types-passed c =
+types_passed : tie.Need-returns-3
+types_passed c =
     let counted = c.before.before.before.before in
-    let at-layout = layout-at counted in
+    let at-layout = layout_at counted in
     let a = (start at-layout).args in
-    types-told (keysIn a.list.now) a.blocks.now at-layout.layout.result (laid at-layout) counted.count.given.1
-    (sym c.before.before.check-code.ensures ∙ ap checkingSays c.enum_told.given.1)
+    types_told (keys_in a.list.now) a.blocks.now at-layout.layout.result (laid at-layout) counted.count.given.1
+    (sym c.before.before.check-code.ensures ∙ ap checking_says c.enum_told.given.1)
 
-pub load-for-spec : {M : Type 1} → statement M
-load-for-spec =
+pub load_for_spec : {M : Type 1} → statement M
+load_for_spec =
     tie.close
     (tie.spec
     (λ c κs. search rules)
@@ -62,6 +62,6 @@ load-for-spec =
     within
     (λ c. search rules)
     (λ c. search rules)
-    not-laid
-    types-refused
-    types-passed)
+    not_laid
+    types_refused
+    types_passed)

@@ -4,8 +4,8 @@ use Rattle.valve.proofs.Fixes.{too_long}
 use Rattle.valve.proofs.octal.fix_octal.Statement.{statement}
 use Rattle.valve.proofs.octal.fix_octal.Tie as tie
 
-pub fix-octal-spec : {M : Type 1} → statement M
-fix-octal-spec =
+pub fix_octal_spec : {M : Type 1} → statement M
+fix_octal_spec =
     tie.close
     (tie.spec
     (λ c. too_long _ _ c.if1.true)

@@ -1,9 +1,9 @@
 -- `valve::pact` meets its contract: the refusal of the names, else what the stages after them answer.
 use mathlib.Core.Path.{sym, ap, ◌∙◌}
 use borrow.Author.Rules.{rules}
-use Rattle.paper.specs.Answers.{countedSays}
+use Rattle.paper.specs.Answers.{counted_says}
 use Rattle.keys.proofs.Checked as K
-use Rattle.valve.proofs.Contracts.{names-refused}
+use Rattle.valve.proofs.Contracts.{names_refused}
 use Rattle.valve.proofs.pacts.pact.Statement.{statement}
 use Rattle.valve.proofs.pacts.pact.Tie as tie
 
@@ -16,16 +16,16 @@ not_named c =
     let told : tie.After-counted = c.before in
     let checked : tie.After-check-names = told.before.before in
     let names = (start checked).args.names.now in
-    names-refused _ _ _ _ _ (K.names-refused names (sym checked.check-names.ensures ∙ ap countedSays told.counted.given.1))
+    names_refused _ _ _ _ _ (K.names_refused names (sym checked.check-names.ensures ∙ ap counted_says told.counted.given.1))
 
 named : tie.Need-pact-named-requires
 named c κs =
     let told : tie.After-enum-told = c.before in
     let checked : tie.After-check-names = told.before.before in
-    (K.names-listed (start checked).args.names.now (sym checked.check-names.ensures ∙ ap countedSays told.enum_told.given.1)).0
+    (K.names_listed (start checked).args.names.now (sym checked.check-names.ensures ∙ ap counted_says told.enum_told.given.1)).0
 
-pub pact-spec : {M : Type 1} → statement M
-pact-spec =
+pub pact_spec : {M : Type 1} → statement M
+pact_spec =
     tie.close
     (tie.spec
     (λ c κs. search rules)

@@ -2,12 +2,12 @@
 use native.Mathlib.Omega.{arith}
 use mathlib.Core.Path.{subst}
 use borrow.Author.Rules.{rules}
-use Rattle.paper.specs.Keys.{recordsIn}
+use Rattle.paper.specs.Keys.{records_in}
 use Rattle.paper.specs.Contract.{clauses}
 use lib.ListN.{length}
 use Rattle.drafting.specs.declared.contracts.Outcome.{Outcome}
 use Rattle.drafting.specs.Drafts.{Drafts}
-use Rattle.valve.proofs.Contracts.{contract-fault, text-over, text-lent}
+use Rattle.valve.proofs.Contracts.{contract_fault, text_over, text_lent}
 use Rattle.valve.proofs.pacts.pact_in.Statement.{statement}
 use Rattle.valve.proofs.pacts.pact_in.Tie as tie
 
@@ -18,52 +18,52 @@ start c = c.before.before.before.before.before.before.before
 abbrev Says : tie.After-draft → Outcome → Type 0
 Says c r =
     let a = (start c).args in
-    Drafts a.names.now a.table.now c.draft.new.1.1.1.0 (clauses (recordsIn a.names.now) (length a.table.now) a.contract.now) r
+    Drafts a.names.now a.table.now c.draft.new.1.1.1.0 (clauses (records_in a.names.now) (length a.table.now) a.contract.now) r
 
 faulty : tie.Need-returns
 faulty c =
     let told : tie.After-drawn = c.before in
     let made : tie.After-draft = told.before.before.before.before in
     let s = start made in
-    contract-fault _ _ _ _ s.pre.0.0 s.pre.0.1 _ (subst (Says made) told.drawn.given.1 made.draft.ensures)
+    contract_fault _ _ _ _ s.pre.0.0 s.pre.0.1 _ (subst (Says made) told.drawn.given.1 made.draft.ensures)
 
-over-a-limit : tie.Need-returns-2
-over-a-limit c =
+over_a_limit : tie.Need-returns-2
+over_a_limit c =
     let made : tie.After-draft = c.before.before.before.before in
     let s = start made in
     let d = subst (Says made) c.enum_told.given.1 made.draft.ensures in
-    text-over _ _ _ _ s.pre.0.0 s.pre.0.1 d.0 d.1.0 d.1.1
+    text_over _ _ _ _ s.pre.0.0 s.pre.0.1 d.0 d.1.0 d.1.1
 
-root-there : tie.Need-lend-text-requires
-root-there c κs =
+root_there : tie.Need-lend-text-requires
+root_there c κs =
     let told : tie.After-drawn2 = c.before.before.before in
     let made : tie.After-draft = told.before.before.before.before in
     let d = subst (Says made) told.drawn2.given.1 made.draft.ensures in
     omega (arith, d.1.1.few, made.draft.auto, (start made).requires.1)
 
-its-text : tie.Need-returns-3
-its-text c =
+its_text : tie.Need-returns-3
+its_text c =
     let lent : tie.After-lend-text = c.before.before in
     let told : tie.After-drawn2 = lent.before.before.before.before in
     let made : tie.After-draft = told.before.before.before.before in
     let s = start made in
     let d = subst (Says made) told.drawn2.given.1 made.draft.ensures in
     let p = d.1.1 in
-    text-lent _ _ _ _ s.pre.0.0 s.pre.0.1 d.0 d.1.0 p.within _ p.stands _ lent.lend-text.ensures
+    text_lent _ _ _ _ s.pre.0.0 s.pre.0.1 d.0 d.1.0 p.within _ p.stands _ lent.lend-text.ensures
 
-pub pact-in-spec : {M : Type 1} → statement M
-pact-in-spec =
+pub pact_in_spec : {M : Type 1} → statement M
+pact_in_spec =
     tie.close
     (tie.spec
     (λ c κs. search rules)
     (λ c. search rules)
     (λ c. search rules)
     (λ c. search rules)
-    root-there
+    root_there
     (λ c. search rules)
     faulty
     (λ c. search rules)
-    over-a-limit
+    over_a_limit
     (λ c. search rules)
     (λ c. search rules)
-    its-text)
+    its_text)

@@ -12,5 +12,5 @@ returns-2 c = rw c.before.before.why.given.1 c.stretch2.ensures
 returns-3 : tie.Need-returns-3
 returns-3 c = rw c.before.enum-told2.given.1 c.stretch3.ensures
 
-pub list-piece-spec : {M : Type 1} → statement M
-list-piece-spec = tie.close (tie.spec (λ c. search rules) (λ c κs. search rules) (λ c. search rules) (λ c κs. search rules) (λ c. search rules) (λ c κs. search rules) returns returns-2 returns-3)
+pub list_piece_spec : {M : Type 1} → statement M
+list_piece_spec = tie.close (tie.spec (λ c. search rules) (λ c κs. search rules) (λ c. search rules) (λ c κs. search rules) (λ c. search rules) (λ c κs. search rules) returns returns-2 returns-3)

@@ -12,5 +12,5 @@ returns-2 c = rw c.before.enum_told.given.1 c.stretch2.ensures
 returns-3 : tie.Need-returns-3
 returns-3 c = rw c.before.enum-told2.given.1 c.stretch3.ensures
 
-pub text-piece-spec : {M : Type 1} → statement M
-text-piece-spec = tie.close (tie.spec (λ c. search rules) (λ c κs. search rules) (λ c. search rules) (λ c κs. search rules) (λ c. search rules) (λ c κs. search rules) returns returns-2 returns-3)
+pub text_piece_spec : {M : Type 1} → statement M
+text_piece_spec = tie.close (tie.spec (λ c. search rules) (λ c κs. search rules) (λ c. search rules) (λ c κs. search rules) (λ c. search rules) (λ c κs. search rules) returns returns-2 returns-3)

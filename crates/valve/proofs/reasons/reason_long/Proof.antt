@@ -4,22 +4,22 @@ use Rattle.valve.proofs.reasons.reason_long.Statement.{statement}
 use Rattle.valve.proofs.reasons.reason_long.Tie as tie
 
 -- where text and list have been looked at
-abbrev looked-at : tie.After-reason-told-arg → tie.After-restrict-parts
-looked-at c = c.before.before.before.before.before
+abbrev looked_at : tie.After-reason-told-arg → tie.After-restrict-parts
+looked_at c = c.before.before.before.before.before
 
-answer-stands : tie.Need-reason-told-requires
-answer-stands c κs = (_, (looked-at c).restrict-parts.ensures)
+answer_stands : tie.Need-reason-told-requires
+answer_stands c κs = (_, (looked_at c).restrict-parts.ensures)
 
 explains : tie.Need-returns
-explains c = c.reason-told.ensures _ (looked-at c.before).restrict-parts.ensures
+explains c = c.reason-told.ensures _ (looked_at c.before).restrict-parts.ensures
 
-pub reason-long-spec : {M : Type 1} → statement M
-reason-long-spec =
+pub reason_long_spec : {M : Type 1} → statement M
+reason_long_spec =
     tie.close
     (tie.spec
     (λ c. search rules)
     (λ c κs. search rules)
     (λ c. search rules)
-    answer-stands
+    answer_stands
     (λ c. search rules)
     explains)

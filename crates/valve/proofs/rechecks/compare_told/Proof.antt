@@ -1,8 +1,8 @@
--- `valve::compare_told` meets its contract: the refusal of text or list (`not-passed`), or what is found by the root (`compare_by`), whose words the
+-- `valve::compare_told` meets its contract: the refusal of text or list (`not_passed`), or what is found by the root (`compare_by`), whose words the
 -- nodes have.
 use borrow.Author.Rules.{rules}
 use Rattle.reading.proofs.Stages.{rooted}
-use Rattle.valve.proofs.Compared.{not-passed}
+use Rattle.valve.proofs.Compared.{not_passed}
 use Rattle.valve.proofs.rechecks.compare_told.Statement.{statement}
 use Rattle.valve.proofs.rechecks.compare_told.Tie as tie
 
@@ -24,7 +24,7 @@ compares c text told =
 refuses : tie.Need-returns
 refuses c text told =
     let at-refusal : tie.After-restricted = c.before in
-    not-passed _ _ _ _ _ _ told at-refusal.restricted.given.1
+    not_passed _ _ _ _ _ _ told at-refusal.restricted.given.1
 
-pub compare-told-spec : {M : Type 1} → statement M
-compare-told-spec = tie.close (tie.spec (λ c. search rules) (λ c. search rules) root_stands refuses compares)
+pub compare_told_spec : {M : Type 1} → statement M
+compare_told_spec = tie.close (tie.spec (λ c. search rules) (λ c. search rules) root_stands refuses compares)

@@ -1,10 +1,10 @@
 -- `valve::recheck` meets its contract: what was found of the new entry is right of any earlier answer, and so of this one.
 use mathlib.Core.Path.{◌≡◌, sym, ap, ◌∙◌}
 use borrow.Author.Rules.{rules}
-use Rattle.paper.specs.Answers.{judgementSays}
-use Rattle.paper.specs.Rechecking.{recheckAnswer}
+use Rattle.paper.specs.Answers.{judgement_says}
+use Rattle.paper.specs.Rechecking.{recheck_answer}
 use Rattle.valve.specs.declared.rechecks.Beside.{Beside}
-use Rattle.valve.specs.Beside.{besideSays}
+use Rattle.valve.specs.Beside.{beside_says}
 use Rattle.valve.proofs.rechecks.recheck.Statement.{statement}
 use Rattle.valve.proofs.rechecks.recheck.Tie as tie
 
@@ -13,12 +13,12 @@ abbrev start : tie.After-compare → tie.Start
 start c = c.before.before.before.before.before
 
 found : (c : tie.After-compare) {b : Beside} → c.compare.result ≡ b
-    → besideSays (judgementSays (start c).args.earlier) b
-    ≡ recheckAnswer (start c).args.text.now (start c).args.list.now (start c).args.old.now (judgementSays (start c).args.earlier) (start c).args.new.now
-found c e = let earlier = judgementSays (start c).args.earlier in ap (besideSays earlier) (sym e) ∙ c.compare.ensures earlier
+    → beside_says (judgement_says (start c).args.earlier) b
+    ≡ recheck_answer (start c).args.text.now (start c).args.list.now (start c).args.old.now (judgement_says (start c).args.earlier) (start c).args.new.now
+found c e = let earlier = judgement_says (start c).args.earlier in ap (beside_says earlier) (sym e) ∙ c.compare.ensures earlier
 
-pub recheck-spec : {M : Type 1} → statement M
-recheck-spec =
+pub recheck_spec : {M : Type 1} → statement M
+recheck_spec =
     tie.close
     (tie.spec
     (λ c κs. search rules)

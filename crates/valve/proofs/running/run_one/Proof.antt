@@ -1,5 +1,5 @@
--- `valve::run_one` meets its contract: 19 of an entry of another length (`wrong-length`); else its byte and steps, which are those of its run
--- (`alone`), tell the verdict (`told`), or the entry does not conform, and its check tells why (`entry-refused`).
+-- `valve::run_one` meets its contract: 19 of an entry of another length (`wrong_length`); else its byte and steps, which are those of its run
+-- (`alone`), tell the verdict (`told`), or the entry does not conform, and its check tells why (`entry_refused`).
 use Prim.Native.Nat.{ℕ}
 use native.Mathlib.Omega.{arith}
 use mathlib.Core.Path.{sym, ap, ◌∙◌}
@@ -7,8 +7,8 @@ use mathlib.Core.Bool.{true, false}
 use mathlib.Core.List.{List}
 use lib.ListN.{get_or}
 use borrow.Author.Rules.{rules}
-use Rattle.paper.specs.Answers.{checkingSays}
-use Rattle.valve.proofs.Runs.{wrong-length, Alone, alone, told, not-conforming, entry-refused, just-one}
+use Rattle.paper.specs.Answers.{checking_says}
+use Rattle.valve.proofs.Runs.{wrong_length, Alone, alone, told, not_conforming, entry_refused, just_one}
 use Rattle.valve.proofs.running.run_one.Statement.{statement}
 use Rattle.valve.proofs.running.run_one.Tie as tie
 
@@ -28,12 +28,12 @@ judged c = c.before.before
 abbrev begun : tie.After-answer2 → tie.Start
 begun c = start (sized (fitting c))
 
-another-length : tie.Need-returns
-another-length c =
+another_length : tie.Need-returns
+another_length c =
     let z : tie.After-entry-size = c.before in
     let s = start z in
     let a = s.args in
-    wrong-length a.list.now a.blocks.now s.pre.0 s.pre.1 a.entry.now z.entry-size.result z.entry-size.ensures c.if1.true
+    wrong_length a.list.now a.blocks.now s.pre.0 s.pre.1 a.entry.now z.entry_size.result z.entry_size.ensures c.if1.true
 
 -- there is one answer, for one entry
 room : tie.Need-run-each-requires
@@ -43,7 +43,7 @@ room c κs =
     let s = start z in
     let a = s.args in
     let one =
-    just-one a.list.now a.blocks.now s.pre.0 s.pre.1 a.entry.now z.entry-size.result z.entry-size.ensures fits.if1.false
+    just_one a.list.now a.blocks.now s.pre.0 s.pre.1 a.entry.now z.entry_size.result z.entry_size.ensures fits.if1.false
     in
     (s.pre.0, (s.pre.1, omega (arith, one)))
 
@@ -57,13 +57,13 @@ Told c =
     let a = s.args in
     Alone a.list.now a.blocks.now s.pre.0 s.pre.1 a.entry.now (get_or (after c) 0 0) c.before.run-each.result
 
-told-there : (c : tie.After-answer2) → Told c
-told-there c =
+told_there : (c : tie.After-answer2) → Told c
+told_there c =
     let s = begun c in
     let a = s.args in
     let z = sized (fitting c) in
     let run = c.before.run-each in
-    alone a.list.now a.blocks.now s.pre.0 s.pre.1 a.entry.now z.entry-size.result z.entry-size.ensures (fitting c).if1.false
+    alone a.list.now a.blocks.now s.pre.0 s.pre.1 a.entry.now z.entry_size.result z.entry_size.ensures (fitting c).if1.false
     0 (after c) run.result run.ensures.0 run.ensures.1
 
 accepts : tie.Need-returns-2
@@ -71,14 +71,14 @@ accepts c =
     let j : tie.After-answer2 = c.before in
     let s = begun j in
     let a = s.args in
-    told a.list.now a.blocks.now s.pre.0 s.pre.1 a.entry.now true (told-there j) c.if2.true
+    told a.list.now a.blocks.now s.pre.0 s.pre.1 a.entry.now true (told_there j) c.if2.true
 
 violates : tie.Need-returns-3
 violates c =
     let j : tie.After-answer2 = c.before.before in
     let s = begun j in
     let a = s.args in
-    told a.list.now a.blocks.now s.pre.0 s.pre.1 a.entry.now false (told-there j) c.if3.true
+    told a.list.now a.blocks.now s.pre.0 s.pre.1 a.entry.now false (told_there j) c.if3.true
 
 -- where it has neither byte
 checked : tie.Need-returns-4
@@ -86,8 +86,8 @@ checked c =
     let looked : tie.After-check-entry = c.before.before.before in
     let s = begun (judged looked.before) in
     let a = s.args in
-    entry-refused a.list.now a.blocks.now s.pre.0 s.pre.1 a.entry.now
-    (sym looked.check-entry.ensures ∙ ap checkingSays c.before.number.given.1)
+    entry_refused a.list.now a.blocks.now s.pre.0 s.pre.1 a.entry.now
+    (sym looked.check-entry.ensures ∙ ap checking_says c.before.number.given.1)
 
 never : tie.Need-returns-5
 never c =
@@ -97,15 +97,15 @@ never c =
     let s = begun j in
     let a = s.args in
     absurd
-    (not-conforming a.list.now a.blocks.now s.pre.0 s.pre.1 a.entry.now (told-there j) neither.before.if2.false neither.if3.false
-    (sym looked.check-entry.ensures ∙ ap checkingSays c.enum_told.given.1))
+    (not_conforming a.list.now a.blocks.now s.pre.0 s.pre.1 a.entry.now (told_there j) neither.before.if2.false neither.if3.false
+    (sym looked.check-entry.ensures ∙ ap checking_says c.enum_told.given.1))
 
-pub run-one-spec : {M : Type 1} → statement M
-run-one-spec =
+pub run_one_spec : {M : Type 1} → statement M
+run_one_spec =
     tie.close
     (tie.spec
     (λ c κs. search rules)
-    another-length
+    another_length
     (λ c. search rules)
     room
     (λ c. search rules)

@@ -12,24 +12,24 @@ start c = c.before.before.before.before.before
 abbrev sized : tie.After-run-each-arg → tie.After-entry-size
 sized c = c.before.before.before
 
-entry-cut : tie.Need-returns
-entry-cut c =
+entry_cut : tie.Need-returns
+entry_cut c =
     let z : tie.After-entry-size = c.before in
     let s = start z in
     let a = s.args in
-    cut a.list.now a.blocks.now s.pre.0 s.pre.1 a.entries.now a.answers.now z.entry-size.result z.entry-size.ensures c.if1.true
+    cut a.list.now a.blocks.now s.pre.0 s.pre.1 a.entries.now a.answers.now z.entry_size.result z.entry_size.ensures c.if1.true
 
-answers-missing : tie.Need-returns-2
-answers-missing c =
+answers_missing : tie.Need-returns-2
+answers_missing c =
     let z : tie.After-entry-size = c.before.before in
     let s = start z in
     let a = s.args in
-    too_few a.list.now a.blocks.now s.pre.0 s.pre.1 a.entries.now a.answers.now z.entry-size.result z.entry-size.ensures
+    too_few a.list.now a.blocks.now s.pre.0 s.pre.1 a.entries.now a.answers.now z.entry_size.result z.entry_size.ensures
     c.before.if1.false c.if2.true
 
 -- there is an answer for each
-answers-there : tie.Need-run-each-requires
-answers-there c κs =
+answers_there : tie.Need-run-each-requires
+answers_there c κs =
     let z = sized c in
     let s = start z in
     let a = s.args in
@@ -38,13 +38,13 @@ answers-there c κs =
       s.pre.0,
       (
         s.pre.1,
-        room a.list.now a.blocks.now s.pre.0 s.pre.1 a.entries.now a.answers.now z.entry-size.result z.entry-size.ensures
+        room a.list.now a.blocks.now s.pre.0 s.pre.1 a.entries.now a.answers.now z.entry_size.result z.entry_size.ensures
             whole enough,
       ),
     )
 
-each-told : tie.Need-returns-3
-each-told c =
+each_told : tie.Need-returns-3
+each_told c =
     let asked : tie.After-run-each-arg = c.before.before.before in
     let run = c.before.before.run-each in
     let z = sized asked in
@@ -52,18 +52,18 @@ each-told c =
     let a = s.args in
     let whole = asked.before.before.if1.false in
     let enough = asked.before.if2.false in
-    ran a.list.now a.blocks.now s.pre.0 s.pre.1 a.entries.now a.answers.now z.entry-size.result z.entry-size.ensures
+    ran a.list.now a.blocks.now s.pre.0 s.pre.1 a.entries.now a.answers.now z.entry_size.result z.entry_size.ensures
     whole enough run.result _ run.ensures.0 run.ensures.1
 
-pub run-table-spec : {M : Type 1} → statement M
-run-table-spec =
+pub run_table_spec : {M : Type 1} → statement M
+run_table_spec =
     tie.close
     (tie.spec
     (λ c κs. search rules)
-    (λ c. omega (arith, c.entry-size.ensures))
-    entry-cut
-    (λ c. omega (arith, c.before.entry-size.ensures))
-    answers-missing
-    answers-there
+    (λ c. omega (arith, c.entry_size.ensures))
+    entry_cut
+    (λ c. omega (arith, c.before.entry_size.ensures))
+    answers_missing
+    answers_there
     (λ c. search rules)
-    each-told)
+    each_told)

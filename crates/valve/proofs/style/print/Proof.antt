@@ -7,24 +7,24 @@ use Rattle.valve.proofs.style.print.Statement.{statement}
 use Rattle.valve.proofs.style.print.Tie as tie
 
 -- where it is answered; from there where it was tried; and from there that the text is not too long
-abbrev answered-at : tie.After-print-told-arg → tie.After-tried
-answered-at c = c.before.before.before
+abbrev answered_at : tie.After-print-told-arg → tie.After-tried
+answered_at c = c.before.before.before
 
-abbrev tried-at : tie.After-tried → tie.After-try-tree
-tried-at c = c.before.before.before
+abbrev tried_at : tie.After-tried → tie.After-try-tree
+tried_at c = c.before.before.before
 
-abbrev few-at : tie.After-try-tree → tie.Else1
-few-at c = c.before.before
+abbrev few_at : tie.After-try-tree → tie.Else1
+few_at c = c.before.before
 
-answer-stands : tie.Need-print-told-requires
-answer-stands c κs =
-    let at-answer = answered-at c in
-    let at-try = tried-at at-answer in
+answer_stands : tie.Need-print-told-requires
+answer_stands c κs =
+    let at-answer = answered_at c in
+    let at-try = tried_at at-answer in
     let t = at-try.try-tree in
-    ((few-at at-try).if1.left, answered _ t.result t.ensures at-answer.tried.given.1)
+    ((few_at at-try).if1.left, answered _ t.result t.ensures at-answer.tried.given.1)
 
-pub print-spec : {M : Type 1} → statement M
-print-spec =
+pub print_spec : {M : Type 1} → statement M
+print_spec =
     tie.close
     (tie.spec
     (λ c. too_long _ _ c.if1.true)
@@ -36,6 +36,6 @@ print-spec =
     (λ c. search rules)
     (λ c. search rules)
     (λ c. search rules)
-    answer-stands
+    answer_stands
     (λ c. search rules)
     (λ c. search rules))

@@ -10,18 +10,18 @@ read_at c = c.before.before.before
 abbrev start : tie.After-read-tree → tie.Start
 start c = c.before.before.before.before
 
-answer-stands : tie.Need-print-told-requires
-answer-stands c κs =
+answer_stands : tie.Need-print-told-requires
+answer_stands c κs =
     let at_read = read_at c in
     ((start at_read).pre, at_read.read-tree.ensures)
 
-pub print-long-spec : {M : Type 1} → statement M
-print-long-spec =
+pub print_long_spec : {M : Type 1} → statement M
+print_long_spec =
     tie.close
     (tie.spec
     (λ c. search rules)
     (λ c κs. search rules)
     (λ c. search rules)
-    answer-stands
+    answer_stands
     (λ c. search rules)
     (λ c. search rules))

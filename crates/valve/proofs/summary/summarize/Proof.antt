@@ -6,26 +6,26 @@ use Rattle.valve.proofs.summary.summarize.Statement.{statement}
 use Rattle.valve.proofs.summary.summarize.Tie as tie
 
 -- where it is answered; and from there where it was tried
-abbrev answered-at : tie.After-nodes3 → tie.After-tried
-answered-at c = c.before.before
+abbrev answered_at : tie.After-nodes3 → tie.After-tried
+answered_at c = c.before.before
 
-abbrev tried-at : tie.After-tried → tie.After-try-restrict
-tried-at c = c.before.before.before
+abbrev tried_at : tie.After-tried → tie.After-try-restrict
+tried_at c = c.before.before.before
 
-answer-stands : tie.Need-summarize-told-requires
-answer-stands c κs =
-    let at-answer = answered-at c in
-    let t = (tried-at at-answer).try-restrict in
+answer_stands : tie.Need-summarize-told-requires
+answer_stands c κs =
+    let at-answer = answered_at c in
+    let t = (tried_at at-answer).try-restrict in
     (_, (_, answered _ t.result t.ensures at-answer.tried.given.1))
 
 sums : tie.Need-returns-2
 sums c =
-    let at-answer = answered-at c.before in
-    let t = (tried-at at-answer).try-restrict in
+    let at-answer = answered_at c.before in
+    let t = (tried_at at-answer).try-restrict in
     c.summarize-told.ensures _ _ (answered _ t.result t.ensures at-answer.tried.given.1)
 
-pub summarize-spec : {M : Type 1} → statement M
-summarize-spec =
+pub summarize_spec : {M : Type 1} → statement M
+summarize_spec =
     tie.close
     (tie.spec
     (λ c. search rules)
@@ -35,5 +35,5 @@ summarize-spec =
     (λ c κs. search rules)
     (λ c. search rules)
     (λ c. search rules)
-    answer-stands
+    answer_stands
     sums)

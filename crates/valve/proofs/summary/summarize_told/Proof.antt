@@ -1,8 +1,8 @@
--- `valve::summarize_told` meets its contract: the refusal of text or list (`not-passed`), or what the tree at the root names (`summed-up`), whose
+-- `valve::summarize_told` meets its contract: the refusal of text or list (`not_passed`), or what the tree at the root names (`summed_up`), whose
 -- words the nodes have.
 use borrow.Author.Rules.{rules}
-use Rattle.reading.proofs.Stages.{rooted, root-known}
-use Rattle.valve.proofs.Summaries.{not-passed, summed-up}
+use Rattle.reading.proofs.Stages.{rooted, root_known}
+use Rattle.valve.proofs.Summaries.{not_passed, summed_up}
 use Rattle.valve.proofs.summary.summarize_told.Statement.{statement}
 use Rattle.valve.proofs.summary.summarize_told.Tie as tie
 
@@ -19,12 +19,12 @@ sums : tie.Need-returns-2
 sums c text list told =
     let at-root : tie.After-restricted2 = c.before.before in
     let r = rooted _ _ _ _ told at-root.restricted2.given.1 in
-    summed-up _ _ _ _ r c.summary-at.result (c.summary-at.ensures _ _ (root-known _ _ _ _ r))
+    summed_up _ _ _ _ r c.summary-at.result (c.summary-at.ensures _ _ (root_known _ _ _ _ r))
 
 refuses : tie.Need-returns
 refuses c text list told =
     let at-refusal : tie.After-restricted = c.before in
-    not-passed _ _ _ _ told at-refusal.restricted.given.1
+    not_passed _ _ _ _ told at-refusal.restricted.given.1
 
-pub summarize-told-spec : {M : Type 1} → statement M
-summarize-told-spec = tie.close (tie.spec (λ c. search rules) (λ c. search rules) root_stands refuses sums)
+pub summarize_told_spec : {M : Type 1} → statement M
+summarize_told_spec = tie.close (tie.spec (λ c. search rules) (λ c. search rules) root_stands refuses sums)

@@ -4,11 +4,11 @@ use Rattle.valve.proofs.text.check_long.Statement.{statement}
 use Rattle.valve.proofs.text.check_long.Tie as tie
 
 -- where text and list have been looked at
-abbrev looked-at : tie.After-check-told → tie.After-restrict
-looked-at c = c.before.before
+abbrev looked_at : tie.After-check-told → tie.After-restrict
+looked_at c = c.before.before
 
 checks : tie.Need-returns
-checks c = c.check-told.ensures _ _ _ (looked-at c).restrict.ensures
+checks c = c.check_told.ensures _ _ _ (looked_at c).restrict.ensures
 
-pub check-long-spec : {M : Type 1} → statement M
-check-long-spec = tie.close (tie.spec (λ c. search rules) (λ c κs. search rules) (λ c κs. search rules) checks)
+pub check_long_spec : {M : Type 1} → statement M
+check_long_spec = tie.close (tie.spec (λ c. search rules) (λ c κs. search rules) (λ c κs. search rules) checks)

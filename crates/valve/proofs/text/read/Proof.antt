@@ -7,21 +7,21 @@ use Rattle.valve.proofs.text.read.Statement.{statement}
 use Rattle.valve.proofs.text.read.Tie as tie
 
 -- where it is answered; from there where it was tried; and from there that the text is not too long
-abbrev answered-at : tie.After-read-told → tie.After-tried
-answered-at c = c.before.before
+abbrev answered_at : tie.After-read-told → tie.After-tried
+answered_at c = c.before.before
 
-abbrev tried-at : tie.After-tried → tie.After-try-tree
-tried-at c = c.before.before.before
+abbrev tried_at : tie.After-tried → tie.After-try-tree
+tried_at c = c.before.before.before
 
-abbrev few-at : tie.After-try-tree → tie.Else1
-few-at c = c.before.before
+abbrev few_at : tie.After-try-tree → tie.Else1
+few_at c = c.before.before
 
 reads : tie.Need-returns-3
 reads c =
-    let at-answer = answered-at c in
-    let at-try = tried-at at-answer in
+    let at-answer = answered_at c in
+    let at-try = tried_at at-answer in
     let t = at-try.try-tree in
-    c.read_told.ensures _ _ (few-at at-try).if1.left (answered _ t.result t.ensures at-answer.tried.given.1)
+    c.read_told.ensures _ _ (few_at at-try).if1.left (answered _ t.result t.ensures at-answer.tried.given.1)
 
 pub read_spec : {M : Type 1} → statement M
 read_spec =

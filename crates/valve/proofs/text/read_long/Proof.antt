@@ -15,5 +15,5 @@ reads c =
     let at_read = read_at c in
     c.read_told.ensures _ _ (start at_read).pre at_read.read-tree.ensures
 
-pub read-long-spec : {M : Type 1} → statement M
-read-long-spec = tie.close (tie.spec (λ c. search rules) (λ c κs. search rules) (λ c κs. search rules) reads)
+pub read_long_spec : {M : Type 1} → statement M
+read_long_spec = tie.close (tie.spec (λ c. search rules) (λ c κs. search rules) (λ c κs. search rules) reads)

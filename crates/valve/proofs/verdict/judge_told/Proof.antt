@@ -1,8 +1,8 @@
--- `valve::judge_told` meets its contract: the refusal of text or list (`not-passed`), or the judgement by the root (`judge_by`), whose words the
+-- `valve::judge_told` meets its contract: the refusal of text or list (`not_passed`), or the judgement by the root (`judge_by`), whose words the
 -- nodes have.
 use borrow.Author.Rules.{rules}
 use Rattle.reading.proofs.Stages.{rooted}
-use Rattle.valve.proofs.Verdicts.{not-passed}
+use Rattle.valve.proofs.Verdicts.{not_passed}
 use Rattle.valve.proofs.verdict.judge_told.Statement.{statement}
 use Rattle.valve.proofs.verdict.judge_told.Tie as tie
 
@@ -24,7 +24,7 @@ judges c text told =
 refuses : tie.Need-returns
 refuses c text told =
     let at-refusal : tie.After-restricted = c.before in
-    not-passed _ _ _ _ _ told at-refusal.restricted.given.1
+    not_passed _ _ _ _ _ told at-refusal.restricted.given.1
 
-pub judge-told-spec : {M : Type 1} → statement M
-judge-told-spec = tie.close (tie.spec (λ c. search rules) (λ c. search rules) root_stands refuses judges)
+pub judge_told_spec : {M : Type 1} → statement M
+judge_told_spec = tie.close (tie.spec (λ c. search rules) (λ c. search rules) root_stands refuses judges)

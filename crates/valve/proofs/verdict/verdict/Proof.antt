@@ -4,5 +4,5 @@ use Rattle.paper.specs.Answers.{ok}
 use Rattle.valve.proofs.verdict.verdict.Statement.{statement}
 use Rattle.valve.proofs.verdict.verdict.Tie as tie
 
-pub verdict-spec : {M : Type 1} → statement M
-verdict-spec = tie.close (tie.spec (λ c. sym (ap ok c.if1.true)) (λ c. sym (ap ok c.if1.false)))
+pub verdict_spec : {M : Type 1} → statement M
+verdict_spec = tie.close (tie.spec (λ c. sym (ap ok c.if1.true)) (λ c. sym (ap ok c.if1.false)))

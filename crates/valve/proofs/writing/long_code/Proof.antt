@@ -13,5 +13,5 @@ code_fits c κs =
     let s = start c in
     (s.pre.0, (omega (arith, s.pre.1.1.typed.few), s.pre.1))
 
-pub long-code-spec : {M : Type 1} → statement M
-long-code-spec = tie.close (tie.spec (λ c. search rules) code_fits (λ c. search rules) (λ c. search rules))
+pub long_code_spec : {M : Type 1} → statement M
+long_code_spec = tie.close (tie.spec (λ c. search rules) code_fits (λ c. search rules) (λ c. search rules))

@@ -13,5 +13,5 @@ code_fits c κs =
     let s = start c in
     (s.pre.0.0, (omega arith, s.pre.1))
 
-pub short-code-spec : {M : Type 1} → statement M
-short-code-spec = tie.close (tie.spec (λ c. search rules) code_fits (λ c. search rules) (λ c. search rules))
+pub short_code_spec : {M : Type 1} → statement M
+short_code_spec = tie.close (tie.spec (λ c. search rules) code_fits (λ c. search rules) (λ c. search rules))

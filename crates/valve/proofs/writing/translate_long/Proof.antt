@@ -4,24 +4,24 @@ use Rattle.valve.proofs.writing.translate_long.Statement.{statement}
 use Rattle.valve.proofs.writing.translate_long.Tie as tie
 
 -- where text and list have been looked at
-abbrev looked-at : tie.After-translate-told-arg → tie.After-restrict
-looked-at c = c.before.before.before
+abbrev looked_at : tie.After-translate-told-arg → tie.After-restrict
+looked_at c = c.before.before.before
 
-answer-stands : tie.Need-translate-told-requires
-answer-stands c κs = (_, (looked-at c).restrict.ensures)
+answer_stands : tie.Need-translate-told-requires
+answer_stands c κs = (_, (looked_at c).restrict.ensures)
 
 translates : tie.Need-returns
 translates c =
     let done : tie.After-translate-told = c.before.before in
-    done.translate-told.ensures _ (looked-at done.before).restrict.ensures
+    done.translate-told.ensures _ (looked_at done.before).restrict.ensures
 
-pub translate-long-spec : {M : Type 1} → statement M
-translate-long-spec =
+pub translate_long_spec : {M : Type 1} → statement M
+translate_long_spec =
     tie.close
     (tie.spec
     (λ c. search rules)
     (λ c κs. search rules)
     (λ c. search rules)
-    answer-stands
+    answer_stands
     (λ c. search rules)
     translates)

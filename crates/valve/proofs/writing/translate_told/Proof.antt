@@ -1,7 +1,7 @@
 -- `valve::translate_told` meets its contract: the refusal of text or list, which leaves the buffer (`stopped`, `kept`), or the translation by the
 -- root (`translate_by`), whose words the nodes have.
 use borrow.Author.Rules.{rules}
-use Rattle.reading.proofs.Stages.{rooted, not-restricted}
+use Rattle.reading.proofs.Stages.{rooted, not_restricted}
 use Rattle.valve.proofs.Translates.{stopped, kept}
 use Rattle.valve.proofs.writing.translate_told.Statement.{statement}
 use Rattle.valve.proofs.writing.translate_told.Tie as tie
@@ -25,11 +25,11 @@ translates c text told =
 refuses : tie.Need-returns
 refuses c text told =
     let at-refusal : tie.After-restricted = c.before in
-    let e = not-restricted _ _ _ _ told at-refusal.restricted.given.1 in
+    let e = not_restricted _ _ _ _ told at-refusal.restricted.given.1 in
     record { says = stopped _ _ _ e; holds = kept _ _ _ e }
 
-pub translate-told-spec : {M : Type 1} → statement M
-translate-told-spec =
+pub translate_told_spec : {M : Type 1} → statement M
+translate_told_spec =
     tie.close
     (tie.spec
     (λ c. search rules)

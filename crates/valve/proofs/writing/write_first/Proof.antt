@@ -1,4 +1,4 @@
--- `valve::write_first` meets its contract: of the bytes of instructions, the blocks written are the paper's (`paper-blocks`).
+-- `valve::write_first` meets its contract: of the bytes of instructions, the blocks written are the paper's (`paper_blocks`).
 use Prim.Native.Nat.{ℕ, ◌*◌, ◌/◌}
 use native.Mathlib.Omega.{arith}
 use mathlib.Core.Path.{◌≡◌, sym, ap, ◌∙◌}
@@ -7,12 +7,12 @@ use lib.ListN.{length, take}
 use lib.Seq.{length-take-le}
 use borrow.Author.Rules.{rules}
 use Rattle.paper.specs.Calls.{over}
-use Rattle.blocks.proofs.Rows.{paper-blocks}
+use Rattle.blocks.proofs.Rows.{paper_blocks}
 use Rattle.valve.proofs.writing.write_first.Statement.{statement}
 use Rattle.valve.proofs.writing.write_first.Tie as tie
 
-mul-write-blocks : tie.Need-overflow-mul-write-blocks
-mul-write-blocks c = search rules
+mul_write_blocks : tie.Need-overflow-mul-write-blocks
+mul_write_blocks c = search rules
 
 slice-aggregate-write-blocks : tie.Need-slice-aggregate-write-blocks
 slice-aggregate-write-blocks c =
@@ -33,14 +33,14 @@ same_length c = search rules
 returns : tie.Need-returns
 returns c is e =
     let a = c.before.before.before.before.before.before.before.args in
-    let same = paper-blocks a.keys (take (a.n * 20) a.code.now) is e in
+    let same = paper_blocks a.keys (take (a.n * 20) a.code.now) is e in
     c.before.before.write-blocks.ensures ∙ ap (λ (b : List ℕ). over b a.buffer.now) same
 
-pub write-first-spec : {M : Type 1} → statement M
-write-first-spec =
+pub write_first_spec : {M : Type 1} → statement M
+write_first_spec =
     tie.close
     (tie.spec
-    mul-write-blocks
+    mul_write_blocks
     slice-aggregate-write-blocks
     write-blocks-requires
     same_length

@@ -10,8 +10,8 @@ invariant-loop nodes place right₀ right = Unit {0}
 abbrev decreases-loop : tie.decreases-loop
 decreases-loop nodes place right₀ right = 1024 - right
 
-pub find-sides-spec : {M : Type 1} → statement M
-find-sides-spec =
+pub find_sides_spec : {M : Type 1} → statement M
+find_sides_spec =
     tie.close
     (tie.spec
     invariant-loop

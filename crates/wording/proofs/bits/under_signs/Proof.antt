@@ -9,8 +9,8 @@ invariant-loop nodes i at₀ at = Unit {0}
 abbrev decreases-loop : tie.decreases-loop
 decreases-loop nodes i at₀ at = at
 
-pub under-signs-spec : {M : Type 1} → statement M
-under-signs-spec =
+pub under_signs_spec : {M : Type 1} → statement M
+under_signs_spec =
     tie.close
     (tie.spec
     invariant-loop

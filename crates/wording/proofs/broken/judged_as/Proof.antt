@@ -3,10 +3,10 @@ use borrow.Author.Rules.{rules}
 use Rattle.wording.proofs.broken.judged_as.Statement.{statement}
 use Rattle.wording.proofs.broken.judged_as.Tie as tie
 
-of-key : tie.Need-returns-2
-of-key c = rw c.before.why.given.1
+of_key : tie.Need-returns-2
+of_key c = rw c.before.why.given.1
 
-pub judged-as-spec : {M : Type 1} → statement M
-judged-as-spec =
+pub judged_as_spec : {M : Type 1} → statement M
+judged_as_spec =
     tie.close
-    (tie.spec (λ c. search rules) (λ c. search rules) (λ c. search rules) (λ c. search rules) of-key (λ c. search rules))
+    (tie.spec (λ c. search rules) (λ c. search rules) (λ c. search rules) (λ c. search rules) of_key (λ c. search rules))

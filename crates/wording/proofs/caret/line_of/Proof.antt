@@ -7,10 +7,10 @@ use native.Mathlib.Omega.{arith}
 use lib.ListN.{length, get_or, drop}
 use borrow.Author.Rules.{rules}
 use Rattle.paper.specs.Tokens.{span}
-use Rattle.spelling.specs.Runs.{inRun, EndsAt}
+use Rattle.spelling.specs.Runs.{in_run, EndsAt}
 use Rattle.spelling.specs.declared.runs.Run.TheVariants.{Line}
 use Rattle.wording.specs.Lines.{breaks}
-use Rattle.wording.proofs.Lines.{breaks-split, line-closed, line-counted}
+use Rattle.wording.proofs.Lines.{breaks_split, line_closed, line_counted}
 use Rattle.wording.proofs.caret.line_of.Statement.{statement}
 use Rattle.wording.proofs.caret.line_of.Tie as tie
 
@@ -18,28 +18,28 @@ abbrev invariant-loop : tie.invariant-loop
 invariant-loop text at number₀ from₀ to₀ number from to =
     (from ≤ at)
     × ((from ≡ 0) ⊎ (get_or text (from - 1) 0 ≡ 10))
-    × EndsAt text from (span (inRun Line) (drop from text)) to
+    × EndsAt text from (span (in_run Line) (drop from text)) to
     × (number ≤ from + 1)
     × (number + breaks (drop from text) ≡ suc (breaks text))
 
 abbrev decreases-loop : tie.decreases-loop
 decreases-loop text at number₀ from₀ to₀ number from to = at - to
 
-loop-holds : tie.Need-loop-init invariant-loop decreases-loop
-loop-holds c = (search rules, inl refl, c.run-end.ensures, search rules, search rules)
+loop_holds : tie.Need-loop-init invariant-loop decreases-loop
+loop_holds c = (search rules, inl refl, c.run-end.ensures, search rules, search rules)
 
-loop-less : tie.Need-loop-smaller invariant-loop decreases-loop
-loop-less c = omega (arith, c.run-end2.ensures.far)
+loop_less : tie.Need-loop-smaller invariant-loop decreases-loop
+loop_less c = omega (arith, c.run-end2.ensures.far)
 
-loop-again : tie.Need-loop-preserved invariant-loop decreases-loop
-loop-again c =
+loop_again : tie.Need-loop-preserved invariant-loop decreases-loop
+loop_again c =
     let l = c.before.before.loop in
     let text = c.before.before.before.before.before.args.text.now in (
       search rules,
-      inr (line-closed text l.from l.to l.invariant.2 (search rules)),
+      inr (line_closed text l.from l.to l.invariant.2 (search rules)),
       c.run-end2.ensures,
       search rules,
-      omega (arith, line-counted text l.from l.to l.invariant.2 (search rules), l.invariant.4),
+      omega (arith, line_counted text l.from l.to l.invariant.2 (search rules), l.invariant.4),
     )
 
 returns : tie.Need-returns invariant-loop decreases-loop
@@ -52,20 +52,20 @@ returns c =
       ends = i.2;
       before = i.0;
       past = search rules;
-      counted = omega (arith, breaks-split l.from text, i.4);
+      counted = omega (arith, breaks_split l.from text, i.4);
     }
 
-pub line-of-spec : {M : Type 1} → statement M
-line-of-spec =
+pub line_of_spec : {M : Type 1} → statement M
+line_of_spec =
     tie.close
     (tie.spec
     invariant-loop
     decreases-loop
     (λ c κs. search rules)
-    loop-holds
+    loop_holds
     (λ c. search rules)
     (λ c. search rules)
     (λ c κs. search rules)
-    loop-less
-    loop-again
+    loop_less
+    loop_again
     returns)

@@ -10,8 +10,8 @@ invariant-loop text from to i₀ i = Unit {0}
 abbrev decreases-loop : tie.decreases-loop
 decreases-loop text from to i₀ i = to - i
 
-pub say-bytes-spec : {M : Type 1} → statement M
-say-bytes-spec =
+pub say_bytes_spec : {M : Type 1} → statement M
+say_bytes_spec =
     tie.close
     (tie.spec
     invariant-loop

@@ -29,8 +29,8 @@ returns-4 c =
     let n = length c.before.before.before.before.args.text.now in
     (rw (past c.before.before.before, ne_eqb _ _ c.if3.false) (sym (sub-zero n)), search rules)
 
-pub seen-at-spec : {M : Type 1} → statement M
-seen-at-spec =
+pub seen_at_spec : {M : Type 1} → statement M
+seen_at_spec =
     tie.close
     (tie.spec
     returns

@@ -22,5 +22,5 @@ returns-4 c =
     let b = c.before.before.before.args.byte in
     rw (ne_eqb _ _ c.before.before.if1.false, le-leb 32 b (omega arith), lt-leb b 126 (omega arith))
 
-pub shown-as-spec : {M : Type 1} → statement M
-shown-as-spec = tie.close (tie.spec returns returns-2 returns-3 returns-4)
+pub shown_as_spec : {M : Type 1} → statement M
+shown_as_spec = tie.close (tie.spec returns returns-2 returns-3 returns-4)

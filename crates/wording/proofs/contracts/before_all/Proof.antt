@@ -11,8 +11,8 @@ invariant-loop contract before₀ i₀ before i = i ≤ length contract
 abbrev decreases-loop : tie.decreases-loop
 decreases-loop contract before₀ i₀ before i = length contract - i
 
-pub before-all-spec : {M : Type 1} → statement M
-before-all-spec =
+pub before_all_spec : {M : Type 1} → statement M
+before_all_spec =
     tie.close
     (tie.spec
     invariant-loop

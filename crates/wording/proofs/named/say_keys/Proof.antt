@@ -10,8 +10,8 @@ invariant-loop list set n rest₀ k₀ t6 t7 rest k = k ≤ n
 abbrev decreases-loop : tie.decreases-loop
 decreases-loop list set n rest₀ k₀ t6 t7 rest k = n - k
 
-pub say-keys-spec : {M : Type 1} → statement M
-say-keys-spec =
+pub say_keys_spec : {M : Type 1} → statement M
+say_keys_spec =
     tie.close
     (tie.spec
     invariant-loop

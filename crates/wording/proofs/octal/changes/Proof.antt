@@ -21,14 +21,14 @@ within c = c.before.before.before
 abbrev given : tie.Else1 invariant-loop decreases-loop → tie.Start invariant-loop decreases-loop
 given c = c.before.before.before.before.before
 
-made-within : tie.Need-run-end-requires-2 invariant-loop decreases-loop
-made-within c κs =
+made_within : tie.Need-run-end-requires-2 invariant-loop decreases-loop
+made_within c κs =
     let there = within c.before in
     let fits : there.before.before.loop.to ≤ length (given there).args.made.now = omega (arith, there.if1.left) in
     fits
 
-pub changes-spec : {M : Type 1} → statement M
-changes-spec =
+pub changes_spec : {M : Type 1} → statement M
+changes_spec =
     tie.close
     (tie.spec
     invariant-loop
@@ -42,7 +42,7 @@ changes-spec =
     (λ c. search rules)
     (λ c. search rules)
     (λ c κs. search rules)
-    made-within
+    made_within
     (λ c. search rules)
     (λ c. search rules)
     (λ c. search rules)

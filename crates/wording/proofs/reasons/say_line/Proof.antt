@@ -11,8 +11,8 @@ invariant-loop table n from₀ left₀ from left = from ≤ length table
 abbrev decreases-loop : tie.decreases-loop
 decreases-loop table n from₀ left₀ from left = left
 
-pub say-line-spec : {M : Type 1} → statement M
-say-line-spec =
+pub say_line_spec : {M : Type 1} → statement M
+say_line_spec =
     tie.close
     (tie.spec
     invariant-loop

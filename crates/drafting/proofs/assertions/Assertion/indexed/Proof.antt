@@ -7,15 +7,15 @@ use Rattle.drafting.proofs.assertions.Assertion.indexed.Tie as tie
 returns : tie.Need-returns
 returns c = rw (le-ltb _ _ c.if1.true)
 
-of-users : tie.Need-returns-2
-of-users c =
+of_users : tie.Need-returns-2
+of_users c =
     let load : tie.After-enum-told = c.before in
     rw (load.enum_told.given.1, lt-ltb _ _ load.before.before.if1.false)
 
-of-names : tie.Need-returns-3
-of-names c =
+of_names : tie.Need-returns-3
+of_names c =
     let load : tie.After-enum-told2 = c.before in
     rw (load.enum-told2.given.1, lt-ltb _ _ load.before.before.if1.false)
 
-pub indexed-spec : {M : Type 1} → statement M
-indexed-spec = tie.close (tie.spec returns (λ c. search rules) (λ c. search rules) of-users of-names)
+pub indexed_spec : {M : Type 1} → statement M
+indexed_spec = tie.close (tie.spec returns (λ c. search rules) (λ c. search rules) of_users of_names)

@@ -1,12 +1,12 @@
 -- `drafting::fronts::Front::with_assertion` meets its contract: the assertion is the first of all, or begins a clause and closes the one before it,
--- or goes on with that (`begins-all`, `closes`, `goes_on`).
+-- or goes on with that (`begins_all`, `closes`, `goes_on`).
 use Prim.Native.Nat.{ℕ}
 use native.Mathlib.Omega.{arith}
 use mathlib.Core.List.{List}
 use borrow.Author.Rules.{rules}
 use Rattle.paper.specs.Pact.{Assertion}
-use Rattle.drafting.specs.Assertions.{assertionMeant}
-use Rattle.drafting.proofs.Clauses.{is-closable, room-behind, linkable, begins-all, all_closed, closes, goes_on}
+use Rattle.drafting.specs.Assertions.{assertion_meant}
+use Rattle.drafting.proofs.Clauses.{is_closable, room_behind, linkable, begins_all, all_closed, closes, goes_on}
 use Rattle.drafting.proofs.fronts.Front.with_assertion.Statement.{statement}
 use Rattle.drafting.proofs.fronts.Front.with_assertion.Tie as tie
 
@@ -18,8 +18,8 @@ given c = c.before.before.before
 abbrev start : tie.After-clause → tie.Start
 start c = given c.before.before
 
-abbrev start-of-all : tie.After-enum-told → tie.Start
-start-of-all c = given c.before.before
+abbrev start_of_all : tie.After-enum-told → tie.Start
+start_of_all c = given c.before.before
 
 -- its list, its table, its nodes and its assertion
 module _ (s : tie.Start) where
@@ -33,14 +33,14 @@ module _ (s : tie.Start) where
   ns = s.args.nodes.now
 
   abbrev a : Assertion
-  a = assertionMeant s.args.a
+  a = assertion_meant s.args.a
 
-first-of-all : tie.Need-returns
-first-of-all c f h =
+first_of_all : tie.Need-returns
+first_of_all c f h =
     let put : tie.After-put-assertion = c.before.before.before in
     let told : tie.After-enum-told = put.before.before in
-    let s = start-of-all told in
-    rw c.at.ensures (begins-all (list s) (table s) (ns s) s.args.self f h (a s) told.enum_told.given.1 _ _ put.put-assertion.ensures)
+    let s = start_of_all told in
+    rw c.at.ensures (begins_all (list s) (table s) (ns s) s.args.self f h (a s) told.enum_told.given.1 _ _ put.put-assertion.ensures)
 
 -- a clause is closed, and another one begins
 
@@ -48,15 +48,15 @@ first-of-all c f h =
 abbrev ended : tie.After-enum-told2 → tie.After-clause
 ended c = c.before.before.before
 
-can-close : tie.Need-put-closed-requires
-can-close c κs =
+can_close : tie.Need-put-closed-requires
+can_close c κs =
     let found = ended c.before in
     let s = start found in
     let r = s.pre.1 in
-    is-closable (list s) (table s) (ns s) s.args.self r.front r.stands r.room _ found.clause.given.1
+    is_closable (list s) (table s) (ns s) s.args.self r.front r.stands r.room _ found.clause.given.1
 
-can-begin : tie.Need-put-assertion-requires-2
-can-begin c κs =
+can_begin : tie.Need-put-assertion-requires-2
+can_begin c κs =
     let closed : tie.After-put-closed = c.before.before.before in
     let found = ended closed.before.before in
     let s = start found in
@@ -64,8 +64,8 @@ can-begin c κs =
     let g = all_closed (list s) (table s) (ns s) s.args.self r.front r.stands _ found.clause.given.1 (closed.put-closed.ensures (list s)) in
     (s.pre.0, (omega (arith, g.holds.room, g.kept, r.room), omega (arith, g.holds.room)))
 
-begins-another : tie.Need-returns-2
-begins-another c f h =
+begins_another : tie.Need-returns-2
+begins_another c f h =
     let begun : tie.After-put-assertion2 = c.before.before.before in
     let closed : tie.After-put-closed = begun.before.before.before.before in
     let told : tie.After-enum-told2 = closed.before.before in
@@ -81,15 +81,15 @@ begins-another c f h =
 abbrev linked_to : tie.After-link → tie.After-clause
 linked_to c = c.before.before.before
 
-can-follow : tie.Need-put-assertion-requires-3
-can-follow c κs =
+can_follow : tie.Need-put-assertion-requires-3
+can_follow c κs =
     let found = linked_to c.before.before in
     let s = start found in
     let r = s.pre.1 in
-    (s.pre.0, room-behind (list s) (table s) (ns s) s.args.self r.front r.stands _ found.clause.given.1 r.room)
+    (s.pre.0, room_behind (list s) (table s) (ns s) s.args.self r.front r.stands _ found.clause.given.1 r.room)
 
-can-link : tie.Need-put-link-requires
-can-link c κs =
+can_link : tie.Need-put-link-requires
+can_link c κs =
     let next : tie.After-put-assertion3 = c.before.before.before in
     let found = linked_to next.before.before.before in
     let s = start found in
@@ -107,8 +107,8 @@ follows c f h =
     (goes_on (list s) (table s) (ns s) s.args.self f h (a s) _ found.clause.given.1 waits.link.given.1
     next.put-assertion3.ensures (linked.put-link.ensures (list s)))
 
-pub with-assertion-spec : {M : Type 1} → statement M
-with-assertion-spec =
+pub with_assertion_spec : {M : Type 1} → statement M
+with_assertion_spec =
     tie.close
     (tie.spec
     (λ c. search rules)
@@ -116,16 +116,16 @@ with-assertion-spec =
     (λ c κs. search rules)
     (λ c κs. search rules)
     (λ c. search rules)
-    first-of-all
+    first_of_all
     (λ c. search rules)
-    can-close
-    can-begin
+    can_close
+    can_begin
     (λ c κs. search rules)
     (λ c. search rules)
-    can-follow
-    can-link
+    can_follow
+    can_link
     (λ c κs. search rules)
     (λ c. search rules)
-    begins-another
+    begins_another
     (λ c. search rules)
     follows)

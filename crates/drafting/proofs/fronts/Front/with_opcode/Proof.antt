@@ -2,7 +2,7 @@
 use mathlib.Core.Path.{refl}
 use mathlib.Core.Option.{some}
 use borrow.Author.Rules.{rules}
-use Rattle.drafting.specs.Opcodes.{comparatorMeant}
+use Rattle.drafting.specs.Opcodes.{comparator_meant}
 use Rattle.drafting.proofs.fronts.Front.with_opcode.Statement.{statement}
 use Rattle.drafting.proofs.fronts.Front.with_opcode.Tie as tie
 
@@ -11,7 +11,7 @@ compares c list table ns at f h =
     let told : tie.After-opcode = c.before in
     let o = told.opcode.given.0.0 in
     rw told.opcode.given.1 (
-      record { closed = f.closed; clause = f.clause; conjunction = f.conjunction; comparator = some (comparatorMeant o) },
+      record { closed = f.closed; clause = f.clause; conjunction = f.conjunction; comparator = some (comparator_meant o) },
       (refl, record { closed = h.closed; clause = h.clause; link = h.link; opened = refl; first = h.first }),
     )
 
@@ -23,8 +23,8 @@ conjoins c list table ns at f h =
 wrong : tie.Need-returns-3
 wrong c list table ns at f h = rw c.enum_told.given.1
 
-pub with-opcode-spec : {M : Type 1} → statement M
-with-opcode-spec =
+pub with_opcode_spec : {M : Type 1} → statement M
+with_opcode_spec =
     tie.close
     (tie.spec
     (λ c. search rules)

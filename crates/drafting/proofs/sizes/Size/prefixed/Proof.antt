@@ -1,8 +1,8 @@
--- `drafting::sizes::Size::prefixed` meets its contract: a token and a level more than the operand has where it stands (`prefix-sized`).
+-- `drafting::sizes::Size::prefixed` meets its contract: a token and a level more than the operand has where it stands (`prefix_sized`).
 use Prim.Native.Nat.{◌+◌, ◌<◌}
 use native.Mathlib.Omega.{arith}
 use borrow.Author.Rules.{rules}
-use Rattle.drafting.proofs.Counting.{prefix-sized}
+use Rattle.drafting.proofs.Counting.{prefix_sized}
 use Rattle.drafting.proofs.sizes.Size.prefixed.Statement.{statement}
 use Rattle.drafting.proofs.sizes.Size.prefixed.Tie as tie
 
@@ -17,11 +17,11 @@ returns : tie.Need-returns
 returns c =
     let inside = inside_of c in (
       record { tokens = omega (arith, c.before.before.capped.ensures); levels = omega (arith, c.capped2.ensures) },
-      prefix-sized _ _ inside.before.args.self inside.standing.ensures c.before.before.capped.ensures c.capped2.ensures,
+      prefix_sized _ _ inside.before.args.self inside.standing.ensures c.before.before.capped.ensures c.capped2.ensures,
     )
 
-pub prefixed-spec : {M : Type 1} → statement M
-prefixed-spec =
+pub prefixed_spec : {M : Type 1} → statement M
+prefixed_spec =
     tie.close
     (tie.spec
     (λ c κs. search rules)

@@ -4,11 +4,11 @@ use borrow.Author.Rules.{rules}
 use Rattle.grammar.proofs.steps.Taken.again.Statement.{statement}
 use Rattle.grammar.proofs.steps.Taken.again.Tie as tie
 
-a-tree : tie.Need-returns
-a-tree c = sym c.before.self.given.1
+a_tree : tie.Need-returns
+a_tree c = sym c.before.self.given.1
 
-a-refusal : tie.Need-returns-2
-a-refusal c = rw c.same_place.ensures (sym c.before.before.self2.given.1)
+a_refusal : tie.Need-returns-2
+a_refusal c = rw c.same_place.ensures (sym c.before.before.self2.given.1)
 
 pub again_spec : {M : Type 1} → statement M
 again_spec =
@@ -17,5 +17,5 @@ again_spec =
     (λ c. search rules)
     (λ c. search rules)
     (λ c κs. search rules)
-    a-tree
-    a-refusal)
+    a_tree
+    a_refusal)

@@ -7,7 +7,7 @@ use Rattle.keys.proofs.entry.Matched.read.Tie as tie
 returns : tie.Need-returns
 returns c =
     rw (
-      ← c.before.before.before.before.match-at.ensures.0,
+      ← c.before.before.before.before.match_at.ensures.0,
       eq-eqb _ _ c.before.before.if1.true,
       ← c.before.read.ensures.kind,
       ← c.before.read.ensures.width,
@@ -25,7 +25,7 @@ read_spec =
     returns
     (λ c κs. search rules)
     (λ c. rw (
-      ← c.before.before.before.match-at.ensures.0,
+      ← c.before.before.before.match_at.ensures.0,
       ne_eqb _ _ c.before.if1.false,
       c.spelled_out.ensures,
     )))

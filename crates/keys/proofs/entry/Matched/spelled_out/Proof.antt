@@ -2,8 +2,8 @@ use borrow.Author.Rules.{rules}
 use Rattle.keys.proofs.entry.Matched.spelled_out.Statement.{statement}
 use Rattle.keys.proofs.entry.Matched.spelled_out.Tie as tie
 
-pub spelled-out-spec : {M : Type 1} → statement M
-spelled-out-spec =
+pub spelled_out_spec : {M : Type 1} → statement M
+spelled_out_spec =
     tie.close
     (tie.spec
     (λ c κs. search rules)

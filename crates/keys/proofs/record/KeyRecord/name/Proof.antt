@@ -6,7 +6,7 @@ use Rattle.keys.proofs.record.KeyRecord.name.Statement.{statement}
 use Rattle.keys.proofs.record.KeyRecord.name.Tie as tie
 
 returns : tie.Need-returns
-returns c = c.name-of.ensures ∙ ap name_of c.before.record-at.ensures.0
+returns c = c.name_of.ensures ∙ ap name_of c.before.record_at.ensures.0
 
-pub name-spec : {M : Type 1} → statement M
-name-spec = tie.close (tie.spec (λ c κs. search rules) (λ c κs. search rules) returns)
+pub name_spec : {M : Type 1} → statement M
+name_spec = tie.close (tie.spec (λ c κs. search rules) (λ c κs. search rules) returns)

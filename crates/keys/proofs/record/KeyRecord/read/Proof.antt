@@ -4,7 +4,7 @@ use Rattle.keys.proofs.record.KeyRecord.read.Tie as tie
 
 returns : tie.Need-returns
 returns c =
-    let e = c.before.before.before.record-at.ensures.0 in
+    let e = c.before.before.before.record_at.ensures.0 in
     record { kind = rw e; width = rw e; required = rw e }
 
 pub read_spec : {M : Type 1} → statement M

@@ -9,5 +9,5 @@ another c =
     let n = c.before.args.radix in
     rw (ne_eqb n 2 r.0.1, ne_eqb n 16 r.1)
 
-pub of-radix-spec : {M : Type 1} → statement M
-of-radix-spec = tie.close (tie.spec (λ c. rw c.match.keys1) (λ c. rw c.match.keys2) another)
+pub of_radix_spec : {M : Type 1} → statement M
+of_radix_spec = tie.close (tie.spec (λ c. rw c.match.keys1) (λ c. rw c.match.keys2) another)

@@ -35,8 +35,8 @@ divided c =
       rest = remainder n by a.result s.result t.result d.result d.ensures t.ensures s.ensures a.ensures;
     }
 
-pub divide-spec : {M : Type 1} → statement M
-divide-spec =
+pub divide_spec : {M : Type 1} → statement M
+divide_spec =
     tie.close
     (tie.spec
     (λ c. search rules)

@@ -15,11 +15,11 @@ a s = s.args.t1
 abbrev b : tie.Start → Magnitude
 b s = s.args.t2
 
-held-a : (s : tie.Start) → Held (a s)
-held-a s = search rules
+held_a : (s : tie.Start) → Held (a s)
+held_a s = search rules
 
-held-b : (s : tie.Start) → Held (b s)
-held-b s = search rules
+held_b : (s : tie.Start) → Held (b s)
+held_b s = search rules
 
 -- the places: from where the limbs 1 are found the same, back to the limbs 2, the limbs 3, and what was given
 
@@ -32,40 +32,40 @@ same3 c = c.before.before.before
 abbrev start : tie.Else1 → tie.Start
 start c = c.before.before.before
 
-by-limb3 : tie.Need-returns
-by-limb3 c = let s = c.before.before.before in equal3 (a s) (b s) (held-a s) (held-b s) c.if1.true
+by_limb3 : tie.Need-returns
+by_limb3 c = let s = c.before.before.before in equal3 (a s) (b s) (held_a s) (held_b s) c.if1.true
 
-by-limb2 : tie.Need-returns-2
-by-limb2 c =
+by_limb2 : tie.Need-returns-2
+by_limb2 c =
     let s = start c.before.before.before in
-    equal2 (a s) (b s) (held-a s) (held-b s) c.if2.true
+    equal2 (a s) (b s) (held_a s) (held_b s) c.if2.true
 
-by-limb1 : tie.Need-returns-3
-by-limb1 c =
+by_limb1 : tie.Need-returns-3
+by_limb1 c =
     let s = start (same3 c.before.before.before) in
-    equal1 (a s) (b s) (held-a s) (held-b s) c.if3.true
+    equal1 (a s) (b s) (held_a s) (held_b s) c.if3.true
 
-by-limb0 : tie.Need-returns-4
-by-limb0 c =
+by_limb0 : tie.Need-returns-4
+by_limb0 c =
     let first = c.before.before in
     let second = same2 first in
     let third = same3 second in
     let s = start third in
-    equal0 (a s) (b s) (held-a s) (held-b s) third.if1.left second.if2.left first.if3.false
+    equal0 (a s) (b s) (held_a s) (held_b s) third.if1.left second.if2.left first.if3.false
 
-pub equal-spec : {M : Type 1} → statement M
-equal-spec =
+pub equal_spec : {M : Type 1} → statement M
+equal_spec =
     tie.close
     (tie.spec
     (λ c. search rules)
     (λ c. search rules)
-    by-limb3
+    by_limb3
     (λ c. search rules)
     (λ c. search rules)
-    by-limb2
+    by_limb2
     (λ c. search rules)
     (λ c. search rules)
-    by-limb1
+    by_limb1
     (λ c. search rules)
     (λ c. search rules)
-    by-limb0)
+    by_limb0)

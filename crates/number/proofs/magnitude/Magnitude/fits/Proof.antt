@@ -10,5 +10,5 @@ returns c =
     let n = value c.before.before.args.self in
     c.equal.ensures ∙ ap (λ (k : ℕ). eqb k n) c.before.lowest.ensures ∙ fits_mod n c.before.before.args.w
 
-pub fits-spec : {M : Type 1} → statement M
-fits-spec = tie.close (tie.spec (λ c κs. search rules) (λ c κs. search rules) returns)
+pub fits_spec : {M : Type 1} → statement M
+fits_spec = tie.close (tie.spec (λ c κs. search rules) (λ c κs. search rules) returns)

@@ -7,5 +7,5 @@ returns : tie.Need-returns
 returns c =
     c.equal.ensures ∙ ap (eqb (value c.before.before.args.self)) c.before.zero.ensures
 
-pub is-zero-spec : {M : Type 1} → statement M
-is-zero-spec = tie.close (tie.spec (λ c κs. search rules) (λ c κs. search rules) returns)
+pub is_zero_spec : {M : Type 1} → statement M
+is_zero_spec = tie.close (tie.spec (λ c κs. search rules) (λ c κs. search rules) returns)

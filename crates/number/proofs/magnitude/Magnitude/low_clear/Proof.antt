@@ -8,11 +8,11 @@ use Rattle.number.proofs.magnitude.Magnitude.low_clear.Tie as tie
 
 -- past a limb that is zero: past the one below it, and what was given
 
-abbrev third-to-second : tie.Else3 → tie.Else2
-third-to-second c = c.before.before
+abbrev third_to_second : tie.Else3 → tie.Else2
+third_to_second c = c.before.before
 
-abbrev second-to-first : tie.Else2 → tie.Else1
-second-to-first c = c.before.before
+abbrev second_to_first : tie.Else2 → tie.Else1
+second_to_first c = c.before.before
 
 abbrev start : tie.Else1 → tie.Start
 start c = c.before.before
@@ -26,19 +26,19 @@ by_first c =
     let a = c.before.before.before.args in
     c.clear.ensures ∙ clear0 a.k a.t1 (search rules) c.before.if1.true
 
-by-second : tie.Need-returns-2
-by-second c =
+by_second : tie.Need-returns-2
+by_second c =
     let second : tie.Then2 = c.before.before in
     let one : tie.Else1 = second.before.before in
     let a = (start one).args in
     c.clear2.ensures ∙ ap (clear a.t1 1) c.before.past.ensures
     ∙ clear1 a.k a.t1 (search rules) one.if1.false second.if2.true
 
-by-third : tie.Need-returns-3
-by-third c =
+by_third : tie.Need-returns-3
+by_third c =
     let third : tie.Then3 = c.before.before in
     let two : tie.Else2 = third.before.before in
-    let one = second-to-first two in
+    let one = second_to_first two in
     let a = (start one).args in
     c.clear3.ensures ∙ ap (clear a.t1 2) c.before.past2.ensures
     ∙ clear2 a.k a.t1 (search rules) one.if1.left two.if2.false third.if3.true
@@ -46,14 +46,14 @@ by-third c =
 by_last : tie.Need-returns-4
 by_last c =
     let three : tie.Else3 = c.before.before.before in
-    let two = third-to-second three in
-    let one = second-to-first two in
+    let two = third_to_second three in
+    let one = second_to_first two in
     let a = (start one).args in
     c.clear4.ensures ∙ ap (clear a.t1 3) c.before.past3.ensures
     ∙ clear3 a.k a.t1 (search rules) one.if1.left two.if2.left three.if3.false
 
-pub low-clear-spec : {M : Type 1} → statement M
-low-clear-spec =
+pub low_clear_spec : {M : Type 1} → statement M
+low_clear_spec =
     tie.close
     (tie.spec
     (λ c. search rules)
@@ -62,11 +62,11 @@ low-clear-spec =
     (λ c. search rules)
     (λ c κs. search rules)
     (λ c κs. search rules)
-    by-second
+    by_second
     (λ c. search rules)
     (λ c κs. search rules)
     (λ c κs. search rules)
-    by-third
+    by_third
     (λ c. search rules)
     (λ c κs. search rules)
     (λ c κs. search rules)

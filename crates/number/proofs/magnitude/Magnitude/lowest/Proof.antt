@@ -1,9 +1,9 @@
 -- `number::Magnitude::lowest` meets its contract: the lowest W bits, limb by limb, since each limb keeps those of its own bits that are below
--- W (`mod-limbs`).
+-- W (`mod_limbs`).
 use Rattle.std.proofs.Common.{rules}
 use Rattle.number.specs.Values.{value}
 use Rattle.number.proofs.Limbs.{Held}
-use Rattle.number.proofs.Powers.{mod-limbs}
+use Rattle.number.proofs.Powers.{mod_limbs}
 use Rattle.number.proofs.magnitude.Magnitude.lowest.Statement.{statement}
 use Rattle.number.proofs.magnitude.Magnitude.lowest.Tie as tie
 
@@ -12,9 +12,9 @@ held : (s : tie.Start) → Held s.args.t1
 held s = search rules
 
 -- the places: where the bits of each limb are known, from limb 3 down to limb 0, and what was given
-limb-by-limb : tie.Need-returns
+limb_by_limb : tie.Need-returns
 unfolding value
-limb-by-limb c =
+limb_by_limb c =
     let limb3 = c in
     let limb2 = limb3.before.before.before in
     let limb1 = limb2.before.before.before in
@@ -29,10 +29,10 @@ limb-by-limb c =
       limb2.before.past2.ensures,
       limb3.low4.ensures,
       limb3.before.past3.ensures,
-    ) (mod-limbs a.w a.t1 (held start))
+    ) (mod_limbs a.w a.t1 (held start))
 
-pub lowest-spec : {M : Type 1} → statement M
-lowest-spec =
+pub lowest_spec : {M : Type 1} → statement M
+lowest_spec =
     tie.close
     (tie.spec
     (λ c. search rules)
@@ -46,4 +46,4 @@ lowest-spec =
     (λ c. search rules)
     (λ c κs. search rules)
     (λ c κs. search rules)
-    limb-by-limb)
+    limb_by_limb)

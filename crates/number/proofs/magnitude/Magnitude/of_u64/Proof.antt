@@ -8,5 +8,5 @@ returns : tie.Need-returns
 unfolding value
 returns c = omega arith
 
-pub of-u64-spec : {M : Type 1} → statement M
-of-u64-spec = tie.close (tie.spec (λ c. search rules) (λ c. search rules) returns)
+pub of_u64_spec : {M : Type 1} → statement M
+of_u64_spec = tie.close (tie.spec (λ c. search rules) (λ c. search rules) returns)

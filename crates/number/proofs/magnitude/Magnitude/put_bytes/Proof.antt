@@ -1,7 +1,7 @@
 -- `number::Magnitude::put_bytes` meets its contract: the four words, each stored into the bytes that came back from the one before it, are
--- the sixteen bytes of the number (`four-put`).
+-- the sixteen bytes of the number (`four_put`).
 use Rattle.std.proofs.Common.{rules}
-use Rattle.number.proofs.BigEndian.{four-put}
+use Rattle.number.proofs.BigEndian.{four_put}
 use Rattle.number.proofs.Limbs.{Held}
 use Rattle.number.proofs.magnitude.Magnitude.put_bytes.Statement.{statement}
 use Rattle.number.proofs.magnitude.Magnitude.put_bytes.Tie as tie
@@ -11,8 +11,8 @@ held : (s : tie.Start) → Held s.args.t1
 held s = search rules
 
 -- the places: where each word was stored, from the fourth to the first; between two of them the bytes come back
-all-stored : tie.Need-returns
-all-stored c =
+all_stored : tie.Need-returns
+all_stored c =
     let fourth = c.before.before in
     let back3 = fourth.before.before.before in
     let third = back3.before.before in
@@ -23,10 +23,10 @@ all-stored c =
     let start = first.before.before.before.before in
     let a = start.args in
     rw (fourth.put-word4.ensures, third.put-word3.ensures, second.put-word2.ensures, first.put_word.ensures)
-    (four-put a.out.now a.at a.t1 (held start))
+    (four_put a.out.now a.at a.t1 (held start))
 
-pub put-bytes-spec : {M : Type 1} → statement M
-put-bytes-spec =
+pub put_bytes_spec : {M : Type 1} → statement M
+put_bytes_spec =
     tie.close
     (tie.spec
     (λ c. search rules)
@@ -41,4 +41,4 @@ put-bytes-spec =
     (λ c. search rules)
     (λ c κs. search rules)
     (λ c. search rules)
-    all-stored)
+    all_stored)

@@ -20,5 +20,5 @@ returns-2 c p q m n a b =
       priority = b.priority ∙ sym (ap (λ (x : Bool). x || n) (sym a.priority ∙ c.if1.false));
     }
 
-pub with-spec : {M : Type 1} → statement M
-with-spec = tie.close (tie.spec returns returns-2)
+pub with_spec : {M : Type 1} → statement M
+with_spec = tie.close (tie.spec returns returns-2)

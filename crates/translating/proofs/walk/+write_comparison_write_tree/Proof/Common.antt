@@ -18,35 +18,35 @@ use Rattle.trees.proofs.node.Node.read.Reads as read-reads
 
 -- the measure: two for each node number, which is the third argument, and one more for the function that calls the other at the same node
 
-abbrev pub μ-write-comparison : Measures 3 write-comparison-kinds.ps ℕ
-μ-write-comparison κs a = a.1.1.0 * 2
+abbrev pub μ_write_comparison : Measures 3 write-comparison-kinds.ps ℕ
+μ_write_comparison κs a = a.1.1.0 * 2
 
-abbrev pub μ-write-tree : Measures 3 write-tree-kinds.ps ℕ
-μ-write-tree κs a = a.1.1.0 * 2 + 1
+abbrev pub μ_write_tree : Measures 3 write-tree-kinds.ps ℕ
+μ_write_tree κs a = a.1.1.0 * 2 + 1
 
 -- what is asked of a call where the measure is t, and of a call from there
 
-abbrev pub write-comparison-at : ℕ → In 3 write-comparison-kinds.ps
-write-comparison-at t = and 3 write-comparison-kinds.ps (is 3 write-comparison-kinds.ps μ-write-comparison t) write-comparison.Pre
+abbrev pub write_comparison_at : ℕ → In 3 write-comparison-kinds.ps
+write_comparison_at t = and 3 write-comparison-kinds.ps (is 3 write-comparison-kinds.ps μ_write_comparison t) write-comparison.Pre
 
-abbrev pub write-comparison-below : ℕ → In 3 write-comparison-kinds.ps
-write-comparison-below t = and 3 write-comparison-kinds.ps (falls 3 write-comparison-kinds.ps ◌<◌ μ-write-comparison t) write-comparison.Pre
+abbrev pub write_comparison_below : ℕ → In 3 write-comparison-kinds.ps
+write_comparison_below t = and 3 write-comparison-kinds.ps (falls 3 write-comparison-kinds.ps ◌<◌ μ_write_comparison t) write-comparison.Pre
 
-abbrev pub write-tree-at : ℕ → In 3 write-tree-kinds.ps
-write-tree-at t = and 3 write-tree-kinds.ps (is 3 write-tree-kinds.ps μ-write-tree t) write-tree.Pre
+abbrev pub write_tree_at : ℕ → In 3 write-tree-kinds.ps
+write_tree_at t = and 3 write-tree-kinds.ps (is 3 write-tree-kinds.ps μ_write_tree t) write-tree.Pre
 
-abbrev pub write-tree-below : ℕ → In 3 write-tree-kinds.ps
-write-tree-below t = and 3 write-tree-kinds.ps (falls 3 write-tree-kinds.ps ◌<◌ μ-write-tree t) write-tree.Pre
+abbrev pub write_tree_below : ℕ → In 3 write-tree-kinds.ps
+write_tree_below t = and 3 write-tree-kinds.ps (falls 3 write-tree-kinds.ps ◌<◌ μ_write_tree t) write-tree.Pre
 
 -- the contracts of the functions that are called
 
-abbrev pub write-comparison-calls : ℕ → write-comparison-lts.Claims
-write-comparison-calls t = (
+abbrev pub write_comparison_calls : ℕ → write-comparison-lts.Claims
+write_comparison_calls t = (
   both-leaves-reads.Asked,
   both-leaves-reads.Learnt,
   write-compared-reads.Asked,
   write-compared-reads.Learnt,
-  write-tree-below t,
+  write_tree_below t,
   write-tree.Post,
   changes-at-reads.Asked,
   changes-at-reads.Learnt,
@@ -56,16 +56,16 @@ write-comparison-calls t = (
   write-own-reads.Learnt,
 )
 
-abbrev pub write-tree-calls : ℕ → write-tree-lts.Claims
-write-tree-calls t = (
+abbrev pub write_tree_calls : ℕ → write-tree-lts.Claims
+write_tree_calls t = (
   read-reads.Asked,
   read-reads.Learnt,
   write-own-reads.Asked,
   write-own-reads.Learnt,
-  write-tree-below t,
+  write_tree_below t,
   write-tree.Post,
   write-skip-reads.Asked,
   write-skip-reads.Learnt,
-  write-comparison-below t,
+  write_comparison_below t,
   write-comparison.Post,
 )

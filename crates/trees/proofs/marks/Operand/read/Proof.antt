@@ -5,12 +5,12 @@ use Rattle.trees.proofs.marks.Operand.read.Statement.{statement}
 use Rattle.trees.proofs.marks.Operand.read.Tie as tie
 
 -- where the leaf has been read
-abbrev leaf-at : tie.After-operand-of → tie.After-read
-leaf-at c = c.before.before.before
+abbrev leaf_at_lem : tie.After-operand-of → tie.After-read
+leaf_at_lem c = c.before.before.before
 
 returns : tie.Need-returns
 unfolding operand_at
-returns c = rw (← (leaf-at c).read.ensures) c.operand-of.ensures
+returns c = rw (← (leaf_at_lem c).read.ensures) c.operand-of.ensures
 
 pub read_spec : {M : Type 1} → statement M
 read_spec =

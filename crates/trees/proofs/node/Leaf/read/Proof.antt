@@ -1,11 +1,11 @@
--- `trees::Leaf::read` meets its contract: the six words that `leaf_of` takes are those of the definition `leafAt`.
-use Rattle.trees.specs.Nodes.{leafAt}
+-- `trees::Leaf::read` meets its contract: the six words that `leaf_of` takes are those of the definition `leaf_at`.
+use Rattle.trees.specs.Nodes.{leaf_at}
 use borrow.Author.Rules.{rules}
 use Rattle.trees.proofs.node.Leaf.read.Statement.{statement}
 use Rattle.trees.proofs.node.Leaf.read.Tie as tie
 
 returns : tie.Need-returns
-unfolding leafAt
+unfolding leaf_at
 returns c = c.leaf-of.ensures
 
 pub read_spec : {M : Type 1} → statement M

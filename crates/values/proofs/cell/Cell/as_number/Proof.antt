@@ -13,8 +13,8 @@ returns-2 c = rw c.before.before.before.sort.given.1
       c.before.as-whole.ensures,
     ))
 
-pub as-number-spec : {M : Type 1} → statement M
-as-number-spec =
+pub as_number_spec : {M : Type 1} → statement M
+as_number_spec =
     tie.close
     (tie.spec
     (λ c. search rules)

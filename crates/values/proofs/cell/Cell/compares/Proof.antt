@@ -3,12 +3,12 @@
 use mathlib.Core.Path.{◌≡◌, sym, ◌∙◌, ap}
 use borrow.Author.Rules.{rules}
 use Rattle.paper.specs.Tokens.{Comparison}
-use Rattle.paper.specs.Code.{comparisonOf}
+use Rattle.paper.specs.Code.{comparison_of}
 use Rattle.paper.specs.Types.{same_ty, takes}
-use Rattle.paper.specs.Meaning.{Value, truth, ty_of, compareValue}
-use Rattle.values.specs.Held.{held, likeValue}
-use Rattle.values.proofs.Held.{is-then, is-compared}
-use Rattle.values.proofs.Meeting.{meet-same, meet_right, meet_left}
+use Rattle.paper.specs.Meaning.{Value, truth, ty_of, compare_value}
+use Rattle.values.specs.Held.{held, like_value}
+use Rattle.values.proofs.Held.{is_then, is_compared}
+use Rattle.values.proofs.Meeting.{meet_same, meet_right, meet_left}
 use Rattle.values.proofs.cell.Cell.compares.Statement.{statement}
 use Rattle.values.proofs.cell.Cell.compares.Tie as tie
 
@@ -17,7 +17,7 @@ abbrev start : tie.After-same → tie.Start
 start c = c.before.before.before
 
 abbrev asked : tie.After-same → Comparison
-asked c = comparisonOf (start c).args.comparison
+asked c = comparison_of (start c).args.comparison
 
 abbrev left : tie.After-same → Value
 left c = held (start c).args.self
@@ -25,64 +25,64 @@ left c = held (start c).args.self
 abbrev right : tie.After-same → Value
 right c = held (start c).args.right
 
-same-tested : (c : tie.After-same) → c.same.result ≡ same_ty (ty_of (left c)) (ty_of (right c))
-same-tested c = rw (← c.before.before.type-of.ensures, ← c.before.type-of2.ensures) c.same.ensures
+same_tested : (c : tie.After-same) → c.same.result ≡ same_ty (ty_of (left c)) (ty_of (right c))
+same_tested c = rw (← c.before.before.type_of.ensures, ← c.before.type-of2.ensures) c.same.ensures
 
 -- where it is known, of two types, whether the right one takes the left one
-abbrev two-types : tie.After-takes → tie.After-same
-two-types c = c.before.before.before.before
+abbrev two_types : tie.After-takes → tie.After-same
+two_types c = c.before.before.before.before
 
-takes-tested : (c : tie.After-takes) → c.takes.result ≡ takes (ty_of (right (two-types c))) (ty_of (left (two-types c)))
-takes-tested c = rw (← c.before.before.type-of3.ensures, ← c.before.type-of4.ensures) c.takes.ensures
+takes_tested : (c : tie.After-takes) → c.takes.result ≡ takes (ty_of (right (two_types c))) (ty_of (left (two_types c)))
+takes_tested c = rw (← c.before.before.type-of3.ensures, ← c.before.type-of4.ensures) c.takes.ensures
 
-as-they-are : tie.Need-returns
-as-they-are c =
+as_they_are : tie.Need-returns
+as_they_are c =
     let tested = c.before.before in
     let o = asked tested in
     let x = left tested in
     let y = right tested in
     let v = truth c.holds.result in
-    meet-same o x y v (sym (same-tested tested) ∙ c.before.if1.true) (is-compared o x y v (ap truth c.holds.ensures))
+    meet_same o x y v (sym (same_tested tested) ∙ c.before.if1.true) (is_compared o x y v (ap truth c.holds.ensures))
 
-to-the-right : tie.Need-returns-2
-to-the-right c =
+to_the_right : tie.Need-returns-2
+to_the_right c =
     let tested = c.before.before.before in
-    let o = asked (two-types tested) in
-    let x = left (two-types tested) in
-    let y = right (two-types tested) in
+    let o = asked (two_types tested) in
+    let x = left (two_types tested) in
+    let y = right (two_types tested) in
     let brought = c.before.like in
     let v = truth c.holds2.result in
-    meet_right o x y v (sym (takes-tested tested) ∙ c.before.before.if2.true)
-    (is-then (likeValue (ty_of y) x) (λ z. compareValue o z y) (held brought.result) v brought.ensures
-    (is-compared o (held brought.result) y v (ap truth c.holds2.ensures)))
+    meet_right o x y v (sym (takes_tested tested) ∙ c.before.before.if2.true)
+    (is_then (like_value (ty_of y) x) (λ z. compare_value o z y) (held brought.result) v brought.ensures
+    (is_compared o (held brought.result) y v (ap truth c.holds2.ensures)))
 
-to-the-left : tie.Need-returns-3
-to-the-left c =
+to_the_left : tie.Need-returns-3
+to_the_left c =
     let tested = c.before.before.before in
-    let o = asked (two-types tested) in
-    let x = left (two-types tested) in
-    let y = right (two-types tested) in
+    let o = asked (two_types tested) in
+    let x = left (two_types tested) in
+    let y = right (two_types tested) in
     let brought = c.before.like2 in
     let v = truth c.holds3.result in
-    meet_left o x y v (sym (takes-tested tested) ∙ c.before.before.if2.false)
-    (is-then (likeValue (ty_of x) y) (compareValue o x) (held brought.result) v brought.ensures
-    (is-compared o x (held brought.result) v (ap truth c.holds3.ensures)))
+    meet_left o x y v (sym (takes_tested tested) ∙ c.before.before.if2.false)
+    (is_then (like_value (ty_of x) y) (compare_value o x) (held brought.result) v brought.ensures
+    (is_compared o x (held brought.result) v (ap truth c.holds3.ensures)))
 
-pub compares-spec : {M : Type 1} → statement M
-compares-spec =
+pub compares_spec : {M : Type 1} → statement M
+compares_spec =
     tie.close
     (tie.spec
     (λ c κs. search rules)
     (λ c κs. search rules)
     (λ c κs. search rules)
     (λ c κs. search rules)
-    as-they-are
+    as_they_are
     (λ c κs. search rules)
     (λ c κs. search rules)
     (λ c κs. search rules)
     (λ c κs. search rules)
     (λ c κs. search rules)
-    to-the-right
+    to_the_right
     (λ c κs. search rules)
     (λ c κs. search rules)
-    to-the-left)
+    to_the_left)

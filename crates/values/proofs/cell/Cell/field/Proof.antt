@@ -11,8 +11,8 @@ returns-5 c =
     rw (ne_eqb n 0 r.0.0.0.1, ne_eqb n 1 r.0.0.1, ne_eqb n 2 r.0.1, ne_eqb n 3 r.1)
     c.one-value4.ensures
 
-pub field-spec : {M : Type 1} → statement M
-field-spec =
+pub field_spec : {M : Type 1} → statement M
+field_spec =
     tie.close
     (tie.spec
     (λ c κs. search rules)

@@ -17,8 +17,8 @@ returns-6 c =
       c.less4.ensures,
     )
 
-pub holds-spec : {M : Type 1} → statement M
-holds-spec =
+pub holds_spec : {M : Type 1} → statement M
+holds_spec =
     tie.close
     (tie.spec
     (λ c κs. search rules)

@@ -3,8 +3,8 @@ use borrow.Author.Rules.{rules}
 use Rattle.values.proofs.cell.Cell.less.Statement.{statement}
 use Rattle.values.proofs.cell.Cell.less.Tie as tie
 
-pub less-spec : {M : Type 1} → statement M
-less-spec =
+pub less_spec : {M : Type 1} → statement M
+less_spec =
     tie.close
     (tie.spec
     (λ c. search rules)

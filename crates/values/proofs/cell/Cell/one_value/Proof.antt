@@ -1,4 +1,4 @@
--- Each arm is the match of one value that its kind has; a mask of W ones is 2^W - 1 (`one-masked`).
+-- Each arm is the match of one value that its kind has; a mask of W ones is 2^W - 1 (`one_masked`).
 use mathlib.Core.Path.{◌∙◌, ap, refl}
 use mathlib.Core.Bool.{cond}
 use native.Mathlib.Nat.{min-eq_left}
@@ -7,7 +7,7 @@ use lib.Dec.{eqb}
 use Rattle.paper.specs.Keys.{ternary, optional}
 use Rattle.paper.specs.Meaning.{matched}
 use Rattle.number.specs.Values.{value}
-use Rattle.values.proofs.Numbered.{one-masked}
+use Rattle.values.proofs.Numbered.{one_masked}
 use borrow.Author.Rules.{rules}
 use Rattle.values.proofs.cell.Cell.one_value.Statement.{statement}
 use Rattle.values.proofs.cell.Cell.one_value.Tie as tie
@@ -26,10 +26,10 @@ returns-4 c =
       ne_eqb a.kind 3 r.1,
     )
     (ap (matched (cond (eqb a.kind 1) ternary optional) a.width)
-    (one-masked (eqb a.kind 1) a.width (value a.n)))
+    (one_masked (eqb a.kind 1) a.width (value a.n)))
 
-pub one-value-spec : {M : Type 1} → statement M
-one-value-spec =
+pub one_value_spec : {M : Type 1} → statement M
+one_value_spec =
     tie.close
     (tie.spec
     (λ c κs. search rules)

@@ -18,7 +18,7 @@ use Rattle.paper.specs.Loading.{instruction_at, program, same_at, types_along, e
 use Rattle.paper.specs.Calls.{load_answer}
 use Rattle.paper.specs.LoadedBlocksRun.{types_through}
 use Rattle.paper.specs.Faults.{Faults, BlocksSize, BlocksLayout, BlocksCode, instruction_fails, skip_misfits, end_not_bool}
-use Rattle.paper.specs.Table.{Sooner, stage, Given, block_stages, load_stages}
+use Rattle.paper.specs.Table.{Sooner, stage, Given, list_stages, block_stages, load_stages}
 use Rattle.paper.proofs.Stages.{bind_again}
 use Rattle.paper.proofs.Walks.{on_walk, walk_append, walk_anywhere}
 use Rattle.paper.proofs.Landings.{ends_same, on_types, check_walks}
@@ -222,4 +222,5 @@ blocks_follow list ks blocks listed =
 pub load_follows : (list blocks : List ℕ) → Follows (load_stages list blocks) (load_answer list blocks)
 unfolding load_answer
 load_follows list blocks =
-    follows_then _ _ (keys list) (λ ks. loaded ks blocks) (list_follows list) (λ ks listed. blocks_follow list ks blocks listed)
+    follows_then (list_stages list) (block_stages list blocks) (keys list) (λ ks. loaded ks blocks) (list_follows list)
+    (λ ks listed. blocks_follow list ks blocks listed)

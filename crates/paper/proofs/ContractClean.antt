@@ -7,8 +7,9 @@ use mathlib.Core.List.{List, [], ◌∷◌, map}
 use lib.ListN.{length, get_or}
 use lib.Dec.{lit<, lit≤}
 use Rattle.paper.specs.Answers.{ok}
+use Rattle.paper.specs.Tokens.{sequel}
 use Rattle.paper.specs.Keys.{Key}
-use Rattle.paper.specs.Grammar.{Tree, key}
+use Rattle.paper.specs.Grammar.{Tree, key, joined}
 use Rattle.paper.specs.Sized.{Clean}
 use Rattle.paper.specs.BlocksRoundTrip.{All}
 use Rattle.paper.specs.Pact.{Load, user, input, Linking, and, or, xor, Assertion, Clause, alone, linked, Indexed, AllIndexed}
@@ -57,7 +58,7 @@ module _ (list : List ℕ) (ks : List Key) (named : names_of list ≡ ok ks) (ta
   clean_sequel : (t : Tree) (cs : List Clause) → Clean t → All (AllIndexed (length ks) (length table)) cs
       → Clean (sequel_of (names_in ks) table t cs)
   clean_sequel t [] clean h = clean
-  clean_sequel t (c ∷ cs) clean h = clean_sequel _ cs (clean, clean_clause c h.0) h.1
+  clean_sequel t (c ∷ cs) clean h = clean_sequel (joined 0 sequel t (clause_tree (names_in ks) table c)) cs (clean, clean_clause c h.0) h.1
 
   pub clean_contract : (cs : List Clause) → All (AllIndexed (length ks) (length table)) cs → Clean (contract_tree (names_in ks) table cs)
   unfolding contract_tree

@@ -222,7 +222,7 @@ module _ (names users : ℕ) where
         ap (clauses names users) split ∙ wrong_byte f b rest h (λ at. rw (waits, e))
     fault_given n at (cut_before_index f o h waits whole) = ap (clauses names users) whole ∙ cut_short f h (λ at. rw waits) ∙ rw whole
     fault_given n at (cut_before_assertion f j h waits whole) =
-        ap (clauses names users) whole ∙ cut_short f h (λ at. rw waits (waits_on at _ j f.comparator)) ∙ rw whole
+        ap (clauses names users) whole ∙ cut_short f h (λ at. rw waits (waits_on at f j f.comparator)) ∙ rw whole
 
     pub contract_tells : Tells inContract (ContractFaults names users contract) (clauses names users contract)
     contract_tells =

@@ -67,6 +67,7 @@ module _ (size : ℕ) where
 
   -- each at its place
   laid_at : (n : ℕ) (s : List ℕ) (i : ℕ) → i < n → get_or (laid_out size n s) i [] ≡ take size (drop (i * size) s)
+  laid_at zero s i h = elim h [ ]
   laid_at (suc n) s zero h = rw (zero-mul size)
   laid_at (suc n) s (suc i) h =
       let past : size + i * size ≡ suc i * size = omega (arith, suc-mul i size) in

@@ -60,7 +60,9 @@ module _ (ks : List Key) (entry : List ℕ) where
   index_of n at (match_broken k x e h) = (suc k, suc-le-suc (some_below ks k x e), refl, rw e h)
 
   rises : (j k : ℕ) → j < k → place j < place k
+  rises zero zero l = elim l [ ]
   rises zero (suc k) l = omega arith
+  rises (suc j) zero l = elim l [ ]
   rises (suc j) (suc k) l = omega arith
 
   indexed : Indexed (EntryRules ks entry) (suc (length ks)) place

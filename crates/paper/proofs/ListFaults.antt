@@ -6,7 +6,7 @@ use mathlib.Core.Path.{◌≡◌, refl, sym, subst, ◌∙◌}
 use mathlib.Core.Logic.{◌⊎◌, inl, inr}
 use mathlib.Core.Bool.{Bool, true, false, cond, ◌&&◌, true≢false}
 use mathlib.Core.Option.{some}
-use mathlib.Core.List.{List}
+use mathlib.Core.List.{List, [], ◌∷◌}
 use lib.ListN.{length}
 use lib.Dec.{eqb, leb}
 use borrow.Author.Tests.{eqb-true, eqb-false, leb-true, leb-false}
@@ -14,7 +14,7 @@ use Rattle.paper.specs.Answers.{ok, ◌>>=◌, require, in_turn, InList}
 use Rattle.paper.specs.Tokens.{same_bytes}
 use Rattle.paper.specs.Keys.{record_size, most_keys, record_at, records_in, name_of, find_from, keys_from, is_none, is_new, RecordRule, record_test, keys_by, layout_rule, keys}
 use Rattle.paper.specs.Faults.{ListSize, list_uneven, list_over, ListRecords, record_broken, name_repeated}
-use Rattle.paper.specs.Table.{list_stages_by, list_stages}
+use Rattle.paper.specs.Table.{Stage, stage, list_stages_by, list_stages}
 use Rattle.paper.proofs.Words.{same_bytes_lem, not_bytes}
 use Rattle.paper.proofs.StagesInOrder.{Tells, two_tests_tell, Follows, follows_one, follows_as, follows_then}
 use Rattle.paper.proofs.Earliest.{Indexed, TellsAt, tests_tell}
@@ -138,9 +138,11 @@ module _ (rule : RecordRule) (list : List ℕ) where
       let size = require (even list && few list) 2 InList (length list) in
       let records = in_turn (record_test rule list) 0 (records_in list) in
       let all = keys_from list 0 (records_in list) in
-      follows_then _ _ size (λ _. records >>= λ _. ok all)
+      let first : List Stage = stage InList (ListSize list) ∷ [] in
+      let last : List Stage = stage InList (ListRecords rule list) ∷ [] in
+      follows_then first last size (λ _. records >>= λ _. ok all)
       (follows_one InList (ListSize list) size (size_tells list))
-      (λ _ _. follows_as _ records (λ _. all) (follows_one InList (ListRecords rule list) records records_tell))
+      (λ _ _. follows_as last records (λ _. all) (follows_one InList (ListRecords rule list) records records_tell))
 
 pub list_follows : (list : List ℕ) → Follows (list_stages list) (keys list)
 unfolding keys

@@ -57,6 +57,7 @@ offsets_rise text ts h =
     (from_rises text 0 0 most_tokens (length text) (omega arith))
 
 rising_below : (from below : ℕ) (u : Token) (ts : List Token) → Rising from below ts → Memᴰ u ts → u.at < below
+rising_below from below u [] h m = elim m [ ]
 rising_below from below u (v ∷ ts) h (Memᴰ.head e) = rw e h.1
 rising_below from below u (v ∷ ts) h (Memᴰ.tail m) = rising_below (suc v.at) below u ts h.2 m
 

@@ -80,6 +80,7 @@ module _ {A : Type 0} where
       (ws, first, then_use y second others)
 
   taken_left : {x : A} {xs ys ys' : List A} → InSomeOrder xs ys → TakenOut x ys ys' → (xs' : List A) × TakenOut x xs xs' × InSomeOrder xs' ys'
+  taken_left all_used q = elim q [ ]
   taken_left {x} {ys' = ys'} (then_use {xs = xs} {rest = rest} y p o) q = go (apart p q) (λ ws r. taken_left o r)
     where
       go : Apart y x rest ys' → ((ws : List A) → TakenOut x rest ws → (xs' : List A) × TakenOut x xs xs' × InSomeOrder xs' ws)

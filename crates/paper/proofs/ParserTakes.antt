@@ -19,9 +19,11 @@ same_after (t ∷ ts) h = same_next
 -- what holds of all lists with the same next token
 pub of_end : (P : List Token → Type 0) → P [] → (vs : List Token) → Same [] vs → P vs
 of_end P h [] same_end = h
+of_end P h (_ ∷ _) s = elim s [ ]
 
 pub of_next : (P : List Token → Type 0) {u : Token} {us : List Token}
     → ((ws : List Token) → P (u ∷ ws)) → (vs : List Token) → Same (u ∷ us) vs → P vs
+of_next P h [] s = elim s [ ]
 of_next P h (u ∷ vs) same_next = h vs
 
 -- the phrases that a parser reads, and those with one level more, or with any address strings

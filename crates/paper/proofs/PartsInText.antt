@@ -93,6 +93,7 @@ last_has P u (v ∷ us) h = last_has P v us h.1
 -- no token of it begins before the first, or after the last
 
 not_before : (from below : ℕ) (ts : List Token) → Rising from below ts → (v : Token) → Memᴰ v ts → from ≤ v.at
+not_before from below [] _ v m = elim m [ ]
 not_before from below (u ∷ us) (l, inside, later) v (Memᴰ.head e) = rw e l
 not_before from below (u ∷ us) (l, inside, later) v (Memᴰ.tail m) =
     omega (arith, l, not_before (suc u.at) below us later v m)
@@ -100,6 +101,7 @@ not_before from below (u ∷ us) (l, inside, later) v (Memᴰ.tail m) =
 not_after : (from below : ℕ) (u : Token) (us : List Token) → Rising from below (u ∷ us) → (v : Token) → Memᴰ v (u ∷ us)
     → v.at ≤ (last_of u us).at
 not_after from below u [] h v (Memᴰ.head e) = rw e (omega arith)
+not_after from below u [] h v (Memᴰ.tail m) = elim m [ ]
 not_after from below u (w ∷ us) (l, inside, later) v (Memᴰ.tail m) = not_after (suc u.at) below w us later v m
 not_after from below u (w ∷ us) (l, inside, later) v (Memᴰ.head e) =
     let next = not_after (suc u.at) below w us later w (Memᴰ.head refl) in

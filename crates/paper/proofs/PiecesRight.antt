@@ -30,7 +30,7 @@ part (suc from) (suc to) (x ∷ l) = rw suc-sub-suc (part from to l)
 -- one piece for a stretch
 
 abbrev piece_of : ℕ → ℕ → Bor (List ℕ) → Bor (List ℕ)
-piece_of from to s = record { ref_ptr = (s.ref_ptr.0, from + s.ref_ptr.1); ghost_name = s.ghost_name; now = slice from to s.now }
+piece_of from to s = record { ref_ptr = (s.ref_ptr.0, from + s.ref_ptr.1); now = slice from to s.now }
 
 same_piece : {from to : ℕ} {s r q : Bor (List ℕ)} → PartOf from to s r → PartOf from to s q → SamePiece r q
 same_piece p o =

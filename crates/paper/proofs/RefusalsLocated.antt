@@ -67,6 +67,7 @@ pub record LiesIn (inputs : List Lent) (n : ℕ) (i : Input) (at : ℕ) : Type 0
 
 pub decided_lies : (inputs : List Lent) (ss : List Stage) (n : ℕ) (i : Input) (at : ℕ) → AllLocated inputs ss → Decided ss n i at
     → LiesIn inputs n i at
+decided_lies inputs [] n i at h d = elim d [ ]
 decided_lies inputs (s ∷ ss) n i at h (inl (e, w)) =
     record { bytes = h.0.bytes; among = rw e h.0.among; bounded = h.0.bounded n at w.fault }
 decided_lies inputs (s ∷ ss) n i at h (inr (free, d)) = decided_lies inputs ss n i at (h.1 free) d

@@ -99,6 +99,7 @@ clear_append [] ts h k = k
 clear_append (s ∷ ss) ts h k = (h.0, clear_append ss ts h.1 k)
 
 decided_here : (ss ts : List Stage) (n : ℕ) (i : Input) (at : ℕ) → Decided ss n i at → Decided (ss ++ ts) n i at
+decided_here [] ts n i at h = elim h [ ]
 decided_here (s ∷ ss) ts n i at (inl h) = inl h
 decided_here (s ∷ ss) ts n i at (inr h) = inr (h.0, decided_here ss ts n i at h.1)
 
@@ -130,6 +131,7 @@ Same n i at m j to = (n ≡ m) × (i ≡ j) × (at ≡ to)
 
 one_decided : (ss : List Stage) (n : ℕ) (i : Input) (at m : ℕ) (j : Input) (to : ℕ) → Decided ss n i at → Decided ss m j to
     → Same n i at m j to
+one_decided [] n i at m j to h _ = elim h [ ]
 one_decided (s ∷ ss) n i at m j to (inl h) (inl g) =
     let e = one_wins s.faults n at m to h.1 g.1 in
     (e.0, h.0 ∙ sym g.0, e.1)
@@ -138,6 +140,7 @@ one_decided (s ∷ ss) n i at m j to (inr h) (inl g) = absurd (h.0 m to g.1.faul
 one_decided (s ∷ ss) n i at m j to (inr h) (inr g) = one_decided ss n i at m j to h.1 g.1
 
 not_clear : (ss : List Stage) (n : ℕ) (i : Input) (at : ℕ) → Clear ss → ¬ Decided ss n i at
+not_clear [] n i at h d = elim d [ ]
 not_clear (s ∷ ss) n i at h (inl g) = h.0 n at g.1.fault
 not_clear (s ∷ ss) n i at h (inr g) = not_clear ss n i at h.1 g.1
 

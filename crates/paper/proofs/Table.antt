@@ -77,9 +77,9 @@ tree_follows text =
 restriction_follows : (text list : List ℕ) → Follows (check_stages text list) (restriction text list)
 unfolding restriction
 restriction_follows text list =
-    follows_then (size_stages text) _ (sized text) _ (size_follows text)
+    follows_then (size_stages text) (list_stages list ++ (tree_stages text ++ type_stages text list)) (sized text) _ (size_follows text)
     (λ _ _.
-    follows_then (list_stages list) _ (keys list) _ (list_follows list)
+    follows_then (list_stages list) (tree_stages text ++ type_stages text list) (keys list) _ (list_follows list)
     (λ ks listed.
     follows_then (tree_stages text) (type_stages text list) (tree text) (λ t. typed ks t >>= λ _. ok (record { keys = ks; root = t }))
     (tree_follows text)

@@ -12,7 +12,7 @@ use paper::{
 };
 
 #[repr(C)]
-#[derive(Drop)]
+#[derive(Clone, Copy)]
 pub struct PolluxAnswer {
     pub says: u64,
     pub number: u64,

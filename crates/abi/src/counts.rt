@@ -9,7 +9,7 @@ use paper::{Counting, Reading};
 
 // struct pollux_counts of include/pollux.h.
 #[repr(C)]
-#[derive(Drop)]
+#[derive(Clone, Copy)]
 pub struct PolluxCounts {
     pub says: u64,
     pub number: u64,

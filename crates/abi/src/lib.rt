@@ -4,6 +4,8 @@
 // `count` eight, `summarize` seven, `recheck` and `run_all` five, which stand for a result that keeps the promise of the call of `valve` below it
 // (specs/Told); `translate`, `print`, `fix_octal` and `pact` also promise what each byte of the buffer holds afterwards, `run_all` what each byte of
 // the answers does, and `count`, whose numbers for the parts are a pointer alone, what each of these is.
+#![tactic(auto)]
+
 mod answer;
 mod counts;
 mod heard;

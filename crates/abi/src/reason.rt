@@ -9,7 +9,7 @@ use paper::{Explanation, Judgement, Place, refused};
 
 // struct pollux_reason of include/pollux.h.
 #[repr(C)]
-#[derive(Drop)]
+#[derive(Clone, Copy)]
 pub struct PolluxReason {
     pub says: u64,
     pub number: u64,

@@ -9,7 +9,7 @@ use paper::Rechecking;
 
 // struct pollux_rechecked of include/pollux.h.
 #[repr(C)]
-#[derive(Drop)]
+#[derive(Clone, Copy)]
 pub struct PolluxRechecked {
     pub says: u64,
     pub number: u64,

@@ -10,7 +10,7 @@ use paper::{Checking, Summarizing};
 
 // struct pollux_summary of include/pollux.h.
 #[repr(C)]
-#[derive(Drop)]
+#[derive(Clone, Copy)]
 pub struct PolluxSummary {
     pub says: u64,
     pub number: u64,

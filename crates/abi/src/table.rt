@@ -9,7 +9,7 @@ use paper::{Reading, RunningAll};
 
 // struct pollux_table of include/pollux.h.
 #[repr(C)]
-#[derive(Drop)]
+#[derive(Clone, Copy)]
 pub struct PolluxTable {
     pub says: u64,
     pub number: u64,

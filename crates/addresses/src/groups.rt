@@ -10,7 +10,7 @@ use number::Magnitude;
 use spelling::bytes::{DECIMAL, HEX};
 
 // Whether all parts are good; if so, how many there are, and the number that they are after another.
-#[derive(Drop)]
+#[derive(Clone, Copy)]
 pub struct PartsRead {
     pub ok: bool,
     pub count: usize,

@@ -2,6 +2,8 @@
 //
 // `scheme_of` tells which word begins an address, and `read` what its string is: bad, or a number below 2^128. Both
 // take bytes of any length and content, and answer what the definitions give (`scheme_of`, `address`).
+#![tactic(auto)]
+
 mod groups;
 mod ipv6;
 mod parts;
@@ -14,7 +16,7 @@ ghost use Rattle.addresses.specs.Reads.{named, scheme, ReadAs};
 use number::Magnitude;
 use spelling::bytes::same_bytes;
 
-#[derive(Drop)]
+#[derive(Clone, Copy)]
 pub enum Scheme {
     Ipv4,
     Ipv6,
@@ -22,14 +24,14 @@ pub enum Scheme {
 }
 
 // A word that begins an address, or another.
-#[derive(Drop)]
+#[derive(Clone, Copy)]
 pub enum SchemeName {
     Is(Scheme),
     Other,
 }
 
 // Whether a string is good; if so, its number, and else zero.
-#[derive(Drop)]
+#[derive(Clone, Copy)]
 pub struct Address {
     pub ok: bool,
     pub number: Magnitude,

@@ -5,7 +5,7 @@ ghost use Rattle.answers.specs.Framing.{is_cut};
 
 use libc::STDIN_FILENO;
 
-#[derive(Drop)]
+#[derive(Clone, Copy)]
 pub enum Received {
     Whole(usize),
     TooLong,

@@ -8,6 +8,8 @@
 // piece. After a summary stands how many keys are named. A recheck has a change of an entry as third input (changes.rt). A third input that
 // is shorter than what it is made of gives `malformed`. Call 14 has entries laid end to end as third input, and call 15 bytes for answers before
 // them (entries.rt), whose sum as they stand after the call follows what it answers.
+#![tactic(auto)]
+
 mod adler;
 mod calls;
 mod changes;

@@ -5,7 +5,7 @@ ghost use Rattle.paper.specs.Blocks.{blocks_needed};
 ghost use Rattle.blocks.specs.Fields.{BlockOf};
 
 // What a block says of itself.
-#[derive(Drop)]
+#[derive(Clone, Copy)]
 pub struct Block {
     pub number: usize,
     pub count: usize,

@@ -3,6 +3,8 @@
 // `layout` answers for any bytes: the count of instructions that the blocks hold, or refusal 16 or 17 at its place. It reads
 // nothing past the bytes it is lent. `write_blocks` fills exactly the blocks that the instructions of the bytes it is lent need, and
 // leaves every later byte of the buffer.
+#![tactic(auto)]
+
 mod fields;
 mod laying;
 mod sums;

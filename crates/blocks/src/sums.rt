@@ -3,7 +3,7 @@ ghost use Rattle.std.specs.Prelude.{◌≡◌, ◌*◌, ◌+◌, ◌/◌, ◌≤
 ghost use Rattle.paper.specs.Blocks.{sums_of};
 ghost use Rattle.blocks.specs.Sealed.{sums_meant, TurnedWord, Added, sealed_at};
 
-#[derive(Drop)]
+#[derive(Clone, Copy)]
 pub struct Sums {
     pub first: u32,
     pub second: u32,

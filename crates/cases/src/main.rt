@@ -1,5 +1,7 @@
 // Document 01's judgements and both sides of every limit, through the public calls. The cases stand in crates/cases/stdin, whose head
 // says how they are written; each prints its name and what it got. What it must get stands in crates/cases/stdout.
+#![tactic(auto)]
+
 mod calls;
 mod commands;
 mod inputs;

@@ -6,6 +6,8 @@
 //
 // The cost: each of the rounds tries the parts not yet used, and a try stops at the first record that differs. Of 1,024 tokens k parts have at
 // most 1,024 / k tokens each, so that all tries together compare at most some 2^17 records of 20 bytes.
+#![tactic(auto)]
+
 mod agreeing;
 mod picking;
 mod records;

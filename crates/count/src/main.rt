@@ -1,4 +1,6 @@
 // Counts the entries of a file by the parts of a text: `count TEXT KEYS ENTRIES`, in the lines of the crate `report`.
+#![tactic(auto)]
+
 const TEXT: usize = 1;
 
 const KEYS: usize = 2;

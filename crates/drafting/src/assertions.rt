@@ -21,7 +21,7 @@ use trees::{Comparison, Operator};
 // A byte of indices has the left one above the right one.
 const INDICES: u8 = 16;
 
-#[derive(Drop)]
+#[derive(Clone, Copy)]
 pub struct Assertion {
     pub comparator: Comparator,
     pub left: usize,

@@ -20,7 +20,7 @@ const NODES: usize = 2 * MOST_TOKENS + 8;
 // The words of so many nodes.
 pub const NODE_WORDS: usize = NODES * Node::WORDS;
 
-#[derive(Drop)]
+#[derive(Clone, Copy)]
 pub enum Outcome {
     // The contract has a fault at a byte, or at its end.
     Fault(usize),

@@ -18,28 +18,28 @@ use keys::KeyRecord;
 use trees::{Comparison, Join, Operator};
 
 // A tree, once there is one.
-#[derive(Drop)]
+#[derive(Clone, Copy)]
 pub enum Part {
     Nothing,
     Tree(Piece),
 }
 
 // A conjunction that waits for its assertion.
-#[derive(Drop)]
+#[derive(Clone, Copy)]
 pub enum Link {
     Nothing,
     Waits(Conjunction),
 }
 
 // A comparator that waits for its indices.
-#[derive(Drop)]
+#[derive(Clone, Copy)]
 pub enum Opened {
     Nothing,
     Waits(Comparator),
 }
 
 // The clauses that are closed, joined by ";"; the clause that may go on; and what waits.
-#[derive(Drop)]
+#[derive(Clone, Copy)]
 pub struct Front {
     pub closed: Part,
     pub clause: Part,
@@ -47,7 +47,7 @@ pub struct Front {
     pub opened: Opened,
 }
 
-#[derive(Drop)]
+#[derive(Clone, Copy)]
 pub enum Step {
     On(Front),
     Fault,

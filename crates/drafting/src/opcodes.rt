@@ -3,7 +3,7 @@ ghost use Rattle.std.specs.Prelude.{◌≡◌, ◌/◌, ◌%◌, eqb};
 ghost use Rattle.paper.specs.Pact.{comparing, conjoining, load_of, relation_of, linking_of, opcode_of};
 ghost use Rattle.drafting.specs.Opcodes.{load_meant, opcode_meant};
 
-#[derive(Drop)]
+#[derive(Clone, Copy)]
 pub enum Relation {
     Equal,
     Greater,
@@ -11,33 +11,33 @@ pub enum Relation {
 }
 
 // Where the right operand of a comparison comes from.
-#[derive(Drop)]
+#[derive(Clone, Copy)]
 pub enum Load {
     User,
     Input,
 }
 
-#[derive(Drop)]
+#[derive(Clone, Copy)]
 pub enum Linking {
     And,
     Or,
     Xor,
 }
 
-#[derive(Drop)]
+#[derive(Clone, Copy)]
 pub struct Comparator {
     pub inverted: bool,
     pub load: Load,
     pub relation: Relation,
 }
 
-#[derive(Drop)]
+#[derive(Clone, Copy)]
 pub struct Conjunction {
     pub inverted: bool,
     pub linking: Linking,
 }
 
-#[derive(Drop)]
+#[derive(Clone, Copy)]
 pub enum Opcode {
     Compares(Comparator),
     Conjoins(Conjunction),

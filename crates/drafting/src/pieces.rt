@@ -9,7 +9,7 @@ use crate::sizes::{MOST_TOKENS, Size};
 use trees::{Operator, Prefix};
 
 // A tree: its size, and the node after its root. One that is over the limit of tokens is not put.
-#[derive(Drop)]
+#[derive(Clone, Copy)]
 pub struct Piece {
     pub size: Size,
     pub end: usize,

@@ -16,7 +16,7 @@ pub const MOST_TOKENS: usize = 1024;
 pub const MOST_LEVELS: usize = 64;
 
 // The tokens and levels of a tree's text, and the rung of its operator.
-#[derive(Drop)]
+#[derive(Clone, Copy)]
 pub struct Size {
     pub tokens: usize,
     pub levels: usize,
@@ -24,7 +24,7 @@ pub struct Size {
 }
 
 // The tokens and levels of an operand, with the parentheses that it needs where it stands.
-#[derive(Drop)]
+#[derive(Clone, Copy)]
 struct Extent {
     tokens: usize,
     levels: usize,

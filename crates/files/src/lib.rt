@@ -1,5 +1,7 @@
 // Files that a program's arguments name: their first bytes and their true size, the offsets of refusals in them, and what is said of one that
 // cannot be read. The programs for people share this.
+#![tactic(auto)]
+
 mod reading;
 mod say;
 mod sizes;

@@ -4,7 +4,7 @@ ghost use Rattle.std.specs.Prelude.{◌+◌, ◌≤◌, length};
 use crate::say::cannot_read;
 
 // Whether a file could be read, how many of its first bytes are held, and how many it has.
-#[derive(Drop)]
+#[derive(Clone, Copy)]
 pub struct File {
     pub read: bool,
     pub held: usize,

@@ -16,7 +16,7 @@ use crate::tape::{Next, next_in};
 use tokens::kinds::{AND_ALSO, AT_MOST, EQUAL, IMPLIES, MINUS, NOT, OPENING, OR_ELSE, SEQUEL};
 
 // The lowest and the highest kind of some signs.
-#[derive(Drop)]
+#[derive(Clone, Copy)]
 struct KindRange(u32, u32);
 
 // The operators of a rung.

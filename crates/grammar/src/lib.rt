@@ -4,6 +4,8 @@
 // one tree, in a lent slice of eight words a node, or refuses with the first number and place that document 01 gives: 8, 9
 // or 10. It promises the definition's answer (`parsed`) for every tape, and the tree's words one by one (`words`, crate
 // trees).
+#![tactic(auto)]
+
 mod ladder;
 mod leaves;
 mod steps;

@@ -12,7 +12,7 @@ use paper::kinds;
 use spelling::bytes;
 
 // What the head holds.
-#[derive(Drop)]
+#[derive(Clone, Copy)]
 pub struct Entry {
     pub priority: u32,
 }
@@ -35,7 +35,7 @@ impl Entry {
 }
 
 // What a key's record reads as: value or low, mask or high, prefix length.
-#[derive(Drop)]
+#[derive(Clone, Copy)]
 pub struct Matched {
     pub first: Magnitude,
     pub second: Magnitude,

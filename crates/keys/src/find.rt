@@ -7,7 +7,7 @@ use crate::record;
 use crate::record::KeyRecord;
 use spelling::bytes;
 
-#[derive(Drop)]
+#[derive(Clone, Copy)]
 pub enum Found {
     At(usize),
     Nothing,

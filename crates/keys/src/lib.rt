@@ -2,6 +2,8 @@
 //
 // A list and an entry are lent as bytes, of any length, and are never copied: a key is known by its record's index. What
 // each function answers is document 01's definition of the bytes that were lent, and no byte past their end is read.
+#![tactic(auto)]
+
 mod conform;
 mod entry;
 mod find;

@@ -11,7 +11,7 @@ use crate::{find, record};
 use paper::{Counted, Place, kinds, refused};
 
 // What is asked of a record before its name is compared.
-#[derive(Drop)]
+#[derive(Clone, Copy)]
 enum Rule {
     // That it keeps its layout.
     Layout,

@@ -7,7 +7,7 @@ ghost use Rattle.keys.specs.Says.{KeyRead};
 use paper::kinds;
 use spelling::{bytes, word};
 
-#[derive(Drop)]
+#[derive(Clone, Copy)]
 pub struct KeyRecord {
     pub kind: u8,
     pub width: u8,

@@ -23,7 +23,7 @@ const FIRST_BYTE: Magnitude = Magnitude {
     limbs: [0, 0, 0, 0x0100_0000],
 };
 
-#[derive(Drop)]
+#[derive(Clone, Copy)]
 struct Parts {
     operation: u8,
     detail: u8,

@@ -9,7 +9,7 @@ use keys::KeyRecord;
 use number::Magnitude;
 
 // What an instruction does. Kinds, fields, comparisons and connectives are held by their numbers in document 01.
-#[derive(Drop)]
+#[derive(Clone, Copy)]
 pub enum Op {
     PushBool(bool),
     // Its number is the instruction's constant.
@@ -30,7 +30,7 @@ pub enum Op {
     Wrong,
 }
 
-#[derive(Drop)]
+#[derive(Clone, Copy)]
 pub struct Instruction {
     pub op: Op,
     pub constant: Magnitude,

@@ -5,6 +5,8 @@
 // on top; a second loop then holds each skip's landing to the mark after the skip. `check_code` answers for all bytes that have room for
 // n instructions: passed, or refusal 18 at its place. `run_each` is for blocks that load and entries that lie end to end, which it checks itself;
 // of one that conforms no instruction can fail, and it tests nothing more. Its array is cleared once for all of them.
+#![tactic(auto)]
+
 mod checking;
 mod decoding;
 mod following;

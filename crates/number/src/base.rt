@@ -5,7 +5,7 @@ ghost use Rattle.number.specs.Bases.{base_meant, of_radix, literal_meant};
 
 use crate::magnitude::Magnitude;
 
-#[derive(Drop)]
+#[derive(Clone, Copy)]
 pub enum Base {
     Decimal,
     Binary,
@@ -13,7 +13,7 @@ pub enum Base {
 }
 
 // A number, and the base in which it is written.
-#[derive(Drop)]
+#[derive(Clone, Copy)]
 pub struct Literal {
     pub base: Base,
     pub number: Magnitude,

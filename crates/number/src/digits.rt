@@ -5,13 +5,13 @@ ghost use Rattle.number.specs.Values.{value, Grows};
 use crate::magnitude::Magnitude;
 
 // Whether the number still fits, and its lowest 128 bits.
-#[derive(Drop)]
+#[derive(Clone, Copy)]
 pub struct Extended {
     pub ok: bool,
     pub number: Magnitude,
 }
 
-#[derive(Drop)]
+#[derive(Clone, Copy)]
 struct Carry {
     limb: u32,
     over: u32,

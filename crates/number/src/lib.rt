@@ -4,6 +4,8 @@
 // A Magnitude is four 32-bit limbs by value. Its operations are told by the number that the limbs stand for
 // (`value`), and a Whole's by the whole number (`whole_of`), so no caller needs to look at a limb. All of them
 // take every value: only those that read or write bytes ask that the bytes be there, and those that divide ask for a base.
+#![tactic(auto)]
+
 mod base;
 mod bytes;
 mod compare;

@@ -10,20 +10,20 @@ use crate::magnitude::Magnitude;
 pub const MOST_LIMB_DIGITS: usize = 32;
 
 // A number without its last digits, and those digits.
-#[derive(Drop)]
+#[derive(Clone, Copy)]
 struct Divided {
     number: Magnitude,
     rest: u32,
 }
 
 // The bytes of a numeral, from `first` on.
-#[derive(Drop)]
+#[derive(Clone, Copy)]
 pub struct Digits {
     pub bytes: [u8; 128],
     pub first: usize,
 }
 
-#[derive(Drop)]
+#[derive(Clone, Copy)]
 struct Split {
     limb: u32,
     rest: u32,

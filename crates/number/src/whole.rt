@@ -6,7 +6,7 @@ ghost use Rattle.number.specs.Values.{value, whole_of};
 
 use crate::magnitude::Magnitude;
 
-#[derive(Drop)]
+#[derive(Clone, Copy)]
 pub struct Whole {
     pub negative: bool,
     pub size: Magnitude,

@@ -37,7 +37,7 @@ fn past(w: u32, n: u32) -> u32
     if w < n { 0 } else { w - n }
 }
 
-#[derive(Drop)]
+#[derive(Clone, Copy)]
 struct Borrowed {
     limb: u32,
     owed: bool,

@@ -3,6 +3,8 @@
 //
 // An index may be any number: past the list there is no type, and any value is right. Types are told for every list; values for
 // a good list and an entry that conforms to it, as the checks of the crate `keys` tell.
+#![tactic(auto)]
+
 mod cells;
 mod types;
 

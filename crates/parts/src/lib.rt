@@ -3,6 +3,8 @@
 // `find` is for a reader that still has the tape of the text's tokens and the nodes of its tree. It stores a row for each part: its first
 // byte, its end and the node of its root (`rows`), for those that judge and show parts one by one. The tokens are gone over once, and of the
 // nodes only those that join parts.
+#![tactic(auto)]
+
 ghost use Rattle.parts.specs.Found.{Taped, Noded, Room, Finds};
 
 mod cutting;

@@ -24,7 +24,7 @@ const ENTRIES: usize = 4;
 
 const EDITED: usize = 5;
 
-#[derive(Drop)]
+#[derive(Clone, Copy)]
 pub enum Call {
     Check,
     Translate,

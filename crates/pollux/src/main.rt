@@ -7,6 +7,8 @@
 // A count has the lines of the crate `report`, and a refusal there begins with refusal.
 // Files may have any length: a place that is a length is the file's true length, and entries stream through one buffer. No output file is
 // touched unless the whole call passes, and it is written whole or not at all.
+#![tactic(auto)]
+
 mod calls;
 mod pacts;
 mod sizes;

@@ -4,7 +4,7 @@ ghost use Rattle.std.specs.Prelude.{◌≤◌, length};
 use spelling::bytes::digit_of;
 use spelling::runs::{Run, run_end};
 
-#[derive(Drop)]
+#[derive(Clone, Copy)]
 pub enum Spelled {
     Number(u64),
     // No decimal number, or one of 2^64 or more.
@@ -12,7 +12,7 @@ pub enum Spelled {
 }
 
 // What was found in a text: so many numbers, of those that are kept, or a line that holds none, by its offset.
-#[derive(Drop)]
+#[derive(Clone, Copy)]
 pub enum Found {
     Numbers(usize),
     Wrong(usize),

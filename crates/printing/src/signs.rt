@@ -8,7 +8,7 @@ use crate::put;
 use trees::{Comparison, Join, Operator, Prefix};
 
 // From ";", the loosest, to prefix operators and atoms.
-#[derive(Drop)]
+#[derive(Clone, Copy)]
 pub enum Rung {
     Sequel,
     Implies,

@@ -132,7 +132,7 @@ pub fn recheck(text: &[u8], list: &[u8], old: &[u8], earlier: Judgement, new: &[
 }
 
 // What a text, a list and an entry come to by way of blocks, and by the text alone.
-#[derive(Drop)]
+#[derive(Clone, Copy)]
 pub enum Carrying {
     // No blocks were written: the refusal.
     Refused(u8, Place),

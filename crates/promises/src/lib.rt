@@ -1,6 +1,8 @@
 // What we advertise, as contracts, so that whatever is lost fails the gate. Functions that do nothing state theorems about the definitions
 // of `paper`, and the examples and wrong programs of `tried`; those of `calls`, and the last two of `pieces`, state the demands of what the real
 // calls of `valve` answer.
+#![tactic(auto)]
+
 mod accounts;
 mod bases;
 mod bits;

@@ -7,7 +7,7 @@ use paper::{Counted, Place};
 
 // The tree of a text, by a number: how many nodes it has, or its root's. Beside it, how many parts of the text stand in the rows that were lent
 // for them. Or a refusal; or a text that has more tokens than there is room for.
-#[derive(Drop)]
+#[derive(Clone, Copy)]
 pub(crate) enum Grown {
     Tree(usize, usize),
     Refused(u8, Place),

@@ -10,6 +10,8 @@
 //
 // `restrict_parts` gives the same refusals, or how many parts the text has. They are found while the tokens still stand on the tape, and
 // stored in rows (crate parts); the trees at their roots can be judged one by one. A reader that is lent no rows looks for no parts.
+#![tactic(auto)]
+
 ghost use Rattle.std.specs.Prelude.{◌*◌, ◌≤◌, length};
 ghost use Rattle.paper.specs.Tokens.{most_text};
 ghost use Rattle.parts.specs.Found.{Taped, Noded, Finds};

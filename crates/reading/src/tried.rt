@@ -5,7 +5,7 @@ ghost use Rattle.reading.specs.Grown.{Settled, answer_of};
 use paper::Counted;
 
 // For how many tokens there is room.
-#[derive(Drop)]
+#[derive(Clone, Copy)]
 pub(crate) enum Scratch {
     // For those of a short text. Most texts have no more, however long they are, and less is to be cleared.
     Short,
@@ -13,7 +13,7 @@ pub(crate) enum Scratch {
     Long,
 }
 
-#[derive(Drop)]
+#[derive(Clone, Copy)]
 pub enum Tried {
     // What is answered where there is room.
     Answered(Counted),

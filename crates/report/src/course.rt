@@ -8,7 +8,7 @@ ghost use Rattle.report.specs.Reached.{rule_of, Reaches, Begun};
 use counting::Totals;
 
 // The whole entries so far, what they were judged, and the bytes after the last of them.
-#[derive(Drop)]
+#[derive(Clone, Copy)]
 pub struct Course {
     pub whole: usize,
     pub totals: Totals,

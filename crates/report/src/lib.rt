@@ -4,6 +4,8 @@
 //
 // The text is read once. The file streams through one buffer, as many whole entries at a time as this holds, so that its length takes no more
 // memory. Nothing is written before the file has come to its end, or to one entry more than there may be.
+#![tactic(auto)]
+
 mod arguments;
 mod course;
 mod progress;

@@ -2,6 +2,8 @@
 //
 // What is found is marked in the node of the name (crate trees). A name of nothing has its mark too, so that a text is refused at its
 // first such name by the type check, in the order of document 01, and not here.
+#![tactic(auto)]
+
 ghost use Rattle.std.specs.Prelude.{◌≡◌, ◌+◌, ◌*◌, ◌≤◌, length};
 ghost use Rattle.paper.specs.Tokens.{bytes, same_bytes};
 ghost use Rattle.paper.specs.Keys.{find};

@@ -8,7 +8,7 @@ use crate::runs::Run;
 use crate::{bytes, runs};
 use number::{Base, Extended, Magnitude};
 
-#[derive(Drop)]
+#[derive(Clone, Copy)]
 pub enum Fit {
     Fits,
     TooLarge,
@@ -16,14 +16,14 @@ pub enum Fit {
 }
 
 // How a numeral is written: in a base, or in octal, which no token has.
-#[derive(Drop)]
+#[derive(Clone, Copy)]
 pub enum Notation {
     Based(Base),
     Octal,
 }
 
 // What a run is; the notation is that of a numeral, and the number that of a numeral that fits.
-#[derive(Drop)]
+#[derive(Clone, Copy)]
 pub struct Numeral {
     pub sort: Fit,
     pub notation: Notation,
@@ -31,7 +31,7 @@ pub struct Numeral {
 }
 
 // What the first bytes of a run announce.
-#[derive(Drop)]
+#[derive(Clone, Copy)]
 pub enum Announced {
     Digits(Notation),
     Nothing,

@@ -5,7 +5,7 @@ ghost use Rattle.spelling.specs.Runs.{in_run, EndsAt, line_more, stride};
 
 use crate::{bytes, word};
 
-#[derive(Drop)]
+#[derive(Clone, Copy)]
 pub enum Run {
     // Letters, digits and underscores.
     Name,

@@ -12,7 +12,7 @@ use paper::Explanation;
 use wording::broken::{judged_as, say_judged};
 
 // How entries are judged: by a text, without a word of what broke or with one, or by blocks.
-#[derive(Drop)]
+#[derive(Clone, Copy)]
 pub enum Way {
     Judge,
     Explain,

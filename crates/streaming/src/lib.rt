@@ -2,6 +2,8 @@
 // answer.
 //
 // Files may have any length: each streams through one buffer, as many whole entries at a time as this holds, so that none stands across two turns.
+#![tactic(auto)]
+
 mod entries;
 mod ran;
 mod rechecks;

@@ -13,21 +13,21 @@ use wording::broken::say_judgement;
 use wording::say::say_two;
 
 // Both files, open.
-#[derive(Drop)]
+#[derive(Clone, Copy)]
 pub struct Files {
     pub old: i32,
     pub new: i32,
 }
 
 // The new entries by their answers, and how many of these were reused.
-#[derive(Drop)]
+#[derive(Clone, Copy)]
 pub struct Counts {
     pub tally: Tally,
     pub reused: usize,
 }
 
 // What was rechecked, and how many bytes the last turn got of each file: of one that ended before the other it got fewer.
-#[derive(Drop)]
+#[derive(Clone, Copy)]
 pub struct Course {
     pub counts: Counts,
     pub old: usize,

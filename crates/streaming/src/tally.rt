@@ -7,7 +7,7 @@ use paper::Judgement;
 use wording::say::{say_count, say_three};
 
 // How many entries were accepted, violated and refused.
-#[derive(Drop)]
+#[derive(Clone, Copy)]
 pub struct Tally {
     pub accepted: usize,
     pub violated: usize,
@@ -50,7 +50,7 @@ impl Tally {
 }
 
 // What a file comes to. Only blocks take steps, of whose number 64 bits are kept.
-#[derive(Drop)]
+#[derive(Clone, Copy)]
 pub struct Totals {
     pub tally: Tally,
     pub steps: u64,

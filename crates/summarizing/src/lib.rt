@@ -3,6 +3,8 @@
 // The walk goes left, then right, and the node number falls at each step. What it gives is the set of the keys that the definition `names`
 // finds in the tree at its node, and the mark of the definition `marked`, where that tree has a type. What the tree's names name is read off
 // the marks of its nodes, which the crate `resolving` writes.
+#![tactic(auto)]
+
 mod same;
 mod set;
 mod walk;

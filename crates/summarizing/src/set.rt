@@ -7,7 +7,7 @@ ghost use Rattle.summarizing.specs.Sums.{Sums};
 use keys::KeyRecord;
 
 // The keys that are named, bit k for key k of the list, and whether the priority is.
-#[derive(Drop)]
+#[derive(Clone, Copy)]
 pub struct Summary {
     pub keys: u32,
     pub priority: bool,

@@ -13,7 +13,7 @@ use spelling::bytes;
 
 // How the pass goes on, by what is found after n tokens: a piece up to an offset is copied or written in hex, with so many tokens before the next
 // one; or there is a refusal of a number.
-#[derive(Drop)]
+#[derive(Clone, Copy)]
 pub enum Step {
     Copied(usize, usize),
     InHex(usize, usize),

@@ -1,5 +1,5 @@
 // What stands at a byte that no token before it covers.
-#[derive(Drop)]
+#[derive(Clone, Copy)]
 pub enum Lexeme {
     // A blank, up to an offset.
     Blank(usize),

@@ -3,6 +3,8 @@
 // `tokenize` cuts a text of at most 4,096 bytes into at most 1,024 tokens, or gives refusal 5, 6, 7 or 22 at the byte
 // that the documents say; or it tells that the tape is too small. `rows` owns the layout of a token's eight words and reads them; specs/Tape.antt reads the tape
 // back as the paper's tokens. `fixing` writes a text anew without its octal numerals.
+#![tactic(auto)]
+
 ghost use Rattle.std.specs.Prelude.{◌≡◌, ◌≤◌, length};
 ghost use Rattle.paper.specs.Tokens.{most_text};
 ghost use Rattle.tokens.specs.Tape.{tape_of};
@@ -26,7 +28,7 @@ mod signs;
 pub const MOST_TOKENS: usize = 1024;
 
 // What a text is cut into.
-#[derive(Drop)]
+#[derive(Clone, Copy)]
 pub enum Cut {
     // So many tokens, which stand on the tape.
     Counted(usize),

@@ -11,7 +11,7 @@ use crate::MOST_TOKENS;
 use number::{Base, Literal, Magnitude};
 
 // A token as it is stored. The literal is that of a numeral.
-#[derive(Drop)]
+#[derive(Clone, Copy)]
 pub struct Row {
     pub kind: u32,
     pub start: usize,

@@ -14,7 +14,7 @@ use spelling::runs::Run;
 use spelling::{bytes, numerals, runs};
 
 // The literal is that of a numeral, and of an octal one the literal in hex.
-#[derive(Drop)]
+#[derive(Clone, Copy)]
 pub struct Scanned {
     pub found: Lexeme,
     pub literal: Literal,

@@ -3,6 +3,8 @@
 // A node is written by its number, and read by it as an enum; what its names name is marked in it later, once they are resolved. The definition `tree_at` says which tree has its root at a
 // node; the walks above (types, values, code) are described by it, and proofs/Stored.antt shows that it is the tree whose
 // words were written.
+#![tactic(auto)]
+
 mod kinds;
 mod marks;
 mod names;

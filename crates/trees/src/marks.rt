@@ -7,7 +7,7 @@ use crate::node;
 use crate::node::{Leaf, Node};
 
 // What a node with no operand is, by its marks.
-#[derive(Drop)]
+#[derive(Clone, Copy)]
 pub enum Operand {
     Truth(bool),
     Number(u32, u32, u32, u32),

@@ -7,13 +7,13 @@ ghost use Rattle.trees.specs.Nodes.{leaf_of, leaf_at, node_of, node_at, place_at
 use crate::kinds;
 use number::Base;
 
-#[derive(Drop)]
+#[derive(Clone, Copy)]
 pub enum Prefix {
     Not,
     Minus,
 }
 
-#[derive(Drop)]
+#[derive(Clone, Copy)]
 pub enum Join {
     Sequel,
     Implies,
@@ -21,7 +21,7 @@ pub enum Join {
     And,
 }
 
-#[derive(Drop)]
+#[derive(Clone, Copy)]
 pub enum Comparison {
     Equal,
     Unequal,
@@ -49,14 +49,14 @@ impl Comparison {
 }
 
 // Offsets in the text: of a name's first byte, and past its last.
-#[derive(Drop)]
+#[derive(Clone, Copy)]
 pub struct Span {
     pub from: usize,
     pub to: usize,
 }
 
 // A node with no operand.
-#[derive(Drop)]
+#[derive(Clone, Copy)]
 pub enum Leaf {
     Truth(bool),
     Number(Base, u32, u32, u32, u32),
@@ -66,14 +66,14 @@ pub enum Leaf {
 }
 
 // An operator between two operands.
-#[derive(Drop)]
+#[derive(Clone, Copy)]
 pub enum Operator {
     Joins(Join),
     Compares(Comparison),
 }
 
 // What a node is. The operand, or the right one, is the node before it; the left one is named.
-#[derive(Drop)]
+#[derive(Clone, Copy)]
 pub enum Node {
     Without,
     Before(Prefix),

@@ -12,7 +12,7 @@ use crate::node::{Comparison, Join, Node, Operator, Prefix};
 use number::Literal;
 
 // The words of a node but for the last, which is a mark and is not known yet.
-#[derive(Drop)]
+#[derive(Clone, Copy)]
 struct Row {
     kind: u32,
     place: u32,

@@ -14,7 +14,7 @@ use keys::KeyRecord;
 use number::{Magnitude, Whole};
 use paper::{fields, kinds};
 
-#[derive(Drop)]
+#[derive(Clone, Copy)]
 pub enum Sort {
     Truth(bool),
     // Whether it is negative.
@@ -25,7 +25,7 @@ pub enum Sort {
 
 // A whole number's size is in `first`. A match has all four: `first` is its value or low, `second` its mask or high,
 // and a width over 128 is read as 128, so that every cell holds a value that the operations can work on exactly.
-#[derive(Drop)]
+#[derive(Clone, Copy)]
 pub struct Cell {
     pub sort: Sort,
     pub width: u8,

@@ -13,7 +13,7 @@ use paper::{fields, kinds};
 use spelling::bytes::same_bytes;
 
 // A field's number in document 01.
-#[derive(Drop)]
+#[derive(Clone, Copy)]
 pub enum Named {
     Field(u8),
     Nothing,

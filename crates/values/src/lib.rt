@@ -4,6 +4,8 @@
 // argument: kinds, fields, comparisons and connectives go by their numbers, and a number past the last is read as the
 // last. Only a width that is handed over to be held in a cell must be at most 128. Whoever walks a tree or runs
 // instructions has only to walk.
+#![tactic(auto)]
+
 mod cell;
 mod comparing;
 pub mod connectives;

@@ -8,7 +8,7 @@ ghost use Rattle.values.specs.Typed.{ty_meant, typing_meant};
 use paper::kinds;
 
 // A key's kind is held as its number in a key list. Any number over 4 is read as 4, optional.
-#[derive(Drop)]
+#[derive(Clone, Copy)]
 pub enum Type {
     Bool,
     Int,
@@ -17,7 +17,7 @@ pub enum Type {
 }
 
 // What an operator gives, where it takes its operands.
-#[derive(Drop)]
+#[derive(Clone, Copy)]
 pub enum Typing {
     Is(Type),
     Wrong,

@@ -3,6 +3,8 @@
 // Every call keeps its promise (`paper`, specs/Promised) for all bytes, of any length and content: it answers what the definition of its
 // name in the documents' words (specs/Calls, Explained and Pieces for what broke, Named and Rechecking for what a text names, Fixing for texts on file, Drafting for contracts, Comparing for blocks of another translator, Counting and RunAll for entries laid end to end) says, its count or verdict, or the refusal with its number and place. It asks nothing of its caller, keeps
 // nothing from one call to the next, and reads nothing past the bytes it is lent. The scratch of a call lies in its own frame.
+#![tactic(auto)]
+
 mod account;
 mod comparison;
 mod counts;

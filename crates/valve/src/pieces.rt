@@ -7,7 +7,7 @@ use crate::reason;
 use paper::Explanation;
 
 // What `why` names of the text, and what it names of the list: one of them is empty, and both where there is nothing to show.
-#[derive(Drop)]
+#[derive(Clone, Copy)]
 pub struct Explained<'t, 'l> {
     pub text: &'t [u8],
     pub list: &'l [u8],

@@ -10,7 +10,7 @@ use paper::{Checking, Counted, Judgement, Rechecking};
 use reading::Tried;
 
 // What is found of the new entry.
-#[derive(Drop)]
+#[derive(Clone, Copy)]
 pub(crate) enum Beside {
     // Both conform, and are the same in all that the text names.
     Same,

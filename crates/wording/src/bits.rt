@@ -16,7 +16,7 @@ use trees::{Leaf, Node};
 const MOST_NODES: usize = reading::MOST_NODES;
 
 // The operand that is refused and the one beside it, by their nodes.
-#[derive(Drop)]
+#[derive(Clone, Copy)]
 struct Sides {
     found: bool,
     number: usize,

@@ -7,7 +7,7 @@ use lines::{say, start};
 use spelling::runs::{Run, run_end};
 
 // A line of a text: its number, counted from 1, and its bytes, from one offset up to another.
-#[derive(Drop)]
+#[derive(Clone, Copy)]
 struct Line {
     number: usize,
     from: usize,
@@ -15,7 +15,7 @@ struct Line {
 }
 
 // What is shown of a line.
-#[derive(Drop)]
+#[derive(Clone, Copy)]
 struct Stretch {
     from: usize,
     to: usize,

@@ -3,7 +3,7 @@ use crate::say::{say_count, say_number};
 use lines::say;
 
 // What stands before a byte.
-#[derive(Drop)]
+#[derive(Clone, Copy)]
 enum Before {
     Nothing,
     Assertion,

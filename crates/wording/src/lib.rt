@@ -4,6 +4,8 @@
 //
 // These only write, to standard output, and open no file: they are lent the bytes that an answer is of. Each ends the line that it begins, but for
 // the forms of `say` and the number of changed numerals, whose line the caller goes on with.
+#![tactic(auto)]
+
 mod bits;
 pub mod broken;
 pub mod caret;

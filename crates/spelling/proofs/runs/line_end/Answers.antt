@@ -11,6 +11,8 @@ use Rattle.spelling.specs.Runs.{in_run, line_more, stride}
 use Rattle.spelling.specs.declared.runs.Run.TheVariants.{Line}
 use Rattle.spelling.proofs.Spans.{span_skip}
 use Rattle.spelling.proofs.Steps.{granted}
+use mathlib.Core.Path.{sym}
+use mathlib.Core.Path.{◌∙◌}
 use Rattle.spelling.proofs.runs.line_end.Goals as goal
 
 abbrev text : goal.Else-not-goes_through → List ℕ

@@ -1,0 +1,12 @@
+-- What a comparison takes, it takes in the type in which its operands meet.
+use borrow.Author.Rules.{rules}
+use Rattle.paper.specs.Code.{comparison_of}
+use Rattle.paper.proofs.MeetingTypes.{compares_where_met}
+use Rattle.values.specs.Typed.{ty_meant}
+use Rattle.values.proofs.operators.comparison_type.Goals as goal
+
+pub returns-in-Is : goal.returns-in-Is
+returns-in-Is c =
+    let a = c.args in
+    rw (compares_where_met (comparison_of a.comparison) (ty_meant a.a) (ty_meant a.b), ← c.meet.ensures, c.in-Is.is)
+    c.compare_type.ensures

@@ -32,8 +32,8 @@ own_code Without x = operand_code x
 own_code (Before o) x = operation (prefix_meant o) ∷ []
 own_code (Between o left) x = operator o ∷ []
 
-abbrev pub field_own : List ℕ → ℕ → List Instruction
-field_own nodes i = own_code (node_at nodes i) (operand_at nodes i)
+abbrev pub own_at : List ℕ → ℕ → List Instruction
+own_at nodes i = own_code (node_at nodes i) (operand_at nodes i)
 
 -- where the left operand settles the join, over so many instructions
 abbrev pub settled : Connective → ℕ → Skip

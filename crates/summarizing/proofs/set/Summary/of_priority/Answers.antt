@@ -1,0 +1,7 @@
+-- The mark alone.
+use mathlib.Core.Path.{refl, sym}
+use Rattle.paper.proofs.KeySets.{none_set}
+use Rattle.summarizing.proofs.set.Summary.of_priority.Goals as goal
+
+pub returns : goal.returns
+returns c = record { keys = sym none_set; priority = refl }

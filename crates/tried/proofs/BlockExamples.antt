@@ -8,4 +8,4 @@ in_bytes = record { two = refl; four = refl; sixteen = refl; two_back = refl; si
 
 pub block_examples : BlockExamples
 unfolding sums_of layout
-block_examples = record { numbers = in_bytes; sums = refl; as_many_as_needed = refl; one_block_lem = refl; fewer_keys_than_listed = refl; two_blocks = refl }
+block_examples = record { numbers = in_bytes; sums = refl; as_many_as_needed = refl; one_block_lem = refl; fewer_keys_than_listed = refl; two_blocks_lem = refl }

@@ -38,4 +38,4 @@ refusals =
 
 pub compare_examples : CompareExamples
 unfolding restriction code_of blocks_of parts fits compare_answer
-compare_examples = record { orders = orders; of_three = refl; of_pairs = refl; of_codes = refl; refusals = refusals }
+compare_examples = record { orders = orders; of_three_lem = refl; of_pairs = refl; of_codes = refl; refusals = refusals }

@@ -37,7 +37,7 @@ meaning_examples =
       on_the_marked_entry = refl;
       of_ints_reduced = refl;
       of_one_value = refl;
-      one_value = one_value;
+      one_value_lem = one_value;
       of_ports = ports;
       of_absent_keys = refl;
     }

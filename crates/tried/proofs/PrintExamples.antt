@@ -16,7 +16,7 @@ print_examples =
       at_limits_lem = refl;
       kept_before_lem = refl;
       kept_after_lem = refl;
-      kept_under = refl;
+      kept_under_lem = refl;
       of_numerals = record { binary = refl; octal = refl; hex = refl; longest = refl; at_most = refl };
       of_bare_trees = refl;
       tokens_counted = refl;

@@ -120,4 +120,4 @@ shape_fails x says all =
 
 pub wrong_comparers_fail : WrongComparersFail
 wrong_comparers_fail =
-    record { agreeing = agreeing_fails; differing = differing_fails; from_front = from_front_fails; twice = twice_fails; shape = shape_fails }
+    record { agreeing = agreeing_fails; differing = differing_fails; from_front_lem = from_front_fails; twice = twice_fails; shape = shape_fails }

@@ -45,7 +45,7 @@ copies_fail x copies hands =
 
 -- one that has a block of its own
 abbrev moved : Bor (List ℕ) → Bor (List ℕ) → Bor (List ℕ) → Bor (List ℕ)
-moved text list r = record { ref_ptr = (suc (text.ref_ptr.0 + list.ref_ptr.0), 0); ghost_name = r.ghost_name; now = r.now }
+moved text list r = record { ref_ptr = (suc (text.ref_ptr.0 + list.ref_ptr.0), 0); now = r.now }
 
 abbrev copier : Hands
 copier text list entry =

@@ -410,10 +410,10 @@ looking_right_fails : (p : Programs) → DemandTwo p → ¬ ChecksRightOperands 
 looking_right_fails p two looks = wrong_checkers_fail.looking_right p.check looks two.checks
 
 placing_at_operator_fails : (p : Programs) → KeepsCheck p → ¬ ChecksAtOperator p
-placing_at_operator_fails p checks places = wrong_checkers_fail.at_operator p.check places checks
+placing_at_operator_fails p checks places = wrong_checkers_fail.at_operator_lem p.check places checks
 
 taking_none_below_fails : (p : Programs) → DemandTwo p → ¬ ChecksAboveZero p
-taking_none_below_fails p two takes = wrong_checkers_fail.above_zero p.check takes two.checks
+taking_none_below_fails p two takes = wrong_checkers_fail.above_zero_lem p.check takes two.checks
 
 -- and of translations of contracts
 
@@ -438,7 +438,7 @@ always_differing_fails : (p : Programs) → DemandTwo p → ¬ DiffersAlways p
 always_differing_fails p two differs = wrong_comparers_fail.differing p.compare differs two.compares
 
 matching_from_front_fails : (p : Programs) → DemandTwo p → ¬ ComparesFromFront p
-matching_from_front_fails p two matches = wrong_comparers_fail.from_front p.compare matches two.compares
+matching_from_front_fails p two matches = wrong_comparers_fail.from_front_lem p.compare matches two.compares
 
 using_twice_fails : (p : Programs) → DemandTwo p → ¬ ComparesTwice p
 using_twice_fails p two uses = wrong_comparers_fail.twice p.compare uses two.compares
@@ -475,7 +475,7 @@ telling_violated_fails : (p : Programs) → DemandTwo p → ¬ RunsRefusedAsViol
 telling_violated_fails p two tells = wrong_tables_fail.as_violated p.run_all tells two.runs_all
 
 telling_last_steps_fails : (p : Programs) → DemandTwo p → ¬ RunsForLastSteps p
-telling_last_steps_fails p two tells = wrong_tables_fail.last_steps p.run_all tells two.runs_all
+telling_last_steps_fails p two tells = wrong_tables_fail.last_steps_lem p.run_all tells two.runs_all
 
 taking_cut_fails : (p : Programs) → DemandTwo p → ¬ RunsWithCut p
 taking_cut_fails p two takes = wrong_tables_fail.cut p.run_all takes two.runs_all

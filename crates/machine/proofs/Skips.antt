@@ -2,7 +2,7 @@
 use Rattle.std.proofs.Common.{◌≡◌, ℕ, ◌≤◌, Bool, true, false, cond, leb, refl, ap, ◌∙◌, arith, leb-true}
 use mathlib.Core.Bool.{beq, and-eq-true_iff}
 use mathlib.Core.Option.{Option, none, some, none-ne-some}
-use Rattle.paper.specs.Meaning.{Value, is_true, both, either, ifThen}
+use Rattle.paper.specs.Meaning.{both, either, ifThen}
 use Rattle.paper.specs.Code.{Skip, Instruction, push_bool, push_int, push_key, push_field, push_priority, invert, negate, convert, compare, connects, skip, Parts, parts_of, decode, skip_of}
 use Rattle.paper.proofs.InstructionsRoundTrip.{read_test, parts_again}
 use Rattle.machine.specs.Following.{over_of, over_in}

@@ -1,0 +1,8 @@
+-- `drafting::fronts::put_closed` meets its contract: the first clause is as it is, and any other is joined to those before it.
+use borrow.Author.Rules.{rules}
+use Rattle.drafting.proofs.Clauses.{closable_as, alone, behind_all}
+use Rattle.drafting.proofs.fronts.put_closed.Goals as goal
+
+pub returns-in-Tree : goal.returns-in-Tree
+returns-in-Tree c list o t h g =
+    behind_all list _ _ _ _ c.in-Tree.is (c.joined.ensures.grown list 0) o t h g

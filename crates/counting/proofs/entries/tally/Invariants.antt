@@ -1,0 +1,29 @@
+-- `counting::tally` meets its contract. The invariant of its loop: the first k entries are counted (`Adds`). Each turn counts one more (`adds_more`,
+-- `laid_next`). The measure is the number of whole entries that are left.
+use Prim.Native.Nat.{ℕ, ◌+◌, ◌-◌, ◌*◌, ◌/◌, ◌^◌, ◌≤◌, ◌<◌}
+use native.Mathlib.Nat.{div-le_self}
+use native.Mathlib.Omega.{arith}
+use mathlib.Core.Path.{◌≡◌, refl, sym, ap, subst, ◌∙◌}
+use mathlib.Core.List.{List, [], ◌∷◌, ◌++◌}
+use lib.ListN.{length}
+use borrow.Author.Rules.{rules}
+use Rattle.paper.specs.Counting.{whole_in, laid_out, entries_in}
+use Rattle.paper.proofs.EntriesLaid.{whole_inside, laid_length, laid_next}
+use Rattle.keys.specs.Says.{keys_in}
+use Rattle.trees.specs.Standing.{tree_at}
+use Rattle.parts.specs.Rows.{part_at}
+use Rattle.reading.specs.Parted.{PassedParts}
+use Rattle.counting.specs.declared.total.Totals.{Totals}
+use Rattle.counting.specs.Tallied.{Spare, Adds}
+use Rattle.counting.proofs.EntryByEntry.{adds_none, adds_more, adds_few, adds_spare, adds_tells}
+use Rattle.counting.proofs.entries.tally.Given as goal
+
+abbrev pub invariant-loop-k : goal.invariant-loop-k
+invariant-loop-k l =
+    (l.k ≤ l.whole)
+    × (length l.counts ≡ length l.initial.counts)
+    × ((text : List ℕ) (p : PassedParts text l.list l.nodes l.rows l.n)
+    → Adds (keys_in l.list) (tree_at text l.nodes p.root) l.n (part_at text l.nodes l.rows) (laid_out l.size l.k l.entries) l.initial.counts l.counts l.totals)
+
+abbrev pub decreases-loop-k : goal.decreases-loop-k
+decreases-loop-k l = l.whole - l.k

@@ -3,10 +3,8 @@ mod Compared
 mod Contracts
 mod Fixes
 mod Loads
-mod Loans
 mod Prints
 mod Runs
-mod Shown
 mod Summaries
 mod Tallies
 mod Texts

@@ -1,0 +1,9 @@
+-- `valve::compare_told` meets its contract: the refusal of text or list (`text_refused`), or the comparison by the parts (`compare_by`).
+use borrow.Author.Rules.{rules}
+use Rattle.reading.proofs.Parted.{not_parted, passed}
+use Rattle.valve.proofs.Agreements.{text_refused}
+use Rattle.valve.proofs.comparison.compare_told.Goals as goal
+
+pub returns-in-Refused : goal.returns-in-Refused
+returns-in-Refused c text told =
+    text_refused _ _ _ (not_parted _ _ _ _ _ told c.in-Refused.is)

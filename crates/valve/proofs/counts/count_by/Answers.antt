@@ -1,0 +1,39 @@
+-- `valve::count_by` meets its contract: too many entries (`too_many`), or the parts' numbers, which are added to zeros (`counts`).
+use Prim.Native.Nat.{ℕ, ◌*◌, ◌/◌, ◌≤◌}
+use native.Mathlib.Nat.{div-le_self}
+use native.Mathlib.Omega.{arith}
+use mathlib.Core.Path.{sym, subst}
+use mathlib.Core.List.{List}
+use lib.ListN.{length}
+use borrow.Author.Rules.{rules}
+use Rattle.paper.specs.Keys.{most_keys, record_size}
+use Rattle.paper.specs.Counting.{entry_size, whole_in}
+use Rattle.keys.specs.Says.{keys_in}
+use Rattle.keys.proofs.Records.{keys_length}
+use Rattle.keys.proofs.Checked.{most_bytes}
+use Rattle.counting.specs.Tallied.{Spare, Tells}
+use Rattle.counting.proofs.Growing.{zeros_spare}
+use Rattle.valve.proofs.Tallies.{all, too_many, counts}
+use Rattle.valve.proofs.counts.count_by.Goals as goal
+
+abbrev size : goal.Then-entries-size-gt-MOST_ENTRIES → ℕ
+size c = c.entry_size-size.result
+
+pub returns-then-entries-size-gt-MOST_ENTRIES : goal.returns-then-entries-size-gt-MOST_ENTRIES
+returns-then-entries-size-gt-MOST_ENTRIES c text p =
+    let a = c.args in
+    too_many text a.list.now a.entries.now a.parts.now a.nodes.now a.rows.now a.n p (size c) c.entry_size-size.ensures c.if-entries-size-gt-MOST_ENTRIES.true
+
+abbrev size_2 : goal.After-tally-totals → ℕ
+size_2 c = c.entry_size-size.result
+
+pub returns : goal.returns
+returns c text p =
+    let a = c.args in
+    let few = c.if-entries-size-gt-MOST_ENTRIES.false in
+    let after = c.tally-totals.new.counts in
+    counts text a.list.now a.entries.now a.parts.now a.nodes.now a.rows.now a.n p (size_2 c) c.entry_size-size.ensures few after c.tally-totals.result
+    (subst
+    (λ (zeros : List ℕ). Tells (all text a.list.now a.entries.now a.parts.now a.nodes.now a.rows.now a.n p) zeros after c.tally-totals.result)
+    c.clear.ensures
+    (c.tally-totals.ensures text p))

@@ -1,0 +1,29 @@
+-- `valve::reason_by` meets its contract: a refusal of the entry, whose key the list has (`entry_refused`), or the first part that is false on it
+-- (`explained`).
+use mathlib.Core.Path.{◌∙◌}
+use borrow.Author.Rules.{rules}
+use Rattle.explaining.proofs.Reasons.{entry_refused, explained}
+use Rattle.valve.proofs.Verdicts.{conforming}
+use Rattle.valve.proofs.reasons.reason_by.Goals as goal
+
+pub of_refusal-requires : goal.of_refusal-requires
+of_refusal-requires c =
+    let x = c.check_entry-entered in
+    (entry_refused _ _ _ _ _ _ c.requires.1 x.result x.ensures c.in-Refused.is).listed
+
+pub of_entry-requires : goal.of_entry-requires
+of_entry-requires c =
+    let x = c.check_entry-entered in
+    let passed = c.requires.1 in
+    record { conforming = conforming _ _ _ _ _ passed.rooted x.result x.ensures c.in-Passed.is; by_index = (_, passed.parted) }
+
+pub returns-in-Refused : goal.returns-in-Refused
+returns-in-Refused c text passed =
+    let x = c.check_entry-entered in
+    c.of_refusal.ensures ∙ (entry_refused _ _ _ _ _ _ passed x.result x.ensures c.in-Refused.is).reason
+
+pub returns-in-Passed : goal.returns-in-Passed
+returns-in-Passed c text passed =
+    let x = c.check_entry-entered in
+    c.of_entry.ensures text passed.parted
+    ∙ explained _ _ _ _ _ _ passed (conforming _ _ _ _ _ passed.rooted x.result x.ensures c.in-Passed.is)

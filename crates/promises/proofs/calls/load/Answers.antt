@@ -1,0 +1,7 @@
+-- By what is promised of the call's result.
+use borrow.Author.Rules.{rules}
+use Rattle.paper.proofs.DemandOne.{load_answered}
+use Rattle.promises.proofs.calls.load.Goals as goal
+
+pub returns : goal.returns
+returns c = load_answered _ _ c.load.result c.load.ensures

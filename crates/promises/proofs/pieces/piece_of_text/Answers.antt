@@ -1,0 +1,9 @@
+-- By what is promised of the explanation that the piece is one of.
+use borrow.Author.Rules.{rules}
+use Rattle.promises.proofs.PiecesHeld.{text_piece_right}
+use Rattle.promises.proofs.pieces.piece_of_text.Goals as goal
+
+pub returns : goal.returns
+returns c =
+    let shown = c.explained_text.ensures in
+    text_piece_right _ _ _ shown.0 _ shown.1.0 shown.1.1

@@ -1,0 +1,5 @@
+use Rattle.tried.proofs.Limits as Theorem
+use Rattle.promises.proofs.rules.limits_of_sizes.Goals as goal
+
+pub returns : goal.returns
+returns c = Theorem.sizes

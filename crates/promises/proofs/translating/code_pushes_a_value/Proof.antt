@@ -1,6 +1,0 @@
-use Rattle.paper.proofs.CodeCorrect as Theorem
-use Rattle.promises.proofs.translating.code_pushes_a_value.Statement.{statement}
-use Rattle.promises.proofs.translating.code_pushes_a_value.Tie as tie
-
-pub code_pushes_a_value_spec : {M : Type 1} → statement M
-code_pushes_a_value_spec = tie.close (tie.spec (λ c. Theorem.code_pushes_value))

@@ -1,4 +1,4 @@
-// The number of each token's kind, the first word of its row (wordNo, numeralNo, stringNo and signNo of specs/Tape.antt).
+// The number of each token's kind, the first word of its row (word_no, numeral_no, string_no and sign_no of specs/Tape.antt).
 pub const WORD: u32 = 0;
 
 pub const NUMERAL: u32 = 1;

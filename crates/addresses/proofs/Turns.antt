@@ -10,7 +10,7 @@ use lib.ListN.{length, take, drop}
 use lib.Dec.{eqb}
 use Rattle.paper.specs.Numbers.{digits_after}
 use Rattle.paper.specs.Tokens.{span}
-use Rattle.paper.specs.Addresses.{Scheme, parts, every, value_of}
+use Rattle.paper.specs.Addresses.{Scheme, every, value_of}
 use Rattle.number.specs.Values.{value}
 use Rattle.addresses.specs.declared.groups.PartsRead.{PartsRead}
 use Rattle.addresses.specs.Reads.{separates, is_part, base_of, scale_of, numbers, within, Grouped, parts_of}

@@ -1,5 +1,5 @@
 -- Room for more digits than a number has changes none of them.
-use Rattle.std.proofs.Common.{◌≡◌, ℕ, zero, suc, ◌/◌, ◌%◌, ◌^◌, ◌<◌, ◌≤◌, cond, ltb, List, [], ◌∷◌, ◌++◌, ap, ◌∙◌, one-mul, pow-suc, arith, lt-ltb}
+use Rattle.std.proofs.Common.{◌≡◌, ℕ, zero, suc, ◌/◌, ◌%◌, ◌^◌, ◌<◌, ◌≤◌, cond, ltb, List, [], ◌∷◌, ◌++◌, ap, one-mul, pow-suc, arith, lt-ltb}
 use native.Mathlib.Nat.{pow-zero}
 use Rattle.paper.specs.Print.{digits_in}
 use Rattle.number.proofs.Cuts.{cut_less}

@@ -3,7 +3,7 @@
 use Prim.Native.Nat.{ℕ, zero, suc}
 use mathlib.Core.Path.{◌≡◌, refl, ap, subst, fun_ext, ◌∙◌}
 use mathlib.Core.Bool.{true, false}
-use mathlib.Core.Option.{Option, none}
+use mathlib.Core.Option.{Option}
 use mathlib.Core.List.{List, [], ◌∷◌, ◌++◌, append-nil}
 use Rattle.paper.specs.Tokens.{plain, Join, sequel, implies, or_else, andAlso, Comparison, join, comparison, closing, Token}
 use Rattle.paper.specs.Grammar.{Tree, got, stuck, Out, ends, deep, bad, ◌>>>◌, Parser, Make, Reader, once, chain, joins, compares, implication, sequence, prefixes, finished, whole}

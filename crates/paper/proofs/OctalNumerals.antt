@@ -1,6 +1,6 @@
 -- An octal numeral begins with a 0, takes its whole run, and has no more digits in hex: of k octal digits it is below 8^k, so below 16^k, and "0x" is
 -- as long as what announced octal.
-use Prim.Native.Nat.{ℕ, suc, ◌+◌, ◌^◌, ◌≤◌, ◌<◌}
+use Prim.Native.Nat.{ℕ, suc, ◌^◌, ◌≤◌, ◌<◌}
 use native.Mathlib.Nat.{pow-le-pow_left, lt_of_lt_of_le}
 use native.Mathlib.Omega.{arith}
 use mathlib.Core.Path.{◌≡◌, refl, ap, subst}
@@ -10,7 +10,7 @@ use mathlib.Core.List.{List, [], ◌∷◌, ◌++◌, map}
 use lib.ListN.{length, take, drop, length-map}
 use lib.Dec.{eqb, ltb}
 use borrow.Author.Tests.{ltb-true, eqb-true}
-use Rattle.paper.specs.Tokens.{bytes, is, span, starts, is_id_start, is_digit, is_blank, is_id_byte, digit_of, Base, decimal, binary, hex, Notation, based, octal, radix_of, notation_of, Numeral, spelled, spelling, is_numeral, numeral_value, literal_in, Sign, one_byte, two_bytes, string, numeral, Scan, blank, token, octal_numeral, no_token, tooLarge, scan_comment, numeral_scan, scan_numeral, scan_one, scan_two, scan_sign, isSpace, isSlash, isQuote, isLetter, isFigure, isOther, scan_class, scan}
+use Rattle.paper.specs.Tokens.{bytes, is, span, starts, is_id_start, is_digit, is_blank, is_id_byte, digit_of, Base, decimal, Notation, based, octal, radix_of, notation_of, Numeral, spelled, spelling, is_numeral, numeral_value, literal_in, Sign, one_byte, two_bytes, string, numeral, Scan, blank, token, octal_numeral, no_token, tooLarge, scan_comment, numeral_scan, scan_numeral, scan_one, scan_two, scan_sign, isSpace, isSlash, isQuote, isLetter, isFigure, isOther, scan_class, scan}
 use Rattle.paper.specs.Print.{digit_byte, digits_in, most_digits, numeral_in}
 use Rattle.paper.proofs.AddressNumbers.{number_below, run_below}
 use Rattle.paper.proofs.DigitsReadBack.{digits_few}

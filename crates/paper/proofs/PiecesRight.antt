@@ -5,18 +5,16 @@ use native.Mathlib.Nat.{sub-zero, suc-sub-suc}
 use native.Mathlib.Omega.{arith}
 use mathlib.Core.Path.{◌≡◌, refl, sym, ap, subst, ◌∙◌}
 use mathlib.Core.List.{List, [], ◌∷◌}
-use lib.ListN.{length, take, drop}
+use lib.ListN.{length}
 use lib.Seq.{slice, take-nil, length-slice}
 use denote.Ref.{Bor}
 use Rattle.paper.specs.declared.Explanation.{Explanation}
 use Rattle.paper.specs.declared.Explanation.TheVariants as X
 use Rattle.paper.specs.Numbers.{bytes_at}
-use Rattle.paper.specs.Parts.{Stretch}
 use Rattle.paper.specs.Explained.{key_index, stretch_from}
 use Rattle.paper.specs.PartsDecide.{StretchIn}
-use Rattle.paper.specs.Promised.{ExplainPromised}
-use Rattle.paper.specs.Pieces.{PartOf, InText, InList, ExplainedPromised}
-use Rattle.paper.specs.PiecesRight.{Shown, ShownPromised, SamePiece, SameShown, OneShown, ShowsPart, ShowsName, PiecesShown, CopyOf, CopiesNoPieces}
+use Rattle.paper.specs.Pieces.{PartOf, InText, InList}
+use Rattle.paper.specs.PiecesRight.{Shown, ShownPromised, SamePiece, SameShown, OneShown, PiecesShown, CopyOf, CopiesNoPieces}
 use Rattle.paper.proofs.Promised.{explanation_same, no_second_result}
 use Rattle.paper.proofs.ExplainedRight.{pieces_in_inputs}
 

@@ -1,6 +1,6 @@
 -- Low is below high, equal to it or above it, and in each case the tests compute. A match of one value keeps its kind's rule because a
 -- number below 2^W has no bit outside W ones.
-use Prim.Native.Nat.{ℕ, ◌-◌, ◌%◌, ◌^◌, ◌<◌}
+use Prim.Native.Nat.{ℕ, ◌-◌, ◌^◌, ◌<◌}
 use native.Mathlib.Nat.{mod-eq_of_lt, mod-one, sub_self}
 use native.Mathlib.Omega.{arith}
 use mathlib.Core.Path.{◌≡◌, refl, ◌∙◌}

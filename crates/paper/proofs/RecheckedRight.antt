@@ -8,18 +8,17 @@ use mathlib.Core.Logic.{◌⊎◌, inl, inr}
 use mathlib.Core.Bool.{Bool, true, false, not, cond, ◌&&◌, ◌||◌, true≢false, and-eq-true_iff}
 use mathlib.Core.List.{List}
 use lib.ListN.{length}
-use lib.Dec.{eqb, ltb}
+use lib.Dec.{ltb}
 use borrow.Author.Tests.{eqb-true, eq-eqb, ltb-true, ltb-false}
 use Rattle.paper.specs.Answers.{Answer, ok, refused}
 use Rattle.paper.specs.Tokens.{same_bytes}
-use Rattle.paper.specs.Keys.{Key, most_keys}
-use Rattle.paper.specs.Entry.{Entry, match_at, priority_of, entry_of}
-use Rattle.paper.specs.Grammar.{Tree}
+use Rattle.paper.specs.Keys.{most_keys}
+use Rattle.paper.specs.Entry.{match_at, priority_of, entry_of}
 use Rattle.paper.specs.Types.{type_of, root_type, typed}
 use Rattle.paper.specs.Calls.{Restriction, restriction, judge_answer}
 use Rattle.paper.specs.Named.{names, marked, set_of, Summary, summary_answer}
 use Rattle.paper.specs.Rechecking.{Rechecked, reused, judged, said_by, passes, same_from, same_priority, reuses, reuses_by, recheck_answer}
-use Rattle.paper.specs.RecheckedRight.{bit_at, Summarizes, BitsAreNames, SameNamed, Reusable, Rechecks, is_reused, is_judged, ReusedExactly, FreshIfTrue}
+use Rattle.paper.specs.RecheckedRight.{bit_at, Summarizes, BitsAreNames, Reusable, Rechecks, is_reused, is_judged, ReusedExactly, FreshIfTrue}
 use Rattle.paper.proofs.Stages.{bind_ok}
 use Rattle.paper.proofs.Words.{same_bytes_lem, bytes_same}
 use Rattle.paper.proofs.KeyLists.{keys_listed}

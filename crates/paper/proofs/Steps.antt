@@ -10,7 +10,7 @@ use Rattle.paper.specs.Keys.{Key}
 use Rattle.paper.specs.Entry.{Entry}
 use Rattle.paper.specs.Types.{Ty}
 use Rattle.paper.specs.Meaning.{Value}
-use Rattle.paper.specs.Code.{Instruction, most_held, Action, act, Walk, fails, ends, go_on, walk, type_action, value_action, action_of, skip_of}
+use Rattle.paper.specs.Code.{Instruction, most_held, Action, act, Walk, fails, go_on, walk, type_action, value_action, action_of, skip_of}
 use Rattle.paper.specs.BlocksRoundTrip.{All}
 use Rattle.paper.specs.Loading.{lands_well, check_from, types_along, passed, Step, Run, stuck, done, after, carry_on, run_from, run_along}
 use Rattle.paper.specs.LoadedBlocksRun.{Rising, NoSkips, AsWalk, OlderCode, types_through, values_through}

@@ -9,7 +9,7 @@ use lib.ListN.{length}
 use Rattle.paper.specs.Answers.{ok}
 use Rattle.paper.specs.Tokens.{Join, implies, or_else, andAlso, sequel, Token, tokens}
 use Rattle.paper.specs.Addresses.{address}
-use Rattle.paper.specs.Grammar.{Tree, compared, got, stuck, Out, ends, deep, bad, Parser, joins, compares, once, chain, sequence, operand, prefixes, finished, whole, most_levels, outcome, parsed}
+use Rattle.paper.specs.Grammar.{Tree, got, stuck, Out, ends, deep, bad, Parser, joins, compares, once, chain, sequence, operand, prefixes, finished, whole, most_levels, outcome, parsed}
 use Rattle.paper.specs.Calls.{tree}
 use Rattle.paper.specs.CodeCorrect.{needs, FewHeld}
 use Rattle.paper.specs.BlocksRoundTrip.{NumbersFit, NumbersRead}

@@ -1,10 +1,10 @@
 -- 01, "Addresses: ipv4 is four decimals 0 to 255 without leading zeros; mac is six pairs of hex digits with colons; ipv6
 -- follows RFC 4291 section 2.2, forms 1 and 2, where "::" stands for one or more zero groups. All become whole numbers of type
 -- int, first byte highest."
-use Rattle.std.specs.Prelude.{ℕ, zero, suc, ◌+◌, ◌-◌, Bool, true, false, not, cond, ◌&&◌, ◌||◌, List, [], ◌∷◌, ◌++◌, map, length, take, drop, replicate, eqb, ltb, leb}
+use Rattle.std.specs.Prelude.{ℕ, suc, ◌+◌, ◌-◌, Bool, true, false, not, cond, ◌&&◌, ◌||◌, List, [], ◌∷◌, ◌++◌, map, length, take, drop, replicate, eqb, ltb, leb}
 use Rattle.std.proofs.Math.Option.{Option, none, some}
-use Rattle.paper.specs.Numbers.{byte_at, in_base}
-use Rattle.paper.specs.Tokens.{bytes, same_bytes, is, span, starts, is_digit, digit_of}
+use Rattle.paper.specs.Numbers.{in_base}
+use Rattle.paper.specs.Tokens.{bytes, same_bytes, is, span, starts, digit_of}
 
 pub data Scheme : Type 0 where
   ipv4 ipv6 mac : Scheme

@@ -5,7 +5,7 @@ use Rattle.std.specs.Prelude.{ℕ, ◌*◌, Bool, ◌&&◌, List, ◌++◌, leng
 use Rattle.paper.specs.Answers.{Answer, ok, refused, ◌>>=◌, require, Ran, InText, inBuffer}
 use Rattle.paper.specs.Tokens.{tokens, most_text}
 use Rattle.paper.specs.Keys.{Key, keys}
-use Rattle.paper.specs.Entry.{Entry, entry_of}
+use Rattle.paper.specs.Entry.{entry_of}
 use Rattle.paper.specs.Grammar.{Tree, nodes, parsed}
 use Rattle.paper.specs.Types.{typed}
 use Rattle.paper.specs.Meaning.{value_of, is_true}

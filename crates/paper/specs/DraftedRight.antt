@@ -1,7 +1,7 @@
 -- What 02 k's translation is to be: it reads every contract that 000's grammar has, and no other; the text that it makes is read and typed with
 -- those names; and judged on an entry it is what the contract says of the entry's numbers.
 use Rattle.std.specs.Prelude.{ℕ, ◌≤◌, ◌≡◌, ◌↔◌, List, [], length}
-use Rattle.paper.specs.Answers.{Answer, ok, refused, inBuffer}
+use Rattle.paper.specs.Answers.{ok}
 use Rattle.paper.specs.Tokens.{bytes, most_tokens}
 use Rattle.paper.specs.Keys.{Key, keys}
 use Rattle.paper.specs.Entry.{Entry, entry_of}

@@ -3,7 +3,7 @@
 -- token and "--2" is three. A run that starts with a letter or underscore is a word, id ('.' id)*, with no blank inside; a dot
 -- not followed by an id start forms no token. A run of letters, digits and underscores that starts with a digit must be one
 -- numeral of 004 as a whole, else refusal 5 at its start. A string is a quote, bytes other than quote and LF, a quote."
-use Rattle.std.specs.Prelude.{ℕ, zero, suc, ◌+◌, ◌-◌, ◌^◌, Bool, true, false, not, cond, ◌&&◌, ◌||◌, List, [], ◌∷◌, map, length, get_or, take, drop, eqb, ltb, leb}
+use Rattle.std.specs.Prelude.{ℕ, zero, suc, ◌-◌, ◌^◌, Bool, true, false, not, cond, ◌&&◌, ◌||◌, List, [], ◌∷◌, map, length, get_or, take, drop, eqb, ltb, leb}
 use Rattle.std.proofs.Math.Option.{Option, none, some}
 use Prim.Native.Char.{code}
 use Prim.Native.String as S

@@ -1,18 +1,18 @@
 -- Signs, from their first byte.
-use Prim.Native.Nat.{ℕ, suc, ◌+◌, ◌-◌, ◌≤◌, ◌<◌}
+use Prim.Native.Nat.{ℕ, ◌+◌, ◌-◌, ◌≤◌, ◌<◌}
 use mathlib.Core.Path.{◌≡◌, refl, ap, ap₂, sym, ◌∙◌}
-use mathlib.Core.Bool.{Bool, true, false, cond, ◌&&◌, and-false, false≢true}
+use mathlib.Core.Bool.{Bool, true, false, cond, and-false, false≢true}
 use mathlib.Core.Option.{some, none}
 use mathlib.Core.List.{List, [], ◌∷◌}
 use native.Mathlib.Decide.{dec_lt}
 use native.Mathlib.Omega.{arith}
 use lib.Dec.{eqb, leb}
 use lib.ListN.{length, get_or, drop, drop_of_length-le, get_or-eq_default}
-use borrow.Author.Tests.{eqb-true, eqb-false, eq-eqb, ne_eqb, leb-true}
+use borrow.Author.Tests.{eqb-false, eq-eqb, ne_eqb, leb-true}
 use Rattle.paper.specs.Tokens.{is_blank, is_digit, is_id_start, Sign, one_byte, two_bytes, Scan, blank, octal_numeral, tooLarge, Tok, scan, scan_one, scan_two, scan_word, scan_sign, word_more, token, no_token, sign, Literal, plain}
 use Rattle.spelling.proofs.Spans.{cut}
 use Rattle.spelling.proofs.Tests.{and_both}
-use Rattle.tokens.specs.Tape.{word_no, numeral_no, string_no, first_sign, last_sign, sign_of, tok_of}
+use Rattle.tokens.specs.Tape.{word_no, numeral_no, string_no, first_sign, sign_of, tok_of}
 use Rattle.tokens.specs.Scanned.{Stands, Begins, Coded, kind_in, length_in, second_of, pair_of, alone_of, longest, sign_scan, sign_found, plain_end, plain_scan, plain_found}
 use Rattle.tokens.specs.declared.found.Lexeme.TheVariants.{Token, NoToken}
 use Rattle.tokens.proofs.Scans.{as_word, as_sign}

@@ -1,7 +1,5 @@
 -- Each scheme reads its string by its own rule (`read_as`).
-use lib.Dec.{lit≤}
 use Rattle.paper.specs.Addresses.{address}
-use borrow.Author.Rules.{rules}
 use Rattle.addresses.proofs.Wholes.{read_as}
 use Rattle.addresses.proofs.read.Goals as goal
 

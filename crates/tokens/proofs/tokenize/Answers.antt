@@ -3,12 +3,11 @@
 -- at once. What is scanned at another byte is a comment, which the loop passes over, a token, which it stores in the next row, or a refusal.
 -- Where there is no row for a token, it is one more than a text may have, or there is no `Room` (`going_no_row`). The measure is the number of
 -- bytes that are left: each turn takes one at least.
-use Prim.Native.Nat.{ℕ, ◌-◌, ◌≤◌, ◌<◌}
+use Prim.Native.Nat.{ℕ, ◌≤◌, ◌<◌}
 use native.Mathlib.Omega.{arith}
 use mathlib.Core.Path.{◌≡◌, refl, ap, sym, subst, ◌∙◌}
 use mathlib.Core.List.{List}
 use lib.ListN.{length}
-use borrow.Author.Rules.{rules}
 use Rattle.paper.specs.Tokens.{Literal, plain, most_tokens}
 use Rattle.number.specs.Bases.{literal_meant}
 use Rattle.tokens.specs.Tape.{tape_of, Has, RoomFor}
@@ -16,7 +15,6 @@ use Rattle.tokens.specs.Scanned.{kind_in, plain_end}
 use Rattle.tokens.specs.declared.found.Lexeme.{Lexeme}
 use Rattle.tokens.specs.declared.found.Lexeme.TheVariants as F
 use Rattle.tokens.proofs.Scans.{stands_as}
-use Rattle.tokens.proofs.SignBytes.{plain_end_from}
 use Rattle.tokens.proofs.Going.{Here, Going, going_start, going_blank, going_past, plain_here, going_token, going_no_row, going_octal, going_none, going_large, going_end, going_sound}
 use Rattle.tokens.proofs.tokenize.Goals as goal
 

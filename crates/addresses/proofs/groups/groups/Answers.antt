@@ -7,15 +7,13 @@ use mathlib.Core.Path.{◌≡◌, refl, sym, ◌∙◌, ap, ap₂}
 use mathlib.Core.Bool.{true, false≢true}
 use mathlib.Core.List.{List}
 use native.Mathlib.Omega.{arith}
-use borrow.Author.Rules.{rules}
-use borrow.Author.Tests.{not-true, not-false}
-use lib.ListN.{length, take, drop, length-take}
+use lib.ListN.{take, drop, length-take}
 use Rattle.paper.specs.Tokens.{span}
 use Rattle.paper.specs.Addresses.{Scheme, value_of}
 use Rattle.number.specs.Values.{value}
 use Rattle.addresses.specs.Reads.{scheme, separates, within, is_part, base_of, scale_of}
 use Rattle.addresses.proofs.Digits.{part_size}
-use Rattle.addresses.proofs.Turns.{Going, going_start, going_bad, going_last, going_on}
+use Rattle.addresses.proofs.Turns.{going_bad, going_last, going_on}
 use Rattle.addresses.proofs.groups.groups.Goals as goal
 
 abbrev kind : goal.Then-not-is_part → Scheme

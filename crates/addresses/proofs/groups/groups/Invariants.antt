@@ -2,20 +2,11 @@
 -- they are, and `number` is what they make after the number given. A turn cuts off the next part: a bad one decides (`going_bad`); a good one
 -- goes into the number, and is the last where it ends the string (`going_last`), or the next part starts behind its separator (`going_on`).
 -- The measure is how many bytes are left.
-use Prim.Native.Nat.{ℕ, ◌+◌, ◌*◌, ◌-◌, ◌%◌, ◌^◌}
-use mathlib.Core.Path.{◌≡◌, refl, sym, ◌∙◌, ap, ap₂}
-use mathlib.Core.Bool.{true, false≢true}
-use mathlib.Core.List.{List}
-use native.Mathlib.Omega.{arith}
-use borrow.Author.Rules.{rules}
-use borrow.Author.Tests.{not-true, not-false}
-use lib.ListN.{length, take, drop, length-take}
-use Rattle.paper.specs.Tokens.{span}
-use Rattle.paper.specs.Addresses.{Scheme, value_of}
+use Prim.Native.Nat.{◌-◌}
+use lib.ListN.{length}
 use Rattle.number.specs.Values.{value}
-use Rattle.addresses.specs.Reads.{scheme, separates, within, is_part, base_of, scale_of}
-use Rattle.addresses.proofs.Digits.{part_size}
-use Rattle.addresses.proofs.Turns.{Going, going_start, going_bad, going_last, going_on}
+use Rattle.addresses.specs.Reads.{scheme}
+use Rattle.addresses.proofs.Turns.{Going}
 use Rattle.addresses.proofs.groups.groups.Given as goal
 
 abbrev pub invariant-loop-part : goal.invariant-loop-part

@@ -1,14 +1,9 @@
 -- No separator stands before index i, so the first one that is found ends the part.
 use Prim.Native.Nat.{◌+◌, ◌-◌, ◌≤◌}
-use mathlib.Core.Path.{◌≡◌, refl, ap}
-use mathlib.Core.Bool.{not}
-use native.Mathlib.Omega.{arith}
-use borrow.Author.Tests.{eq-eqb, ne_eqb}
+use mathlib.Core.Path.{◌≡◌}
 use lib.ListN.{length, drop}
 use Rattle.paper.specs.Tokens.{span}
 use Rattle.addresses.specs.Reads.{within}
-use Rattle.spelling.proofs.Spans.{span_on, span_stop, span_end}
-use borrow.Author.Rules.{rules}
 use Rattle.addresses.proofs.groups.part_end.Given as goal
 
 abbrev pub invariant-loop-i : goal.invariant-loop-i

@@ -1,13 +1,12 @@
 -- A string of so many parts is read from all its parts: one that is bad, or another number of them, make a bad string.
 use Prim.Native.Nat.{ℕ}
-use mathlib.Core.Path.{refl, sym, ◌∙◌}
+use mathlib.Core.Path.{refl}
 use mathlib.Core.List.{List}
-use borrow.Author.Tests.{not-true, not-false, eq-eqb, ne_eqb}
-use borrow.Author.Rules.{rules}
+use borrow.Author.Tests.{not-false, eq-eqb}
 use Rattle.paper.specs.Addresses.{Scheme}
 use Rattle.addresses.specs.Reads.{scheme, parts_of, Grouped}
 use Rattle.addresses.specs.declared.groups.PartsRead.{PartsRead}
-use Rattle.addresses.proofs.Wholes.{read_as, read_good, whole_bad, whole_good}
+use Rattle.addresses.proofs.Wholes.{read_good, whole_good}
 use Rattle.addresses.proofs.groups.whole.Goals as goal
 
 -- what is known once the parts are read

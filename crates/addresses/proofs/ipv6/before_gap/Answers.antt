@@ -1,12 +1,8 @@
 -- No gap stands before index i (`gap_on`), so the first one that is found is the first of all (`gap_here`), or there is none
 -- (`gap_end`).
-use Prim.Native.Nat.{◌+◌, ◌-◌, ◌≤◌}
-use mathlib.Core.Path.{◌≡◌, sym, ◌∙◌}
-use native.Mathlib.Nat.{zero-add}
+use mathlib.Core.Path.{sym, ◌∙◌}
 use native.Mathlib.Omega.{arith}
-use lib.ListN.{length, drop}
-use Rattle.paper.specs.Addresses.{before_gap}
-use Rattle.addresses.proofs.Strings.{gap_here, gap_on, gap_end}
+use Rattle.addresses.proofs.Strings.{gap_on}
 use borrow.Author.Rules.{rules}
 use Rattle.addresses.proofs.ipv6.before_gap.Goals as goal
 

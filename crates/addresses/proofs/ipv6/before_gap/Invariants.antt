@@ -1,13 +1,9 @@
 -- No gap stands before index i (`gap_on`), so the first one that is found is the first of all (`gap_here`), or there is none
 -- (`gap_end`).
 use Prim.Native.Nat.{◌+◌, ◌-◌, ◌≤◌}
-use mathlib.Core.Path.{◌≡◌, sym, ◌∙◌}
-use native.Mathlib.Nat.{zero-add}
-use native.Mathlib.Omega.{arith}
+use mathlib.Core.Path.{◌≡◌}
 use lib.ListN.{length, drop}
 use Rattle.paper.specs.Addresses.{before_gap}
-use Rattle.addresses.proofs.Strings.{gap_here, gap_on, gap_end}
-use borrow.Author.Rules.{rules}
 use Rattle.addresses.proofs.ipv6.before_gap.Given as goal
 
 abbrev pub invariant-loop-i : goal.invariant-loop-i

@@ -5,13 +5,12 @@ use mathlib.Core.Path.{◌≡◌, refl, sym, ◌∙◌}
 use mathlib.Core.Bool.{true}
 use mathlib.Core.List.{List}
 use native.Mathlib.Omega.{arith}
-use borrow.Author.Tests.{not-true, not-false}
-use borrow.Author.Rules.{rules}
+use borrow.Author.Tests.{not-false}
 use lib.ListN.{length}
 use Rattle.paper.specs.Addresses.{ipv6, groups}
 use Rattle.addresses.specs.Reads.{Grouped}
 use Rattle.addresses.specs.declared.groups.PartsRead.{PartsRead}
-use Rattle.addresses.proofs.Wholes.{read_as, read_good, gapped_left, gapped_right, gapped_many, gapped_good}
+use Rattle.addresses.proofs.Wholes.{read_good, gapped_good}
 use Rattle.addresses.proofs.ipv6.gapped.Goals as goal
 
 abbrev ps : goal.After-whole-1 → List (List ℕ)

@@ -1,16 +1,15 @@
 -- `addresses::ipv6::read_ipv6` meets its contract: without a gap the string is eight groups (`eight`); with one it is the groups on its two
 -- sides with zeros between them, and the gap has two bytes, so that the right side starts within the string (`room`).
-use Prim.Native.Nat.{ℕ, ◌+◌, ◌-◌, ◌≤◌}
+use Prim.Native.Nat.{ℕ, ◌+◌, ◌≤◌}
 use mathlib.Core.Path.{sym, ◌∙◌}
 use mathlib.Core.List.{List}
 use native.Mathlib.Omega.{arith}
-use borrow.Author.Tests.{eq-eqb, ne_eqb}
-use lib.ListN.{length, drop, length-drop}
-use lib.Seq.{length-take-le, take_all}
+use borrow.Author.Tests.{eq-eqb}
+use lib.ListN.{length}
+use lib.Seq.{length-take-le}
 use Rattle.paper.specs.Addresses.{before_gap}
 use Rattle.addresses.proofs.Strings.{gap_room, gap_inside}
 use Rattle.addresses.proofs.Wholes.{read_as, eight}
-use borrow.Author.Rules.{rules}
 use Rattle.addresses.proofs.ipv6.read_ipv6.Goals as goal
 
 abbrev string : goal.After-whole → List ℕ

@@ -4,7 +4,7 @@ use mathlib.Core.List.{[]}
 use native.Mathlib.Omega.{arith}
 use Rattle.paper.specs.Addresses.{ipv6}
 use Rattle.number.proofs.Limbs.{value_lt}
-use Rattle.addresses.proofs.Wholes.{none_grouped, no_bytes, some_groups}
+use Rattle.addresses.proofs.Wholes.{none_grouped, no_bytes}
 use borrow.Author.Rules.{rules}
 use Rattle.addresses.proofs.ipv6.side.Goals as goal
 

@@ -1,15 +1,9 @@
 -- A group of zeros is the number times 65,536; so many of them are that many times over (`zero_on`).
 use Prim.Native.Nat.{◌%◌, ◌^◌, ◌<◌}
-use mathlib.Core.Path.{◌≡◌, refl, sym, ◌∙◌}
-use native.Mathlib.Omega.{arith}
-use native.Mathlib.Nat.{mod-lt, mod-eq_of_lt}
-use lib.Dec.{lit<}
+use mathlib.Core.Path.{◌≡◌}
 use lib.ListN.{replicate}
 use Rattle.paper.specs.Numbers.{digits_after}
-use Rattle.number.proofs.Limbs.{value_lt}
-use Rattle.addresses.proofs.Digits.{zero_on}
 use Rattle.number.specs.Values.{value}
-use borrow.Author.Rules.{rules}
 use Rattle.addresses.proofs.ipv6.with_zeros.Given as goal
 
 abbrev pub invariant-loop-left : goal.invariant-loop-left

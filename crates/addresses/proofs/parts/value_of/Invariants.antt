@@ -1,17 +1,12 @@
 -- The digits so far count the number that the definition counts of them, and it fits, since there are at most four (`value_on`,
 -- `value_fits`).
 use Prim.Native.Nat.{◌-◌, ◌^◌, ◌≤◌, ◌<◌}
-use mathlib.Core.Path.{◌≡◌, refl, sym, ◌∙◌}
+use mathlib.Core.Path.{◌≡◌}
 use mathlib.Core.List.{map}
-use native.Mathlib.Omega.{arith}
-use lib.Dec.{lit<}
 use lib.ListN.{length, drop}
 use Rattle.paper.specs.Numbers.{digits_after}
 use Rattle.paper.specs.Tokens.{digit_of}
 use Rattle.paper.specs.Addresses.{value_of}
-use Rattle.spelling.proofs.Numbers.{digits_on, digits_end}
-use Rattle.addresses.proofs.Digits.{value_on, value_fits}
-use borrow.Author.Rules.{rules}
 use Rattle.addresses.proofs.parts.value_of.Given as goal
 
 abbrev pub invariant-loop-i : goal.invariant-loop-i

@@ -3,7 +3,6 @@
 use Prim.Native.Nat.{ℕ, ◌-◌, ◌≤◌, ◌<◌, ◌^◌}
 use mathlib.Core.Path.{◌≡◌, sym, ◌∙◌}
 use mathlib.Core.List.{List}
-use native.Mathlib.Nat.{sub-zero}
 use native.Mathlib.Omega.{arith}
 use borrow.Author.Rules.{rules}
 use Rattle.paper.specs.Answers.{Answer, in_turn}
@@ -11,7 +10,6 @@ use Rattle.paper.specs.Keys.{records_in}
 use Rattle.paper.specs.Entry.{priority_of, rule_test}
 use Rattle.paper.proofs.InTurn.{goes_on, stops, is_over}
 use Rattle.keys.specs.Says.{keys_in, conforms}
-use Rattle.spelling.proofs.Steps.{refuted, granted}
 use Rattle.keys.proofs.Entering.{wrong_length, too_high, by_rules, rule_broken, rule_kept}
 use Rattle.keys.proofs.conform.check_entry.Goals as goal
 

@@ -1,18 +1,10 @@
 -- `keys::conform::check_entry` meets its contract. The invariant of its loop: the records of the first k keys pass, so that the
 -- tests from key k on decide. A turn settles the test of key k. The measure is how many keys are left.
-use Prim.Native.Nat.{ℕ, ◌-◌, ◌≤◌, ◌<◌, ◌^◌}
-use mathlib.Core.Path.{◌≡◌, sym, ◌∙◌}
-use mathlib.Core.List.{List}
-use native.Mathlib.Nat.{sub-zero}
-use native.Mathlib.Omega.{arith}
-use borrow.Author.Rules.{rules}
-use Rattle.paper.specs.Answers.{Answer, in_turn}
-use Rattle.paper.specs.Keys.{records_in}
-use Rattle.paper.specs.Entry.{priority_of, rule_test}
-use Rattle.paper.proofs.InTurn.{goes_on, stops, is_over}
-use Rattle.keys.specs.Says.{keys_in, conforms}
-use Rattle.spelling.proofs.Steps.{refuted, granted}
-use Rattle.keys.proofs.Entering.{wrong_length, too_high, by_rules, rule_broken, rule_kept}
+use Prim.Native.Nat.{◌-◌, ◌≤◌}
+use mathlib.Core.Path.{◌≡◌}
+use Rattle.paper.specs.Answers.{in_turn}
+use Rattle.paper.specs.Entry.{rule_test}
+use Rattle.keys.specs.Says.{keys_in}
 use Rattle.keys.proofs.conform.check_entry.Given as goal
 
 abbrev pub invariant-loop-k : goal.invariant-loop-k

@@ -1,13 +1,11 @@
 -- `keys::find::find_among` meets its contract. The invariant of its loop: the keys before key k have other names, so what is found from key k on
 -- is what is found from the start. A turn finds key k (`find_here`) or passes it (`find_on_lem`), and past the last key there is none (`find_end`).
 -- The measure is how many keys are left.
-use Prim.Native.Nat.{ℕ, ◌-◌, ◌≤◌}
-use mathlib.Core.Path.{◌≡◌, sym, ◌∙◌}
+use Prim.Native.Nat.{ℕ}
+use mathlib.Core.Path.{sym, ◌∙◌}
 use mathlib.Core.List.{List}
-use native.Mathlib.Nat.{sub-zero}
 use borrow.Author.Rules.{rules}
-use Rattle.paper.specs.Keys.{keys_from, find}
-use Rattle.keys.proofs.Lookup.{find_on, find_here, find_on_lem, find_end}
+use Rattle.keys.proofs.Lookup.{find_here, find_on_lem}
 use Rattle.keys.proofs.find.find_among.Goals as goal
 
 abbrev list : goal.Then-same_bytes → List ℕ

@@ -2,7 +2,6 @@
 use Prim.Native.Nat.{◌/◌}
 use native.Mathlib.Omega.{arith}
 use lib.ListN.{length}
-use borrow.Author.Rules.{rules}
 use Rattle.paper.specs.Keys.{record_size}
 use Rattle.keys.proofs.Records.{keys_length}
 use Rattle.keys.proofs.laid.entry_size.Goals as goal

@@ -1,5 +1,4 @@
 -- `keys::list::check_list` meets its contract: it is the check by the rule of layout.
-use borrow.Author.Rules.{rules}
 use Rattle.paper.specs.Keys.{keys}
 use Rattle.keys.proofs.list.check_list.Goals as goal
 

@@ -1,5 +1,4 @@
 -- `keys::list::check_names` meets its contract: it is the check by the rule of names.
-use borrow.Author.Rules.{rules}
 use Rattle.paper.specs.Drafting.{names_of}
 use Rattle.keys.proofs.list.check_names.Goals as goal
 

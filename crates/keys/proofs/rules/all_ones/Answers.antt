@@ -1,7 +1,6 @@
 -- A mask is all ones where it is 2^W - 1; over 128 bits no mask is (`too_wide`).
 use mathlib.Core.Path.{sym}
 use Rattle.number.proofs.Limbs.{value_lt}
-use Rattle.number.proofs.Powers.{power_within}
 use Rattle.keys.proofs.Matches.{too_wide}
 use borrow.Author.Rules.{rules}
 use Rattle.keys.proofs.rules.all_ones.Goals as goal

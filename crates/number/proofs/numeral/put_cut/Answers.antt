@@ -1,8 +1,6 @@
 -- Why every longer number ends with these digits: before each turn as many of them are left as there are bytes from the first one on to i, and
 -- with them each longer number is as it is to be. A turn writes the last of them before the others (`cut_more`).
-use Rattle.std.proofs.Common.{◌≡◌, ℕ, suc, ◌+◌, ◌-◌, ◌*◌, ◌^◌, ◌<◌, ◌≤◌, length, sym, refl, ◌∙◌, ap₂, mod-lt, arith, length-set, rules}
-use native.Mathlib.Nat.{pow-zero}
-use Rattle.number.specs.Numerals.{numeral_with}
+use Rattle.std.proofs.Common.{◌≡◌, ℕ, suc, ◌-◌, ◌<◌, ◌∙◌, arith, length-set}
 use Rattle.number.proofs.Cuts.{cut_more, cut_less}
 use Rattle.number.proofs.numeral.put_cut.Goals as goal
 

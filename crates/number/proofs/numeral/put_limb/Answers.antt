@@ -1,9 +1,8 @@
 -- Why the bytes are the numeral: before each turn, the digits that are left to write and the bytes from i on make up the whole numeral
 -- (`numeral_with`), with at most i digits left. A turn writes the last of them before the others; it is the last of all exactly where the
 -- number is one digit, or where i is 0 and none is left.
-use Rattle.std.proofs.Common.{◌≡◌, ℕ, ◌<◌, ◌≤◌, length, refl, ◌∙◌, mod-lt, arith, length-set, rules, le-ltb, lt-ltb}
-use Rattle.number.specs.Numerals.{numeral_with}
-use Rattle.number.proofs.DigitPlaces.{digit_more, digit_last}
+use Rattle.std.proofs.Common.{◌<◌, ◌≤◌, length, ◌∙◌, arith, lt-ltb}
+use Rattle.number.proofs.DigitPlaces.{digit_last}
 use Rattle.number.proofs.numeral.put_limb.Goals as goal
 
 some_left : (d : goal.Then-left-base) → 0 < d.loop-i.i

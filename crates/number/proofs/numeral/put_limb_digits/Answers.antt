@@ -1,5 +1,5 @@
 -- The bytes before the end are as many as a limb has digits at most, so all of them are there (`enough_digits`); after the end there is nothing.
-use Rattle.std.proofs.Common.{◌≡◌, ℕ, ◌^◌, ◌<◌, ◌≤◌, List, ◌++◌, map, length, drop, sym, ap, ◌∙◌, ap₂, append-nil, lt_of_lt_of_le, arith, drop_of_length-le, rules}
+use Rattle.std.proofs.Common.{◌≡◌, ℕ, ◌^◌, ◌<◌, ◌≤◌, List, ◌++◌, map, length, sym, ap, ◌∙◌, append-nil, lt_of_lt_of_le, arith, drop_of_length-le}
 use native.Mathlib.Nat.{pow-le-pow_left}
 use Rattle.paper.specs.Print.{digit_byte, digits_in, most_digits, numeral_in}
 use Rattle.number.specs.Numerals.{numeral_with, most_limb_digits}

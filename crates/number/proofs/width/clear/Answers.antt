@@ -1,5 +1,5 @@
 -- Of a limb, which fits 32 bits, as many of the lowest k are zero as are counted at its end (`zeros_tell`).
-use Rattle.std.proofs.Common.{ℕ, leb, ap, ◌∙◌, rules}
+use Rattle.std.proofs.Common.{ℕ, leb, ap, ◌∙◌}
 use lib.Count.{count_trailing_zeros}
 use Rattle.number.proofs.Zeros.{zeros_tell}
 use Rattle.number.proofs.width.clear.Goals as goal

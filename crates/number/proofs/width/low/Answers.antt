@@ -1,5 +1,5 @@
-use Rattle.std.proofs.Common.{sym, pow_pos, rules}
-use Rattle.number.proofs.Powers.{mod_wide, one_shifted}
+use Rattle.std.proofs.Common.{sym}
+use Rattle.number.proofs.Powers.{mod_wide}
 use Rattle.number.proofs.width.low.Goals as goal
 
 pub returns-then-w-ge32 : goal.returns-then-w-ge32

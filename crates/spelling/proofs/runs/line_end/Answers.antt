@@ -1,16 +1,13 @@
 -- `spelling::line_end` meets its contract. The invariant of its loop: the line from here on ends where the whole line ends. Where it goes on
 -- through a stride, the stride is passed over (`span_skip`); what is left is a run by itself. The measure is how many bytes are left.
-use Prim.Native.Nat.{ℕ, ◌+◌, ◌-◌, ◌≤◌}
+use Prim.Native.Nat.{ℕ, ◌≤◌}
 use native.Mathlib.Omega.{arith}
-use mathlib.Core.Path.{◌≡◌, refl}
 use mathlib.Core.List.{List}
-use lib.ListN.{length}
 use borrow.Author.Rules.{rules}
 use borrow.Author.Tests.{leb-true}
 use Rattle.spelling.specs.Runs.{in_run, line_more, stride}
 use Rattle.spelling.specs.declared.runs.Run.TheVariants.{Line}
 use Rattle.spelling.proofs.Spans.{span_skip}
-use Rattle.spelling.proofs.Steps.{granted}
 use mathlib.Core.Path.{sym}
 use mathlib.Core.Path.{◌∙◌}
 use Rattle.spelling.proofs.runs.line_end.Goals as goal

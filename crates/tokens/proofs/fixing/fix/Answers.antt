@@ -1,12 +1,11 @@
 -- `tokens::fix` meets its contract. The invariant of its loop (`Passing`): what is written, and what the rest of the text is to be written as, are
 -- the whole result, and it is never longer than what was read. Each step is right (`step_right`): a piece is copied or written in hex, or the old
 -- rules refuse the text. The measure is the number of bytes that are left: each turn takes one at least.
-use Prim.Native.Nat.{ℕ, ◌-◌, ◌≤◌}
+use Prim.Native.Nat.{ℕ, ◌≤◌}
 use native.Mathlib.Omega.{arith}
 use mathlib.Core.Path.{◌≡◌, refl, sym, subst, ◌∙◌}
 use mathlib.Core.List.{List}
 use lib.ListN.{length}
-use borrow.Author.Rules.{rules}
 use Rattle.number.specs.Values.{value}
 use Rattle.number.specs.Bases.{literal_meant}
 use Rattle.tokens.specs.declared.fixing.Step.{Step}

@@ -1,17 +1,10 @@
 -- `tokens::fix` meets its contract. The invariant of its loop (`Passing`): what is written, and what the rest of the text is to be written as, are
 -- the whole result, and it is never longer than what was read. Each step is right (`step_right`): a piece is copied or written in hex, or the old
 -- rules refuse the text. The measure is the number of bytes that are left: each turn takes one at least.
-use Prim.Native.Nat.{ℕ, ◌-◌, ◌≤◌}
-use native.Mathlib.Omega.{arith}
-use mathlib.Core.Path.{◌≡◌, refl, sym, subst, ◌∙◌}
-use mathlib.Core.List.{List}
+use Prim.Native.Nat.{◌-◌}
+use mathlib.Core.Path.{◌≡◌}
 use lib.ListN.{length}
-use borrow.Author.Rules.{rules}
-use Rattle.number.specs.Values.{value}
-use Rattle.number.specs.Bases.{literal_meant}
-use Rattle.tokens.specs.declared.fixing.Step.{Step}
-use Rattle.tokens.specs.declared.fixing.Step.TheVariants as S
-use Rattle.tokens.proofs.Rewriting.{Right, step_right, Passing, passing_start, room_there, passing_on, passing_refused, all_stands, all_counted}
+use Rattle.tokens.proofs.Rewriting.{Passing}
 use Rattle.tokens.proofs.fixing.fix.Given as goal
 
 abbrev pub invariant-loop-at : goal.invariant-loop-at

@@ -1,9 +1,7 @@
 -- `tokens::code_at` meets its contract: by the class of the byte, a word (`word_stands`), or the sign's code, which is no word's (`plain_sign`).
 use mathlib.Core.Path.{refl, sym, ◌∙◌}
 use borrow.Author.Rules.{rules}
-use lib.ListN.{get_or, drop}
 use Rattle.tokens.proofs.Scans.{stands_as, word_stands}
-use Rattle.tokens.proofs.SignBytes.{plain_sign}
 use Rattle.tokens.proofs.plain.code_at.Goals as goal
 
 pub returns-then-is_id_start : goal.returns-then-is_id_start

@@ -1,11 +1,8 @@
 -- `tokens::end_of` meets its contract: a word goes on after its first byte as far as `word_more` counts, and a sign has the bytes of its code.
 use native.Mathlib.Omega.{arith}
-use borrow.Author.Rules.{rules}
-use borrow.Author.Tests.{eq-eqb, ne_eqb}
 use Prim.Native.Nat.{ℕ, ◌+◌}
 use lib.ListN.{drop, length-drop}
-use Rattle.tokens.specs.Tape.{word_no}
-use Rattle.tokens.specs.Scanned.{kind_in, length_in}
+use Rattle.tokens.specs.Scanned.{length_in}
 use Rattle.tokens.proofs.Scans.{more_fits}
 use Rattle.tokens.proofs.plain.end_of.Goals as goal
 

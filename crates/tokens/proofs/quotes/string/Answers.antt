@@ -1,6 +1,6 @@
 -- `tokens::string` meets its contract: the bytes up to a quote or the line's end, and the quote (`string_closed`).
 use borrow.Author.Rules.{rules}
-use Rattle.tokens.proofs.Quoting.{string_open, string_broken, string_closed}
+use Rattle.tokens.proofs.Quoting.{string_closed}
 use Rattle.tokens.proofs.quotes.string.Goals as goal
 
 pub returns : goal.returns

@@ -1,5 +1,4 @@
 -- `tokens::literal_at` meets its contract: the value of four limbs is that of the four words, and the base that of the last.
-use borrow.Author.Rules.{rules}
 use Rattle.number.specs.Values.{value}
 use Rattle.tokens.proofs.rows.literal_at.Goals as goal
 

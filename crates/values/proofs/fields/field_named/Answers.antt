@@ -1,7 +1,6 @@
 -- The names are asked for one after another, in the definition's order (`named_if`).
 use mathlib.Core.Path.{sym, ◌∙◌}
 use Rattle.values.proofs.Numbered.{named_if}
-use borrow.Author.Rules.{rules}
 use Rattle.values.proofs.fields.field_named.Goals as goal
 
 pub returns : goal.returns

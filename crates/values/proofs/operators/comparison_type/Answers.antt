@@ -1,5 +1,4 @@
 -- What a comparison takes, it takes in the type in which its operands meet.
-use borrow.Author.Rules.{rules}
 use Rattle.paper.specs.Code.{comparison_of}
 use Rattle.paper.proofs.MeetingTypes.{compares_where_met}
 use Rattle.values.specs.Typed.{ty_meant}

@@ -1,7 +1,7 @@
 -- Below the half, from there up to its double, and past that (`below_half`, `up_to_double`, `past_double`).
-use Rattle.std.proofs.Common.{ℕ, ◌^◌, ◌≤◌, sym, ◌∙◌, arith, rules, ltb-false, ltb-true}
+use Rattle.std.proofs.Common.{ℕ, sym, ◌∙◌, ltb-false}
 use Rattle.number.specs.Values.{value}
-use Rattle.number.proofs.Halves.{below_half, up_to_double, past_double}
+use Rattle.number.proofs.Halves.{past_double}
 use Rattle.number.proofs.magnitude.Magnitude.at_most_half.Goals as goal
 
 abbrev number : goal.Else-fits-2 → ℕ

@@ -1,6 +1,6 @@
 -- Ten million is the seventh power of ten, and any other base is raised to it.
 use native.Mathlib.Nat.{one-le-pow}
-use Rattle.std.proofs.Common.{arith, rules}
+use Rattle.std.proofs.Common.{arith}
 use Rattle.number.proofs.magnitude.Magnitude.cut.Goals as goal
 
 pub divide-requires-2 : goal.divide-requires-2

@@ -1,11 +1,10 @@
 -- Why the bytes are the numeral: before each turn, the digits that are left to write and the bytes from the end on make up the whole numeral
 -- (`numeral_with`), and there is room for all that are left. A turn cuts seven off a number of several limbs, which has more (`cut_whole`,
 -- `room_for_it`); the digits of the last limb come before them.
-use Rattle.std.proofs.Common.{◌≡◌, ℕ, ◌/◌, ◌%◌, ◌^◌, ◌<◌, ◌≤◌, length, sym, refl, ap, ◌∙◌, append-nil, lt_of_lt_of_le, mod-lt, arith, rules}
+use Rattle.std.proofs.Common.{◌≡◌, ℕ, ◌/◌, ◌%◌, ◌^◌, ◌<◌, ◌≤◌, refl, ◌∙◌, append-nil, lt_of_lt_of_le, mod-lt, arith, rules}
 use native.Mathlib.Nat.{one-le-pow, pow-le-pow_left}
-use Rattle.paper.specs.Print.{most_digits, numeral_in}
+use Rattle.paper.specs.Print.{numeral_in}
 use Rattle.number.specs.Values.{value}
-use Rattle.number.specs.Numerals.{numeral_with}
 use Rattle.number.proofs.Limbs.{value_lt}
 use Rattle.number.proofs.Cuts.{room_for_it, shorter, cut_whole}
 use Rattle.number.proofs.magnitude.Magnitude.digits_in.Goals as goal

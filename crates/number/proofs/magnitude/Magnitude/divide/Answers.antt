@@ -1,6 +1,5 @@
 -- The four divisions go from the highest limb down, each after what the one before it left over: the number is divided as a whole
 -- (`quotient`, `remainder`).
-use Rattle.std.proofs.Common.{rules}
 use Rattle.number.specs.Values.{value}
 use Rattle.number.proofs.Quotients.{quotient, remainder}
 use Rattle.number.proofs.magnitude.Magnitude.divide.Goals as goal

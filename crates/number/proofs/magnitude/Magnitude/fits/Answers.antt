@@ -1,5 +1,5 @@
 -- A number fits W bits where its lowest W bits are the number itself (`fits_mod`).
-use Rattle.std.proofs.Common.{ℕ, eqb, ap, ◌∙◌, rules}
+use Rattle.std.proofs.Common.{ℕ, eqb, ap, ◌∙◌}
 use Rattle.number.specs.Values.{value}
 use Rattle.number.proofs.Powers.{fits_mod}
 use Rattle.number.proofs.magnitude.Magnitude.fits.Goals as goal

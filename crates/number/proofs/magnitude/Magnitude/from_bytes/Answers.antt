@@ -1,5 +1,4 @@
 -- Sixteen bytes are four words of four, the highest first (`four_words`).
-use Rattle.std.proofs.Common.{rules}
 use Rattle.number.specs.Values.{value}
 use Rattle.number.proofs.BigEndian.{four_words}
 use Rattle.number.proofs.magnitude.Magnitude.from_bytes.Goals as goal

@@ -1,5 +1,5 @@
 -- A number whose upper three limbs are 0 is its lowest limb; one that has another is at least 2^32.
-use Rattle.std.proofs.Common.{eqb, true≢false, arith, rules, eqb-true}
+use Rattle.std.proofs.Common.{eqb, true≢false, arith, eqb-true}
 use borrow.Author.Tests.{eqb-false, not-true, not-false}
 use Rattle.number.specs.Values.{limb, value}
 use Rattle.number.proofs.magnitude.Magnitude.is_long.Goals as goal

@@ -1,4 +1,4 @@
-use Rattle.std.proofs.Common.{◌∙◌, rules}
+use Rattle.std.proofs.Common.{◌∙◌}
 use Rattle.number.specs.Values.{value}
 use Rattle.number.proofs.Powers.{ones_mod}
 use Rattle.number.proofs.magnitude.Magnitude.ones.Goals as goal

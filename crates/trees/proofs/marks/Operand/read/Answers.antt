@@ -1,5 +1,4 @@
 -- `trees::Operand::read` meets its contract: the leaf and the two marks are those of the definition `operand_at`.
-use borrow.Author.Rules.{rules}
 use Rattle.trees.specs.Marks.{operand_at}
 use Rattle.trees.proofs.marks.Operand.read.Goals as goal
 

@@ -1,6 +1,5 @@
 -- `trees::Leaf::read` meets its contract: the six words that `leaf_of` takes are those of the definition `leaf_at`.
 use Rattle.trees.specs.Nodes.{leaf_at}
-use borrow.Author.Rules.{rules}
 use Rattle.trees.proofs.node.Leaf.read.Goals as goal
 
 pub returns : goal.returns

@@ -1,6 +1,5 @@
 -- `trees::Node::read` meets its contract: the two words that `node_of` takes are those of the definition `node_at`.
 use Rattle.trees.specs.Nodes.{node_at}
-use borrow.Author.Rules.{rules}
 use Rattle.trees.proofs.node.Node.read.Goals as goal
 
 pub returns : goal.returns

@@ -1,14 +1,13 @@
 -- Two operands of one type are compared as they are; of two others that meet, one is brought into the type of the other, and they are
 -- compared there.
 use mathlib.Core.Path.{◌≡◌, sym, ◌∙◌, ap}
-use borrow.Author.Rules.{rules}
 use Rattle.paper.specs.Tokens.{Comparison}
 use Rattle.paper.specs.Code.{comparison_of}
-use Rattle.paper.specs.Types.{same_ty, takes}
+use Rattle.paper.specs.Types.{takes}
 use Rattle.paper.specs.Meaning.{Value, truth, ty_of, compare_value}
 use Rattle.values.specs.Held.{held, like_value}
 use Rattle.values.proofs.Held.{is_then, is_compared}
-use Rattle.values.proofs.Meeting.{meet_same, meet_right, meet_left}
+use Rattle.values.proofs.Meeting.{meet_right, meet_left}
 use Rattle.values.proofs.cell.Cell.compares.Goals as goal
 
 abbrev asked : goal.After-holds-then-takes → Comparison

@@ -1,6 +1,5 @@
 -- Of two operands that meet, one is brought into the type of the other, and they are compared there.
 use mathlib.Core.Path.{◌≡◌, sym, ◌∙◌}
-use borrow.Author.Rules.{rules}
 use Rattle.paper.specs.Code.{comparison_of}
 use Rattle.paper.specs.Types.{takes}
 use Rattle.paper.specs.Meaning.{ty_of, compare_value}

@@ -1,12 +1,12 @@
 -- What the tests on records tell. Records are compared one after the other; those of a part, as it is joined, with the end of the code; and without
 -- its skip and its join, with all of it.
-use Prim.Native.Nat.{ℕ, zero, suc, ◌+◌, ◌-◌, ◌*◌, ◌≤◌, ◌<◌}
+use Prim.Native.Nat.{ℕ, suc, ◌+◌, ◌-◌, ◌*◌, ◌≤◌, ◌<◌}
 use native.Mathlib.Nat.{add-zero, zero-add, sub-zero}
 use native.Mathlib.Omega.{arith}
-use mathlib.Core.Path.{◌≡◌, refl, sym, ap, ap₂, ◌∙◌}
+use mathlib.Core.Path.{◌≡◌, sym, ap, ◌∙◌}
 use mathlib.Core.Bool.{Bool, true, false, ◌&&◌}
-use mathlib.Core.List.{List, [], ◌∷◌, ◌++◌, map, map-append, tail-eq_of_cons-eq}
-use lib.ListN.{length, take, drop, length-append, length-map}
+use mathlib.Core.List.{List, [], ◌∷◌, ◌++◌, map-append, tail-eq_of_cons-eq}
+use lib.ListN.{length, take, drop, length-map}
 use lib.Seq.{take_at}
 use borrow.Author.Tests.{le-leb, lt-leb}
 use Rattle.paper.specs.Tokens.{same_bytes}

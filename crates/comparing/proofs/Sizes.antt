@@ -2,19 +2,19 @@
 -- which is joined to none.
 use Prim.Native.Nat.{ℕ, zero, suc, ◌+◌}
 use native.Mathlib.Omega.{arith}
-use mathlib.Core.Path.{◌≡◌, refl, sym, ap, ap₂, ◌∙◌}
+use mathlib.Core.Path.{◌≡◌, refl, sym, ap, ◌∙◌}
 use mathlib.Core.List.{List, [], ◌∷◌, ◌++◌, map, map-append, map-map}
-use lib.ListN.{length, length-append}
+use lib.ListN.{length}
 use Rattle.paper.specs.Answers.{ok}
 use Rattle.paper.specs.Keys.{Key}
 use Rattle.paper.specs.Grammar.{Tree}
 use Rattle.paper.specs.Meaning.{both}
-use Rattle.paper.specs.Code.{Instruction, connects}
+use Rattle.paper.specs.Code.{Instruction}
 use Rattle.paper.specs.Translating.{code_of}
 use Rattle.paper.specs.Calls.{tree}
 use Rattle.paper.specs.Parts.{Part, parts}
-use Rattle.paper.specs.PartsDecide.{JoinedLeft, alone, then, roots}
-use Rattle.paper.specs.Comparing.{as_joined, part_codes}
+use Rattle.paper.specs.PartsDecide.{JoinedLeft, alone, then}
+use Rattle.paper.specs.Comparing.{part_codes}
 use Rattle.paper.proofs.RangedCode.{join_size}
 use Rattle.paper.proofs.PartsTyped.{roots_joined}
 use Rattle.keys.specs.Says.{keys_in}

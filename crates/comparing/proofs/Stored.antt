@@ -1,13 +1,13 @@
 -- A part's code, written behind the others: its records read back from the bytes that were stored, those before stay as they were, and the number
 -- after it is where the next part begins.
-use Prim.Native.Nat.{ℕ, zero, suc, ◌+◌, ◌-◌, ◌*◌, ◌≤◌, ◌<◌}
+use Prim.Native.Nat.{ℕ, suc, ◌+◌, ◌-◌, ◌*◌, ◌≤◌, ◌<◌}
 use native.Mathlib.Nat.{zero-add, sub-zero, eq-or-lt_of_le}
 use native.Mathlib.Numerals.{add-one}
 use native.Mathlib.Omega.{arith}
-use mathlib.Core.Path.{◌≡◌, refl, sym, ap, ap₂, subst, ◌∙◌}
+use mathlib.Core.Path.{◌≡◌, refl, sym, ap, ap₂, ◌∙◌}
 use mathlib.Core.Logic.{◌⊎◌, inl, inr}
 use mathlib.Core.List.{List, [], ◌∷◌, ◌++◌, append_assoc}
-use lib.ListN.{length, get_or, take, drop, set, length-append}
+use lib.ListN.{length, take, drop, set, length-append}
 use lib.Seq.{length-take-le, take_at, drop_at, drop-set-add, take-set-le, get_or-set_same, get_or-set_other, sets, length-sets, sets-eq}
 use Rattle.paper.specs.Numbers.{bytes_at}
 use Rattle.paper.specs.Code.{Instruction, instruction_size, encode}
@@ -16,7 +16,7 @@ use Rattle.paper.specs.Comparing.{written, as_joined}
 use Rattle.paper.proofs.InstructionsRoundTrip.{row_length}
 use Rattle.parts.specs.Rows.{each}
 use Rattle.translating.specs.Writing.{Wrote}
-use Rattle.comparing.specs.Scratch.{records_by, record_at, code_from, start_at, Stood, size_all}
+use Rattle.comparing.specs.Scratch.{record_at, code_from, start_at, Stood, size_all}
 use Rattle.comparing.proofs.Rows.{records_same}
 
 -- bytes that are stored behind others leave these

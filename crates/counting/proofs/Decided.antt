@@ -2,17 +2,16 @@
 use Prim.Native.Nat.{ℕ, zero, suc, ◌+◌, ◌<◌}
 use native.Mathlib.Nat.{add-zero, zero-add, eq-or-lt_of_le}
 use native.Mathlib.Omega.{arith}
-use mathlib.Core.Path.{◌≡◌, refl, sym, ap, subst, ◌∙◌}
+use mathlib.Core.Path.{◌≡◌, refl, sym, subst}
 use mathlib.Core.Logic.{◌⊎◌, inl, inr, ◌↔◌}
-use mathlib.Core.Bool.{Bool, true, false, ◌&&◌, and-eq-true_iff}
+use mathlib.Core.Bool.{Bool, true, false, and-eq-true_iff}
 use mathlib.Core.List.{List}
 use Rattle.paper.specs.BlocksRoundTrip.{All}
 use Rattle.paper.specs.Parts.{Part}
-use Rattle.paper.specs.Meaning.{value_of, is_true}
 use Rattle.paper.specs.Explained.{holds_on}
 use Rattle.paper.proofs.PartsDecide.{parts_decide}
 use Rattle.keys.specs.Says.{keys_in}
-use Rattle.operands.specs.Conforming.{Conforming, entry_in}
+use Rattle.operands.specs.Conforming.{entry_in}
 use Rattle.trees.specs.Standing.{tree_at}
 use Rattle.judging.specs.Holding.{tree_holds}
 use Rattle.parts.specs.Rows.{root_at, part_at, parts_on, each}

@@ -9,7 +9,7 @@ use mathlib.Core.List.{List, [], ◌∷◌, ◌++◌, map, map-append}
 use lib.Dec.{eqb}
 use borrow.Author.Tests.{eq-eqb, ne_eqb, eqb-true}
 use Rattle.paper.specs.Tokens.{join, sequel, Token}
-use Rattle.paper.specs.Parts.{open_after, divides, between, non_empty, top_level, Stretch, token_end, last_of, stretch_of}
+use Rattle.paper.specs.Parts.{open_after, between, non_empty, top_level, Stretch, token_end, last_of, stretch_of}
 use Rattle.paper.proofs.PartsCut.{before, before_append, before_none}
 use Rattle.tokens.specs.Tape.{Tape, tape_of, kind_at, start_at, end_at, sign_no, token_on, tokens_on}
 use Rattle.tokens.specs.Tokenized.{CutInto}

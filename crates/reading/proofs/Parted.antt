@@ -1,6 +1,6 @@
 -- From the rows that `find` fills to the parts of the text (`sown`), through the marks, which change no tree (`still_sown`), to parts that can be
 -- judged: where the whole has the right types, so has each part, and its root stands no higher than the whole's (`ready`).
-use Prim.Native.Nat.{ℕ, suc, ◌+◌, ◌*◌, ◌-◌, ◌≤◌, ◌<◌}
+use Prim.Native.Nat.{ℕ, suc, ◌*◌, ◌-◌, ◌≤◌, ◌<◌}
 use native.Mathlib.Nat.{zero-add}
 use native.Mathlib.Omega.{arith}
 use mathlib.Core.Path.{◌≡◌, sym, ap, subst, ◌∙◌}

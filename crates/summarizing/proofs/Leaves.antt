@@ -1,7 +1,7 @@
 -- What a leaf names, by its marks. A field that has a type has a name that is known, so that its key is marked.
 use Prim.Native.Nat.{ℕ}
 use mathlib.Core.Path.{◌≡◌, refl}
-use mathlib.Core.Bool.{Bool, false}
+use mathlib.Core.Bool.{false}
 use mathlib.Core.Option.{Option, none, some}
 use mathlib.Core.List.{List}
 use Rattle.paper.specs.Answers.{ok, ◌>>=◌}

@@ -1,5 +1,4 @@
 -- `parts::find` meets its contract: the stretches that `cut` stores and the roots that `name_roots` stores beside them are the parts (`found`).
-use borrow.Author.Rules.{rules}
 use Rattle.parts.proofs.Found.{found}
 use Rattle.parts.proofs.find.Goals as goal
 

@@ -1,7 +1,5 @@
 -- `reading::grow` meets its contract: the refusal of the tokens, or the answer of `plant`. A tape that is too small has no room (`not_over`).
-use native.Mathlib.Omega.{arith}
-use borrow.Author.Rules.{rules}
-use Rattle.reading.proofs.Planted.{not_cut, not_over, counted, fits}
+use Rattle.reading.proofs.Planted.{not_cut}
 use Rattle.reading.proofs.grow.Goals as goal
 
 pub returns-in-Refused : goal.returns-in-Refused

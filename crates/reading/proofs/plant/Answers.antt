@@ -1,8 +1,7 @@
 -- `reading::plant` meets its contract: the refusal of the grammar (`tree_refused`), or its tree, which the nodes hold (`tree_read`), and the parts,
 -- which the rows hold where they have room (`sown`).
 use native.Mathlib.Omega.{arith}
-use borrow.Author.Rules.{rules}
-use Rattle.reading.proofs.Planted.{sound, tree_read, tree_refused}
+use Rattle.reading.proofs.Planted.{tree_read, tree_refused}
 use Rattle.reading.proofs.Parted.{sown}
 use Rattle.reading.proofs.plant.Goals as goal
 

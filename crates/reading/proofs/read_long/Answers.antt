@@ -1,8 +1,6 @@
 -- `reading::read_long` meets its contract: its tape has as many rows as a text has tokens at most, so that it is not too small (`room_for_all`).
-use native.Mathlib.Omega.{arith}
-use borrow.Author.Rules.{rules}
 use Rattle.reading.specs.Grown.{CutOn}
-use Rattle.reading.proofs.Rooms.{room_for_all, all_fit}
+use Rattle.reading.proofs.Rooms.{all_fit}
 use Rattle.reading.proofs.read_long.Goals as goal
 
 -- what was cut from the text stands on the tape

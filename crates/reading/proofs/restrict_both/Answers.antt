@@ -1,7 +1,5 @@
 -- `reading::restrict_both` meets its contract: refusal 1 of a text that is too long (`too_long`), those of its list (`not_listed`), then, since a
 -- good list is short (`most_bytes`), the answer of `typed_root`, which is that of the whole (`restricts`).
-use native.Mathlib.Omega.{arith}
-use borrow.Author.Rules.{rules}
 use Rattle.keys.proofs.Checked.{most_bytes}
 use Rattle.reading.specs.Grown.{of_tree}
 use Rattle.paper.specs.declared.Counted.TheVariants.{Refused}

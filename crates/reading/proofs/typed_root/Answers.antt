@@ -1,17 +1,16 @@
 -- `reading::typed_root` meets its contract: a text that is over, or its refusal passed up (`not_grown`); or the text's tree, then its names
 -- resolved, which changes no tree (`still_planted`, `still_sown`); then the check of its types, or that one's refusal; and where the types are
 -- right, parts that can be judged (`ready`).
-use Prim.Native.Nat.{ℕ, ◌-◌, ◌≤◌}
+use Prim.Native.Nat.{ℕ, ◌≤◌}
 use native.Mathlib.Omega.{arith}
 use mathlib.Core.Path.{◌≡◌}
 use mathlib.Core.List.{List}
-use borrow.Author.Rules.{rules}
 use Rattle.paper.specs.declared.Counted.TheVariants.{Count, Refused}
 use Rattle.keys.specs.Says.{keys_in}
 use Rattle.trees.proofs.Marking.{marked_below}
 use Rattle.reading.specs.declared.grown.Grown.TheVariants as R
 use Rattle.reading.specs.declared.tried.Scratch.{Scratch}
-use Rattle.reading.proofs.Stages.{settles, still_over, grown, still_planted, not_grown, not_typed, right_types}
+use Rattle.reading.proofs.Stages.{settles, grown, still_planted, not_typed, right_types}
 use Rattle.reading.proofs.Parted.{sown_told, still_sown, ready}
 use Rattle.reading.proofs.typed_root.Goals as goal
 

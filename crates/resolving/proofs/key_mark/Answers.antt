@@ -7,9 +7,7 @@ use mathlib.Core.Option.{Option, some}
 use Rattle.paper.specs.Keys.{find}
 use Rattle.keys.specs.Says.{keys_in, found}
 use Rattle.trees.specs.Standing.{spelling}
-use Rattle.trees.specs.Marks.{key_mark}
 use Rattle.resolving.proofs.Found.{few_keys}
-use borrow.Author.Rules.{rules}
 use Rattle.resolving.proofs.key_mark.Goals as goal
 
 abbrev looked_up : goal.In-At → Option ℕ

@@ -1,11 +1,8 @@
 -- `resolving::resolve` meets its contract. The invariant of its loop: the nodes are as they were, and those before i are marked
 -- (`Resolves`); each turn marks one more (`one_more`). The measure is `count - i`.
 use Prim.Native.Nat.{◌-◌, ◌≤◌}
-use native.Mathlib.Omega.{arith}
-use mathlib.Core.Path.{◌≡◌}
 use Rattle.keys.specs.Says.{keys_in}
 use Rattle.resolving.specs.Resolved.{Resolves}
-use Rattle.resolving.proofs.Marked.{none_resolved, one_more}
 use Rattle.resolving.proofs.resolve.Given as goal
 
 abbrev pub invariant-loop-i : goal.invariant-loop-i

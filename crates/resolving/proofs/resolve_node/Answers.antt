@@ -5,7 +5,6 @@ use Rattle.keys.specs.Says.{keys_in}
 use Rattle.trees.specs.declared.node.Leaf.{Leaf}
 use Rattle.trees.specs.Nodes.{leaf_at}
 use Rattle.resolving.proofs.Marked.{truth_resolved, number_resolved, key_resolved, field_resolved, attribute_resolved}
-use borrow.Author.Rules.{rules}
 use Rattle.resolving.proofs.resolve_node.Goals as goal
 
 is_leaf : (c : goal.In-Truth) {l : Leaf} → c.read-leaf.result ≡ l → leaf_at c.args.nodes.now c.args.i ≡ l

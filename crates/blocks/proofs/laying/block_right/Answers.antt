@@ -1,20 +1,17 @@
 -- `blocks::laying::block_right` meets its contract. The definition's answer is six tests on the numbers that were read from the block
 -- (`right_by`), and the code makes them in the definition's order: one that fails decides, and past one that holds those after it do
 -- (`numbered` to `keyed`). A count that is right is 25 at most, so the zeros after the code start within the block (`few`).
-use Prim.Native.Nat.{ℕ, ◌+◌, ◌*◌, ◌-◌, ◌≤◌}
-use native.Mathlib.Omega.{arith}
+use Prim.Native.Nat.{ℕ, ◌+◌, ◌*◌, ◌-◌}
 use mathlib.Core.Path.{◌≡◌, sym, ◌∙◌}
 use mathlib.Core.Bool.{Bool, true, ◌&&◌}
 use mathlib.Core.List.{List}
 use lib.Dec.{eqb}
 use lib.ListN.{take, drop}
-use borrow.Author.Rules.{rules}
-use borrow.Author.Tests.{eq-eqb, ne_eqb, not-true, not-false}
+use borrow.Author.Tests.{eq-eqb, ne_eqb}
 use Rattle.paper.specs.Numbers.{bytes_at}
 use Rattle.paper.specs.Tokens.{same_bytes}
 use Rattle.paper.specs.Keys.{all_zero}
 use Rattle.paper.specs.Blocks.{count_ok, check_of}
-use Rattle.paper.proofs.LayoutPassed.{few_counted}
 use Rattle.blocks.specs.declared.fields.Block.{Block}
 use Rattle.blocks.specs.Layout.{block_right}
 use Rattle.blocks.proofs.Layouts.{right_by}

@@ -5,7 +5,6 @@ use mathlib.Core.List.{List}
 use Prim.Native.Nat.{ℕ}
 use lib.Seq.{length-take-le}
 use Rattle.blocks.proofs.Layouts.{check_compared}
-use borrow.Author.Rules.{rules}
 use Rattle.blocks.proofs.laying.check_right.Goals as goal
 
 abbrev lent : goal.After-shared_slice_known-1 → List ℕ

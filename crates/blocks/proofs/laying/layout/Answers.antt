@@ -1,12 +1,9 @@
 -- `blocks::laying::layout` meets its contract. The invariant of its loop: the first k blocks pass, so that the tests from block k on
 -- decide. A turn settles the test of block k. The measure is how many blocks are left.
-use Prim.Native.Nat.{ℕ, ◌≤◌, ◌-◌, ◌*◌}
-use native.Mathlib.Nat.{sub-zero}
+use Prim.Native.Nat.{ℕ, ◌-◌, ◌*◌}
 use native.Mathlib.Omega.{arith}
 use mathlib.Core.Path.{◌≡◌, refl, sym, ◌∙◌, ap}
 use mathlib.Core.List.{List}
-use borrow.Author.Rules.{rules}
-use borrow.Author.Tests.{not-true, not-false}
 use Rattle.paper.specs.Answers.{Answer, ok, ◌>>=◌, in_turn}
 use Rattle.paper.specs.Blocks.{blocks_in, total_of, block_ok, block_test}
 use Rattle.paper.proofs.InTurn.{goes_on, stops, is_over}

@@ -1,12 +1,7 @@
 -- The counts from block k on add up to the count of block k and those after it (`counts_on`).
-use Prim.Native.Nat.{ℕ, ◌≤◌, ◌-◌, ◌+◌, ◌*◌}
-use native.Mathlib.Nat.{sub-zero, zero-add, add-zero}
-use native.Mathlib.Omega.{arith}
-use mathlib.Core.Path.{◌≡◌, refl, sym, ◌∙◌, ap}
-use lib.ListN.{length}
-use borrow.Author.Rules.{rules}
+use Prim.Native.Nat.{◌≤◌, ◌-◌, ◌+◌, ◌*◌}
+use mathlib.Core.Path.{◌≡◌}
 use Rattle.paper.specs.Blocks.{counts_from}
-use Rattle.blocks.proofs.Layouts.{counts_on}
 use Rattle.blocks.proofs.laying.total_of.Given as goal
 
 abbrev pub invariant-loop-k : goal.invariant-loop-k

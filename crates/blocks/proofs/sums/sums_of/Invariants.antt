@@ -1,12 +1,8 @@
 -- `blocks::sums::sums_of` meets its contract. The invariant of its loop: the words before byte i are added (`Added`), at first those of
 -- whole fours. A turn adds the next one (`added_on`). The measure is how many bytes are left.
 use Prim.Native.Nat.{◌-◌}
-use native.Mathlib.Omega.{arith}
-use mathlib.Core.Path.{sym}
 use lib.ListN.{length}
-use borrow.Author.Rules.{rules}
 use Rattle.blocks.specs.Sealed.{Added}
-use Rattle.blocks.proofs.Running.{added_on, added_all}
 use Rattle.blocks.proofs.sums.sums_of.Given as goal
 
 abbrev pub invariant-loop-i : goal.invariant-loop-i

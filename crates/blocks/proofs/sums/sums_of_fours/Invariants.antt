@@ -1,10 +1,8 @@
 -- `blocks::sums::sums_of_fours` meets its contract. The invariant of its loop: the fours before byte i are added (`Fours`). A turn adds the
 -- next one (`fours_on`). The measure is how many bytes are left.
 use Prim.Native.Nat.{◌-◌}
-use native.Mathlib.Omega.{arith}
 use lib.ListN.{length}
-use borrow.Author.Rules.{rules}
-use Rattle.blocks.proofs.Fours.{Fours, fours_none, fours_on, fours_all}
+use Rattle.blocks.proofs.Fours.{Fours}
 use Rattle.blocks.proofs.sums.sums_of_fours.Given as goal
 
 abbrev pub invariant-loop-i : goal.invariant-loop-i

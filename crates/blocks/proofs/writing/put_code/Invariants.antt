@@ -1,13 +1,11 @@
 -- `blocks::writing::put_code` meets its contract. The invariant of its loop: over whatever block the code was copied, it holds the code with
 -- zeros after it up to index i (`put_to`). Each turn adds a zero (`put_zero`). The measure is how many are left.
-use Prim.Native.Nat.{ℕ, ◌-◌, ◌+◌, ◌≤◌}
-use native.Mathlib.Omega.{arith}
-use mathlib.Core.Path.{◌≡◌, refl, ◌∙◌, ap}
+use Prim.Native.Nat.{ℕ, ◌-◌, ◌≤◌}
+use mathlib.Core.Path.{◌≡◌}
 use mathlib.Core.List.{List}
-use lib.ListN.{length, set, length-set}
+use lib.ListN.{length}
 use lib.Seq.{sets}
-use borrow.Author.Rules.{rules}
-use Rattle.blocks.proofs.Stores.{put_to, put_copied, put_zero, put_all}
+use Rattle.blocks.proofs.Stores.{put_to}
 use Rattle.blocks.proofs.writing.put_code.Given as goal
 
 abbrev pub invariant-loop-i : goal.invariant-loop-i

@@ -5,7 +5,6 @@ use mathlib.Core.Path.{◌∙◌, ap}
 use mathlib.Core.List.{List}
 use lib.ListN.{length}
 use lib.Seq.{sets}
-use borrow.Author.Rules.{rules}
 use Rattle.paper.specs.Numbers.{big_endian}
 use Rattle.blocks.specs.Sealed.{sealed_at}
 use Rattle.blocks.specs.Written.{padded}

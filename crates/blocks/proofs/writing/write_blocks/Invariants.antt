@@ -1,14 +1,10 @@
 -- `blocks::writing::write_blocks` meets its contract. The invariant of its loop: the first k blocks stand over what was lent, and every later
 -- byte is as it was. A turn puts block k after them (`row_on`). The measure is how many blocks are left.
 use Prim.Native.Nat.{ℕ, ◌*◌, ◌-◌, ◌/◌, ◌≤◌}
-use native.Mathlib.Omega.{arith}
-use mathlib.Core.Path.{◌≡◌, refl, ◌∙◌, ap}
+use mathlib.Core.Path.{◌≡◌}
 use mathlib.Core.List.{List, ◌++◌}
 use lib.ListN.{length, drop}
-use borrow.Author.Rules.{rules}
-use Rattle.paper.specs.Blocks.{blocks_needed}
 use Rattle.blocks.specs.Written.{block_at, in_row}
-use Rattle.blocks.proofs.Rows.{block_length, row_on, row_through}
 use Rattle.blocks.proofs.writing.write_blocks.Given as goal
 
 -- block k of the code, by its number

@@ -1,20 +1,14 @@
 -- `comparing::agrees` meets its contract. The invariant of its loop (`Round`): the parts that are free, of which there is one more than are still to
 -- be taken off, fit what is left exactly where all fit all. Where no part comes last, none fit (`none_last`); the first that does is taken off
 -- (`next_round`); and in the end one part must be all that is left (`all_left`). The measure is the number of parts to be taken off.
-use Prim.Native.Nat.{ℕ, ◌+◌, ◌-◌, ◌≤◌, ◌<◌}
-use native.Mathlib.Omega.{arith}
-use mathlib.Core.Path.{◌≡◌, refl, sym, ap, subst, ◌∙◌}
-use mathlib.Core.Bool.{Bool}
+use Prim.Native.Nat.{ℕ, ◌≤◌}
+use mathlib.Core.Path.{◌≡◌}
 use mathlib.Core.List.{List}
-use lib.ListN.{length, length-set, length-replicate}
-use borrow.Author.Rules.{rules}
+use lib.ListN.{length}
 use Rattle.paper.specs.Code.{Instruction}
 use Rattle.paper.specs.Parts.{most_parts}
-use Rattle.paper.specs.Comparing.{records_from, as_joined, fits}
-use Rattle.parts.specs.Rows.{each}
-use Rattle.comparing.specs.Scratch.{start_at, Stand}
-use Rattle.comparing.specs.Picking.{first_from, is_free, comes_last}
-use Rattle.comparing.proofs.Picked.{first_high, Round, first_round, none_last, fits_in, next_round, last_round, all_left}
+use Rattle.comparing.specs.Scratch.{Stand}
+use Rattle.comparing.proofs.Picked.{Round}
 use Rattle.comparing.proofs.agreeing.agrees.Given as goal
 
 abbrev pub invariant-loop-more : goal.invariant-loop-more

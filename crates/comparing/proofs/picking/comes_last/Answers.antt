@@ -1,14 +1,12 @@
 -- `comparing::comes_last` meets its contract: a part that is used does not (`not_free`), nor one that is longer than what is left (`is_short`); else
 -- its records are compared with as many at the end (`by_records`).
-use Prim.Native.Nat.{ℕ, ◌+◌, ◌-◌}
-use native.Mathlib.Omega.{arith}
-use mathlib.Core.Path.{◌≡◌, refl, ◌∙◌}
+use Prim.Native.Nat.{◌+◌}
+use mathlib.Core.Path.{◌≡◌, ◌∙◌}
 use mathlib.Core.Bool.{true}
-use borrow.Author.Rules.{rules}
-use borrow.Author.Tests.{eq-eqb, ne_eqb}
+use borrow.Author.Tests.{eq-eqb}
 use Rattle.comparing.specs.Scratch.{start_at}
 use Rattle.comparing.specs.Picking.{is_free}
-use Rattle.comparing.proofs.Matched.{in_scratch, not_free, is_short, by_records}
+use Rattle.comparing.proofs.Matched.{is_short, by_records}
 use Rattle.comparing.proofs.picking.comes_last.Goals as goal
 
 is_free_lem : (c : goal.Then-left-size) → is_free c.args.used.now c.args.k ≡ true

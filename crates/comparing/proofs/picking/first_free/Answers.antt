@@ -1,12 +1,10 @@
 -- `comparing::first_free` meets its contract. The invariant of its loop: the first free part from k on is the first of all. The measure is the
 -- number of parts that are left.
-use Prim.Native.Nat.{◌+◌, ◌-◌, ◌≤◌}
 use native.Mathlib.Omega.{arith}
-use mathlib.Core.Path.{◌≡◌, sym, ◌∙◌}
-use borrow.Author.Rules.{rules}
-use borrow.Author.Tests.{eq-eqb, ne_eqb}
-use Rattle.comparing.specs.Picking.{first_from, is_free}
-use Rattle.comparing.proofs.Picked.{first_of, from_first, stops, goes_on, ends_at}
+use mathlib.Core.Path.{sym, ◌∙◌}
+use borrow.Author.Tests.{ne_eqb}
+use Rattle.comparing.specs.Picking.{is_free}
+use Rattle.comparing.proofs.Picked.{goes_on}
 use Rattle.comparing.proofs.picking.first_free.Goals as goal
 
 pub loop-k-preserved : goal.loop-k-preserved

@@ -1,12 +1,9 @@
 -- `comparing::first_free` meets its contract. The invariant of its loop: the first free part from k on is the first of all. The measure is the
 -- number of parts that are left.
-use Prim.Native.Nat.{◌+◌, ◌-◌, ◌≤◌}
-use native.Mathlib.Omega.{arith}
-use mathlib.Core.Path.{◌≡◌, sym, ◌∙◌}
-use borrow.Author.Rules.{rules}
-use borrow.Author.Tests.{eq-eqb, ne_eqb}
+use Prim.Native.Nat.{◌-◌, ◌≤◌}
+use mathlib.Core.Path.{◌≡◌}
 use Rattle.comparing.specs.Picking.{first_from, is_free}
-use Rattle.comparing.proofs.Picked.{first_of, from_first, stops, goes_on, ends_at}
+use Rattle.comparing.proofs.Picked.{first_of}
 use Rattle.comparing.proofs.picking.first_free.Given as goal
 
 abbrev pub invariant-loop-k : goal.invariant-loop-k

@@ -1,11 +1,9 @@
 -- `comparing::is_all` meets its contract: what is left has as many instructions as the part's own code, and they are its records (`of_size`); where
 -- it has another number it is not (`other_size`).
-use Prim.Native.Nat.{ℕ, ◌+◌}
-use native.Mathlib.Omega.{arith}
+use Prim.Native.Nat.{◌+◌}
 use mathlib.Core.Path.{◌≡◌, ◌∙◌}
-use borrow.Author.Rules.{rules}
 use Rattle.comparing.specs.Scratch.{start_at}
-use Rattle.comparing.proofs.Matched.{own_inside, other_size, of_size}
+use Rattle.comparing.proofs.Matched.{other_size, of_size}
 use Rattle.comparing.proofs.picking.is_all.Goals as goal
 
 first : (c : goal.Then-left-to) → c.start_at-from.result ≡ start_at c.args.starts.now c.args.k

@@ -1,16 +1,14 @@
 -- `comparing::pick` meets its contract. The invariant of its loop: the first part from k on that comes last is the first of all. The measure is the
 -- number of parts that are left.
-use Prim.Native.Nat.{ℕ, ◌+◌, ◌-◌, ◌≤◌, ◌<◌}
+use Prim.Native.Nat.{ℕ}
 use native.Mathlib.Omega.{arith}
-use mathlib.Core.Path.{◌≡◌, sym, ◌∙◌}
+use mathlib.Core.Path.{sym, ◌∙◌}
 use mathlib.Core.Bool.{Bool}
 use mathlib.Core.List.{List}
-use borrow.Author.Rules.{rules}
 use Rattle.paper.specs.Code.{Instruction}
 use Rattle.paper.specs.Comparing.{records_from}
-use Rattle.comparing.specs.Scratch.{Stand}
-use Rattle.comparing.specs.Picking.{first_from, comes_last}
-use Rattle.comparing.proofs.Picked.{first_of, from_first, stops, goes_on, ends_at}
+use Rattle.comparing.specs.Picking.{comes_last}
+use Rattle.comparing.proofs.Picked.{stops, goes_on}
 use Rattle.comparing.proofs.picking.pick.Goals as goal
 
 pub comes_last-requires : goal.comes_last-requires

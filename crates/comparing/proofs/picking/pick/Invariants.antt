@@ -1,16 +1,13 @@
 -- `comparing::pick` meets its contract. The invariant of its loop: the first part from k on that comes last is the first of all. The measure is the
 -- number of parts that are left.
-use Prim.Native.Nat.{ℕ, ◌+◌, ◌-◌, ◌≤◌, ◌<◌}
-use native.Mathlib.Omega.{arith}
-use mathlib.Core.Path.{◌≡◌, sym, ◌∙◌}
-use mathlib.Core.Bool.{Bool}
+use Prim.Native.Nat.{ℕ, ◌-◌, ◌≤◌}
+use mathlib.Core.Path.{◌≡◌}
 use mathlib.Core.List.{List}
-use borrow.Author.Rules.{rules}
 use Rattle.paper.specs.Code.{Instruction}
 use Rattle.paper.specs.Comparing.{records_from}
 use Rattle.comparing.specs.Scratch.{Stand}
 use Rattle.comparing.specs.Picking.{first_from, comes_last}
-use Rattle.comparing.proofs.Picked.{first_of, from_first, stops, goes_on, ends_at}
+use Rattle.comparing.proofs.Picked.{first_of}
 use Rattle.comparing.proofs.picking.pick.Given as goal
 
 abbrev pub invariant-loop-k : goal.invariant-loop-k

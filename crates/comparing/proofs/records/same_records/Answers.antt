@@ -1,14 +1,9 @@
 -- `comparing::same_records` meets its contract. The invariant of its loop: the records from number k on are the same exactly where all are. Where two
 -- differ, so do all (`differs_here`); where they do not, the rest decides (`same_here`), and after the last there is none (`all_compared`). The
 -- measure is the number of records that are left.
-use Prim.Native.Nat.{◌-◌, ◌≤◌}
 use native.Mathlib.Omega.{arith}
-use mathlib.Core.Path.{◌≡◌, sym, ◌∙◌}
-use borrow.Author.Rules.{rules}
-use borrow.Author.Tests.{not-true, not-false}
-use Rattle.paper.specs.Comparing.{records_from, same_records}
-use Rattle.comparing.specs.Scratch.{code_from}
-use Rattle.comparing.proofs.Matched.{same_from, none_compared, differs_here, same_here, all_compared}
+use mathlib.Core.Path.{sym, ◌∙◌}
+use Rattle.comparing.proofs.Matched.{same_here}
 use Rattle.comparing.proofs.records.same_records.Goals as goal
 
 pub loop-k-preserved : goal.loop-k-preserved

@@ -2,13 +2,10 @@
 -- differ, so do all (`differs_here`); where they do not, the rest decides (`same_here`), and after the last there is none (`all_compared`). The
 -- measure is the number of records that are left.
 use Prim.Native.Nat.{◌-◌, ◌≤◌}
-use native.Mathlib.Omega.{arith}
-use mathlib.Core.Path.{◌≡◌, sym, ◌∙◌}
-use borrow.Author.Rules.{rules}
-use borrow.Author.Tests.{not-true, not-false}
+use mathlib.Core.Path.{◌≡◌}
 use Rattle.paper.specs.Comparing.{records_from, same_records}
 use Rattle.comparing.specs.Scratch.{code_from}
-use Rattle.comparing.proofs.Matched.{same_from, none_compared, differs_here, same_here, all_compared}
+use Rattle.comparing.proofs.Matched.{same_from}
 use Rattle.comparing.proofs.records.same_records.Given as goal
 
 abbrev pub invariant-loop-k : goal.invariant-loop-k

@@ -1,7 +1,6 @@
 -- `counting::add_entry` meets its contract: an entry that does not conform is refused, whatever the tree (`one_refused`); of one that conforms the parts
 -- decide (`one_judged`).
 use mathlib.Core.Path.{◌≡◌}
-use borrow.Author.Rules.{rules}
 use Rattle.paper.specs.Answers.{ok}
 use Rattle.paper.specs.Keys.{keys}
 use Rattle.keys.specs.Says.{keys_in}

@@ -1,13 +1,9 @@
 -- `counting::clear` meets its contract. The invariant of its loop: the first k numbers are 0, and the others as they were. Each turn stores one more
 -- (`zeros_next`). The measure is the number of those that are left.
-use Prim.Native.Nat.{ℕ, ◌-◌, ◌≤◌, ◌<◌}
-use native.Mathlib.Omega.{arith}
-use mathlib.Core.Path.{◌≡◌, refl, ap, ◌∙◌}
-use mathlib.Core.List.{List}
-use lib.ListN.{length, set, replicate, length-set}
-use borrow.Author.Rules.{rules}
+use Prim.Native.Nat.{◌-◌, ◌≤◌}
+use mathlib.Core.Path.{◌≡◌}
+use lib.ListN.{length, replicate}
 use Rattle.paper.specs.Calls.{over}
-use Rattle.counting.proofs.Growing.{zeros_next}
 use Rattle.counting.proofs.entries.clear.Given as goal
 
 abbrev pub invariant-loop-k : goal.invariant-loop-k

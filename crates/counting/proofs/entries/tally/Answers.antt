@@ -1,21 +1,20 @@
 -- `counting::tally` meets its contract. The invariant of its loop: the first k entries are counted (`Adds`). Each turn counts one more (`adds_more`,
 -- `laid_next`). The measure is the number of whole entries that are left.
-use Prim.Native.Nat.{ℕ, ◌+◌, ◌-◌, ◌*◌, ◌/◌, ◌^◌, ◌≤◌, ◌<◌}
+use Prim.Native.Nat.{ℕ, ◌/◌, ◌^◌, ◌<◌}
 use native.Mathlib.Nat.{div-le_self}
 use native.Mathlib.Omega.{arith}
-use mathlib.Core.Path.{◌≡◌, refl, sym, ap, subst, ◌∙◌}
+use mathlib.Core.Path.{◌≡◌, sym, ap, subst, ◌∙◌}
 use mathlib.Core.List.{List, [], ◌∷◌, ◌++◌}
 use lib.ListN.{length}
-use borrow.Author.Rules.{rules}
 use Rattle.paper.specs.Counting.{whole_in, laid_out, entries_in}
-use Rattle.paper.proofs.EntriesLaid.{whole_inside, laid_length, laid_next}
+use Rattle.paper.proofs.EntriesLaid.{laid_length, laid_next}
 use Rattle.keys.specs.Says.{keys_in}
 use Rattle.trees.specs.Standing.{tree_at}
 use Rattle.parts.specs.Rows.{part_at}
 use Rattle.reading.specs.Parted.{PassedParts}
 use Rattle.counting.specs.declared.total.Totals.{Totals}
 use Rattle.counting.specs.Tallied.{Spare, Adds}
-use Rattle.counting.proofs.EntryByEntry.{adds_none, adds_more, adds_few, adds_spare, adds_tells}
+use Rattle.counting.proofs.EntryByEntry.{adds_more, adds_few, adds_spare, adds_tells}
 use Rattle.counting.proofs.entries.tally.Goals as goal
 
 abbrev size : goal.After-add_entry-arg-1 → ℕ

@@ -1,19 +1,14 @@
 -- `counting::add_false` meets its contract. The invariant of its loop (`Missed`): the numbers of the first k parts have grown where these are false
 -- on the entry, and it is known whether all of them are true. A part that is false is one more (`missed_false`), one that is true changes nothing
 -- (`missed_true`). The measure is the number of parts that are left.
-use Prim.Native.Nat.{ℕ, ◌+◌, ◌-◌, ◌^◌, ◌≤◌, ◌<◌}
-use native.Mathlib.Omega.{arith}
-use mathlib.Core.Path.{◌≡◌, refl, sym, ap, subst, ◌∙◌}
-use mathlib.Core.Logic.{⊎_elim}
-use mathlib.Core.Bool.{Bool, true, false}
+use Prim.Native.Nat.{ℕ, ◌-◌, ◌≤◌}
+use mathlib.Core.Path.{◌≡◌}
 use mathlib.Core.List.{List}
-use lib.ListN.{length, get_or, set, length-set}
-use borrow.Author.Rules.{rules}
-use borrow.Author.Tests.{not-true, not-false}
+use lib.ListN.{length}
 use Rattle.judging.specs.Holding.{tree_holds}
 use Rattle.parts.specs.Rows.{root_at}
-use Rattle.reading.specs.Parted.{Judgeable, Parted}
-use Rattle.counting.proofs.Missed.{Missed, missed_none, missed_false, missed_true}
+use Rattle.reading.specs.Parted.{Parted}
+use Rattle.counting.proofs.Missed.{Missed}
 use Rattle.counting.proofs.misses.add_false.Given as goal
 
 abbrev pub invariant-loop-k : goal.invariant-loop-k

@@ -1,17 +1,12 @@
 -- `explaining::first_false` meets its contract. The invariant of its loop: the first false part from row k on is the first of all, since those
 -- before are true. A part that is false is it (`false_here`), one that is true is passed (`true_here`), and after the last there is none
 -- (`no_more`). The measure is the number of rows that are left.
-use Prim.Native.Nat.{ℕ, ◌-◌, ◌≤◌, ◌<◌}
-use native.Mathlib.Omega.{arith}
-use mathlib.Core.Path.{◌≡◌, sym, subst, ◌∙◌}
+use Prim.Native.Nat.{ℕ, ◌-◌, ◌≤◌}
+use mathlib.Core.Path.{◌≡◌}
 use mathlib.Core.List.{List}
-use borrow.Author.Rules.{rules}
-use borrow.Author.Tests.{not-true, not-false}
-use Rattle.parts.specs.Rows.{root_at}
-use Rattle.reading.specs.Parted.{Judgeable, Parted}
-use Rattle.judging.specs.Holding.{tree_holds}
+use Rattle.reading.specs.Parted.{Parted}
 use Rattle.explaining.specs.FirstFalse.{first_in}
-use Rattle.explaining.proofs.RowByRow.{first_from, from_start, false_here, true_here, no_more}
+use Rattle.explaining.proofs.RowByRow.{first_from}
 use Rattle.explaining.proofs.first.first_false.Given as goal
 
 abbrev pub invariant-loop-k : goal.invariant-loop-k

@@ -1,8 +1,6 @@
 -- `explaining::part` meets its contract: the words of the row and the place of its root are those of the part.
-use Prim.Native.Nat.{ℕ}
 use native.Mathlib.Numerals.{add-one}
 use mathlib.Core.Path.{sym, ap, ◌∙◌}
-use borrow.Author.Rules.{rules}
 use Rattle.paper.specs.Explained.{in_part}
 use Rattle.trees.specs.Nodes.{place_at}
 use Rattle.trees.proofs.Walks.{place_is}

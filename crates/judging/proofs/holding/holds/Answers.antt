@@ -1,10 +1,9 @@
 -- `judging::holds` meets its contract: a tree that has the right types is worth a truth (`truth_told`), which the walk tells, or `compared` of a tree
 -- that is a comparison: the node that was read says that it is one (`tree_at_lem`), and its operands stand below it (`below`).
-use Prim.Native.Nat.{ℕ, ◌-◌, ◌<◌}
+use Prim.Native.Nat.{ℕ, ◌<◌}
 use native.Mathlib.Omega.{arith}
 use mathlib.Core.Path.{◌≡◌, sym, ap, subst, ◌∙◌}
 use mathlib.Core.List.{List}
-use borrow.Author.Rules.{rules}
 use Rattle.paper.specs.Grammar.{Tree}
 use Rattle.paper.specs.Meaning.{value_of}
 use Rattle.keys.specs.Says.{keys_in}

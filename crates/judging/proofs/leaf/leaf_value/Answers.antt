@@ -2,7 +2,6 @@
 -- the priority (`is_when`).
 use native.Mathlib.Omega.{arith}
 use mathlib.Core.Path.{◌≡◌, sym, ◌∙◌, subst}
-use borrow.Author.Rules.{rules}
 use Rattle.paper.specs.Meaning.{Value}
 use Rattle.number.specs.Values.{value}
 use Rattle.keys.specs.Says.{keys_in}
@@ -10,7 +9,6 @@ use Rattle.values.specs.declared.cell.Cell.{Cell}
 use Rattle.values.specs.Held.{held, Is}
 use Rattle.operands.specs.Conforming.{entry_in}
 use Rattle.operands.proofs.Conforming.{entry_size}
-use Rattle.operands.proofs.Indexed.{is_when}
 use Rattle.trees.specs.declared.marks.Operand.{Operand}
 use Rattle.trees.specs.Marks.{operand_at}
 use Rattle.judging.specs.Values.{operand_value}

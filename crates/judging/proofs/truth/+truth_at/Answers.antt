@@ -7,9 +7,6 @@ use native.Mathlib.Omega.{arith}
 use mathlib.Core.Path.{◌≡◌, refl, sym, ◌∙◌, ap, subst}
 use mathlib.Core.Bool.{Bool, false, not}
 use mathlib.Core.List.{List}
-use borrow.Author.Rules.{rules}
-use borrow.Fn.Kinds.{In}
-use borrow.Fn.PlainCycle.{Measures, is, falls, and}
 use Rattle.paper.specs.Keys.{Key}
 use Rattle.paper.specs.Entry.{Entry}
 use Rattle.paper.specs.Grammar.{Tree}
@@ -30,17 +27,6 @@ use Rattle.trees.proofs.Marking.{marked_below}
 use Rattle.judging.specs.Truths.{IsTruth}
 use Rattle.judging.proofs.Valued.{leaf_at_lem}
 use Rattle.judging.proofs.Truths.{of_value, turned, no_truth, by_left, by_right}
-use Rattle.judging.proofs.truth.truth_at.Reads as truth-at
-use Rattle.judging.proofs.truth.truth_at.Kinds as kinds
-use Rattle.judging.proofs.truth.+truth_at.Lts-truth_at as lts
-use Rattle.judging.proofs.leaf.leaf_value.Reads as leaf-value
-use Rattle.judging.proofs.truth.compared.Reads as compared
-use Rattle.judging.proofs.truth.settled.Reads as settled
-use Rattle.judging.proofs.truth.settles.Reads as settles
-use Rattle.trees.proofs.node.Node.read.Reads as read
-use Rattle.values.proofs.cell.Cell.is_true.Reads as is_true
-use Rattle.judging.proofs.truth.+truth_at.{statement}
-use Rattle.judging.proofs.truth.+truth_at.Tie.{close}
 use Rattle.judging.proofs.truth.+truth_at.Goals as goal
 
 abbrev nodes : (t : ℕ) → (goal.After-is_true t) → List ℕ

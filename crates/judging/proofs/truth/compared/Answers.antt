@@ -1,7 +1,6 @@
 -- `judging::compared` meets its contract: the truth that a comparison makes of its operands' values is the value of the comparison
 -- (`between`), and so is told of it (`of_value`).
 use mathlib.Core.Path.{refl}
-use borrow.Author.Rules.{rules}
 use Rattle.paper.specs.Meaning.{truth, value_of}
 use Rattle.keys.specs.Says.{keys_in}
 use Rattle.values.specs.Held.{held}

@@ -5,9 +5,6 @@ use Prim.Native.Nat.{ℕ, ◌+◌, ◌-◌, ◌<◌}
 use native.Mathlib.Omega.{arith}
 use mathlib.Core.Path.{◌≡◌, sym, ◌∙◌, subst}
 use mathlib.Core.List.{List}
-use borrow.Author.Rules.{rules}
-use borrow.Fn.Kinds.{In}
-use borrow.Fn.PlainCycle.{Measures, is, falls, and}
 use Rattle.paper.specs.Keys.{Key}
 use Rattle.paper.specs.Entry.{Entry}
 use Rattle.paper.specs.Grammar.{Tree}
@@ -24,15 +21,6 @@ use Rattle.trees.proofs.Walks.{below, tree_at_lem}
 use Rattle.trees.proofs.Marking.{marked_below}
 use Rattle.judging.specs.Values.{operand_value, operator_value}
 use Rattle.judging.proofs.Valued.{is_then, between, leaf_at_lem}
-use Rattle.judging.proofs.walk.value_at.Reads as value-at
-use Rattle.judging.proofs.walk.value_at.Kinds as kinds
-use Rattle.judging.proofs.walk.+value_at.Lts-value_at as lts
-use Rattle.judging.proofs.leaf.leaf_value.Reads as leaf-value
-use Rattle.judging.proofs.operator.operator_value.Reads as operator-value
-use Rattle.judging.proofs.operator.prefix_value.Reads as prefix-value
-use Rattle.trees.proofs.node.Node.read.Reads as read
-use Rattle.judging.proofs.walk.+value_at.{statement}
-use Rattle.judging.proofs.walk.+value_at.Tie.{close}
 use Rattle.judging.proofs.walk.+value_at.Goals as goal
 
 abbrev nodes : (t : ℕ) → (goal.After-leaf_value t) → List ℕ

@@ -1,6 +1,5 @@
 -- `judging::operand_value` meets its contract: of a leaf, its value by its marks (`leaf_at_lem`), and of any other node what the walk gives.
 use mathlib.Core.Path.{sym, ◌∙◌}
-use borrow.Author.Rules.{rules}
 use Rattle.keys.specs.Says.{keys_in}
 use Rattle.values.specs.Held.{held}
 use Rattle.operands.specs.Conforming.{entry_in}

@@ -1,8 +1,7 @@
 -- `parts::close` meets its contract: a part without a token is none (`closed_none`), any other is stored after those that are there
 -- (`closed_one`). There is room for it, since the parts before it had a token each, and a ";".
 use native.Mathlib.Omega.{arith}
-use borrow.Author.Rules.{rules}
-use Rattle.parts.proofs.Going.{closed_none, closed_one}
+use Rattle.parts.proofs.Going.{closed_one}
 use Rattle.parts.proofs.cutting.close.Goals as goal
 
 pub returns : goal.returns

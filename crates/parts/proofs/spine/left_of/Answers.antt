@@ -1,6 +1,5 @@
 -- `parts::left_of` meets its contract: the operand that the node names, or the first node (`left_is`).
 use mathlib.Core.Path.{◌≡◌, sym, ◌∙◌}
-use borrow.Author.Rules.{rules}
 use Rattle.trees.specs.declared.node.Node.{Node}
 use Rattle.trees.specs.Nodes.{node_at}
 use Rattle.parts.proofs.Roots.{left_is}

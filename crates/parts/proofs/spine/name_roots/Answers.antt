@@ -2,10 +2,8 @@
 -- the others are joined at a node. Each turn stores the root of the last of those (`naming_next`); what is left at the end is the first
 -- (`naming_first`). The measure is k.
 use native.Mathlib.Omega.{arith}
-use mathlib.Core.Path.{◌≡◌, refl}
-use lib.ListN.{length}
-use borrow.Author.Rules.{rules}
-use Rattle.parts.proofs.Roots.{Naming, naming_start, naming_next, naming_first, naming_none}
+use mathlib.Core.Path.{refl}
+use Rattle.parts.proofs.Roots.{naming_start, naming_next, naming_first, naming_none}
 use Rattle.parts.proofs.spine.name_roots.Goals as goal
 
 pub loop-k-init : goal.loop-k-init

@@ -1,16 +1,14 @@
 -- `summarizing::same_records` meets its contract. The invariant of its loop: the bits that are left are those of the keys from k on
 -- (`next_bits`), and whether the named records from k on are the same decides, since those before are. A turn looks at the lowest bit
 -- (`named_here`) and, where it is set, at the record of key k. The measure is how many keys are left.
-use Prim.Native.Nat.{ℕ, ◌+◌, ◌*◌, ◌-◌, ◌/◌, ◌%◌, ◌≤◌, ◌<◌}
+use Prim.Native.Nat.{ℕ, ◌+◌, ◌/◌, ◌%◌, ◌≤◌, ◌<◌}
 use native.Mathlib.Omega.{arith}
 use mathlib.Core.Path.{◌≡◌, sym, ◌∙◌, ap}
 use mathlib.Core.Bool.{Bool}
-use mathlib.Core.Logic.{⊎_elim}
 use mathlib.Core.List.{List}
 use lib.ListN.{length}
 use lib.Dec.{eqb}
-use borrow.Author.Rules.{rules}
-use borrow.Author.Tests.{eq-eqb, ne_eqb, not-true, not-false}
+use borrow.Author.Tests.{eq-eqb, ne_eqb}
 use Rattle.paper.specs.Keys.{most_keys, record_size}
 use Rattle.paper.specs.Named.{set_of}
 use Rattle.paper.specs.Rechecking.{same_from}
@@ -18,7 +16,7 @@ use Rattle.keys.specs.Says.{keys_in}
 use Rattle.keys.proofs.Records.{keys_length}
 use Rattle.keys.proofs.Checked.{most_bytes}
 use Rattle.operands.proofs.Conforming.{entry_size}
-use Rattle.summarizing.proofs.KeyByKey.{bits_from, all_bits, named_here, next_bits, same_on, from_start, not_named, same_here, other_here, none_left}
+use Rattle.summarizing.proofs.KeyByKey.{all_bits, named_here, next_bits, same_on, from_start, not_named, same_here, other_here, none_left}
 use Rattle.summarizing.proofs.same.same_records.Goals as goal
 use Rattle.summarizing.proofs.same.same_records.Goals.{then-rest-eq1+else-not-same_record, else-rest-eq1}
 

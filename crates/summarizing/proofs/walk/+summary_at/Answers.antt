@@ -1,28 +1,17 @@
 -- `summarizing::summary_at` meets its contract, by recursion on the node number: an operator's operands stand below it (`below`). The node
 -- that was read says which tree is at it, and what that names is what its operands name (proofs/Walked). A text is one over which the
 -- tree has a type, and so have its operands (`operand_known`, `left_known`, `right_known`).
-use Prim.Native.Nat.{ℕ, ◌+◌, ◌-◌, ◌<◌}
+use Prim.Native.Nat.{ℕ, ◌<◌}
 use native.Mathlib.Omega.{arith}
 use mathlib.Core.Path.{◌≡◌, sym, ◌∙◌}
 use mathlib.Core.List.{List}
-use borrow.Author.Rules.{rules}
-use borrow.Fn.Kinds.{In}
-use borrow.Fn.PlainCycle.{Measures, is, falls, and}
 use Rattle.trees.specs.declared.node.Node.{Node}
-use Rattle.trees.specs.declared.node.Node.TheVariants.{Without, Before, Between}
+use Rattle.trees.specs.declared.node.Node.TheVariants.{Before, Between}
 use Rattle.trees.specs.declared.node.Operator.{Operator}
 use Rattle.trees.specs.Nodes.{node_at}
 use Rattle.trees.proofs.Walks.{below}
 use Rattle.typing.proofs.Knowing.{operand_known, left_known, right_known}
 use Rattle.summarizing.proofs.Walked.{leaf_summed, prefix_summed, operator_summed}
-use Rattle.summarizing.proofs.walk.summary_at.Reads as summary-at
-use Rattle.summarizing.proofs.walk.summary_at.Kinds as kinds
-use Rattle.summarizing.proofs.walk.+summary_at.Lts-summary_at as lts
-use Rattle.summarizing.proofs.walk.leaf_summary.Reads as leaf-summary
-use Rattle.summarizing.proofs.set.Summary.with.Reads as with
-use Rattle.trees.proofs.node.Node.read.Reads as read
-use Rattle.summarizing.proofs.walk.+summary_at.{statement}
-use Rattle.summarizing.proofs.walk.+summary_at.Tie.{close}
 use Rattle.summarizing.proofs.walk.+summary_at.Goals as goal
 
 abbrev nodes : (t : ℕ) → (goal.After-leaf_summary t) → List ℕ

@@ -1,12 +1,10 @@
 -- `typing::all_held` meets its contract. The invariant of its loop: what the whole tree spells is what the tree at i spells, under the sign
 -- so far (`minus_spelled`, `turned`), and i is no larger than `at`. The measure is i, since an operand stands below its operator (`below`).
-use Prim.Native.Nat.{ℕ, ◌-◌, ◌≤◌, ◌<◌}
+use Prim.Native.Nat.{◌-◌, ◌<◌}
 use native.Mathlib.Omega.{arith}
-use mathlib.Core.Path.{◌≡◌, refl, sym, ◌∙◌, ap}
-use mathlib.Core.Bool.{true, not}
-use mathlib.Core.List.{List}
-use borrow.Author.Rules.{rules}
-use Rattle.paper.specs.Types.{spelled, holds_all}
+use mathlib.Core.Path.{◌≡◌, sym, ◌∙◌, ap}
+use mathlib.Core.Bool.{true}
+use Rattle.paper.specs.Types.{spelled}
 use Rattle.trees.specs.Nodes.{node_at}
 use Rattle.trees.specs.Standing.{tree_at}
 use Rattle.typing.specs.Says.{is_minus, signed_as}

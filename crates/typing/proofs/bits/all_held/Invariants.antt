@@ -1,17 +1,11 @@
 -- `typing::all_held` meets its contract. The invariant of its loop: what the whole tree spells is what the tree at i spells, under the sign
 -- so far (`minus_spelled`, `turned`), and i is no larger than `at`. The measure is i, since an operand stands below its operator (`below`).
-use Prim.Native.Nat.{ℕ, ◌-◌, ◌≤◌, ◌<◌}
-use native.Mathlib.Omega.{arith}
-use mathlib.Core.Path.{◌≡◌, refl, sym, ◌∙◌, ap}
-use mathlib.Core.Bool.{true, not}
+use Prim.Native.Nat.{ℕ, ◌≤◌}
+use mathlib.Core.Path.{◌≡◌}
 use mathlib.Core.List.{List}
-use borrow.Author.Rules.{rules}
-use Rattle.paper.specs.Types.{spelled, holds_all}
-use Rattle.trees.specs.Nodes.{node_at}
+use Rattle.paper.specs.Types.{spelled}
 use Rattle.trees.specs.Standing.{tree_at}
-use Rattle.typing.specs.Says.{is_minus, signed_as}
-use Rattle.typing.proofs.Minus.{minus_below, minus_spelled}
-use Rattle.typing.proofs.Spelled.{turned}
+use Rattle.typing.specs.Says.{signed_as}
 use Rattle.typing.proofs.bits.all_held.Given as goal
 
 abbrev pub invariant-loop-negative : goal.invariant-loop-negative

@@ -1,13 +1,7 @@
 -- `typing::leaf_held` meets its contract: a number's four limbs are its size (`number_held`), and other leaves spell none (`none_held`).
-use borrow.Author.Rules.{rules}
-use Prim.Native.Nat.{ℕ}
-use mathlib.Core.Path.{◌≡◌, ◌∙◌}
-use mathlib.Core.Bool.{true}
-use mathlib.Core.Option.{none}
-use Rattle.paper.specs.Types.{holds_all}
-use Rattle.number.specs.Values.{value, nested}
-use Rattle.typing.specs.Says.{signed_as}
-use Rattle.typing.proofs.Spelled.{none_held, number_held}
+use mathlib.Core.Path.{◌∙◌}
+use Rattle.number.specs.Values.{value}
+use Rattle.typing.proofs.Spelled.{number_held}
 use Rattle.typing.proofs.bits.leaf_held.Goals as goal
 
 pub returns-in-Number : goal.returns-in-Number

@@ -6,7 +6,6 @@ use mathlib.Core.Bool.{Bool, true}
 use mathlib.Core.Option.{Option, none}
 use mathlib.Core.List.{List}
 use lib.IntN.{ℤ}
-use borrow.Author.Rules.{rules}
 use Rattle.paper.specs.Types.{spelled, holds_all}
 use Rattle.trees.specs.declared.node.Node.{Node}
 use Rattle.trees.specs.declared.node.Node.TheVariants.{Without, Before, Between}

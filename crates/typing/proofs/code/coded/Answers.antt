@@ -1,11 +1,7 @@
 -- `typing::coded` meets its contract: a type by its number; and a refusal, which is given to lie in the text at a place that is held.
-use Prim.Native.Nat.{ℕ, ◌<◌}
-use mathlib.Core.Path.{◌≡◌, sym, ◌∙◌, ap, ap₂}
-use borrow.Author.Rules.{rules}
-use Rattle.paper.specs.declared.Place.{Place}
-use Rattle.paper.specs.Answers.{ok, refused, input_of, offset_of, InText}
+use mathlib.Core.Path.{sym, ◌∙◌, ap}
+use Rattle.paper.specs.Answers.{ok}
 use Rattle.typing.specs.Says.{typed_says}
-use Rattle.typing.specs.Coded.{places}
 use Rattle.typing.proofs.Coded.{type_coded}
 use Rattle.typing.proofs.code.coded.Goals as goal
 

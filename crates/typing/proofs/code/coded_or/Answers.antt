@@ -1,7 +1,5 @@
 -- `typing::coded_or` meets its contract: a type by its number, or the refusal.
-use Prim.Native.Nat.{ℕ}
-use mathlib.Core.Path.{◌≡◌, sym, ◌∙◌, ap}
-use borrow.Author.Rules.{rules}
+use mathlib.Core.Path.{sym, ◌∙◌, ap}
 use Rattle.paper.specs.Answers.{Answer, ok}
 use Rattle.paper.specs.Types.{Ty}
 use Rattle.values.specs.Typed.{typing_meant}

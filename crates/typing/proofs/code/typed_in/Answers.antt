@@ -1,12 +1,9 @@
 -- `typing::typed_in` meets its contract: the test that it makes decides which of the two the code says.
 use Prim.Native.Nat.{ℕ}
-use native.Mathlib.Omega.{arith}
 use mathlib.Core.Path.{◌≡◌, sym, ◌∙◌, ap}
 use mathlib.Core.Bool.{false}
-use borrow.Author.Rules.{rules}
-use borrow.Author.Tests.{ltb-false}
 use Rattle.paper.specs.Answers.{ok}
-use Rattle.typing.specs.Coded.{places, is_type}
+use Rattle.typing.specs.Coded.{is_type}
 use Rattle.typing.proofs.Coded.{says_type, says_refusal}
 use Rattle.typing.proofs.code.typed_in.Goals as goal
 

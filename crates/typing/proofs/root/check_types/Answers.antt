@@ -2,7 +2,6 @@
 use Prim.Native.Nat.{ℕ, ◌+◌}
 use mathlib.Core.Path.{◌≡◌, sym, ◌∙◌, ap}
 use mathlib.Core.List.{List}
-use borrow.Author.Rules.{rules}
 use Rattle.paper.specs.Answers.{Answer, input_of, offset_of}
 use Rattle.paper.specs.Types.{Ty, type_of}
 use Rattle.keys.specs.Says.{keys_in}

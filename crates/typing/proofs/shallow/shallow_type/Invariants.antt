@@ -1,19 +1,12 @@
 -- `typing::shallow_type` meets its contract. The invariant of its loop: where the whole tree has a type, the tree at i has the same
 -- (`minus_same`), and i is no larger than `at`. The measure is i, since an operand stands below its operator (`below`).
-use Prim.Native.Nat.{ℕ, ◌-◌, ◌≤◌, ◌<◌}
-use native.Mathlib.Omega.{arith}
-use mathlib.Core.Path.{◌≡◌, sym, ◌∙◌, ap}
-use mathlib.Core.Bool.{true}
+use Prim.Native.Nat.{ℕ, ◌≤◌}
+use mathlib.Core.Path.{◌≡◌}
 use mathlib.Core.List.{List}
-use borrow.Author.Rules.{rules}
 use Rattle.paper.specs.Answers.{ok}
 use Rattle.paper.specs.Types.{Ty, type_of}
 use Rattle.keys.specs.Says.{keys_in}
-use Rattle.trees.specs.Nodes.{node_at}
 use Rattle.trees.specs.Standing.{tree_at}
-use Rattle.trees.proofs.Marking.{marked_below}
-use Rattle.typing.specs.Says.{is_minus}
-use Rattle.typing.proofs.Minus.{minus_below, minus_same}
 use Rattle.typing.proofs.shallow.shallow_type.Given as goal
 
 abbrev pub invariant-loop-i : goal.invariant-loop-i

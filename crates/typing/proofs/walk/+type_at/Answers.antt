@@ -2,15 +2,10 @@
 -- node that was read says which tree is at it (`tree_at_lem`), and each arm answers what `type_of` says of such a tree: of a leaf by its
 -- marks (`leaf_typed`), else of its operands from the left, and the first refusal ends it. What is said of a node has a code, since the
 -- places of nodes are words (`word_held`). A text is one whose names the marks are.
-use Prim.Native.Nat.{ℕ, ◌+◌, ◌-◌, ◌*◌, ◌<◌}
+use Prim.Native.Nat.{ℕ, ◌+◌, ◌-◌, ◌<◌}
 use native.Mathlib.Omega.{arith}
 use mathlib.Core.Path.{◌≡◌, sym, ◌∙◌, ap}
 use mathlib.Core.List.{List}
-use lib.ListN.{get_or}
-use borrow.Author.Rules.{rules}
-use borrow.Author.Tests.{not-true, not-false}
-use borrow.Fn.Kinds.{In}
-use borrow.Fn.PlainCycle.{Measures, is, falls, and}
 use Rattle.paper.specs.Answers.{Answer, ok, ◌>>=◌}
 use Rattle.paper.specs.Keys.{Key}
 use Rattle.paper.specs.Types.{Ty, type_of}
@@ -19,25 +14,14 @@ use Rattle.trees.specs.declared.node.Node.{Node}
 use Rattle.trees.specs.declared.node.Node.TheVariants.{Without, Before, Between}
 use Rattle.trees.specs.Nodes.{node_at, leaf_at, place_at, left_of, Below}
 use Rattle.trees.specs.Standing.{tree_on, tree_at}
-use Rattle.trees.specs.Marks.{Marked, operand_at, name_at}
+use Rattle.trees.specs.Marks.{Marked}
 use Rattle.trees.proofs.Walks.{below, tree_at_lem}
 use Rattle.trees.proofs.Marking.{marked_below}
 use Rattle.typing.specs.Says.{operator_says, node_says}
-use Rattle.typing.specs.Coded.{places, ty_in, code_says}
+use Rattle.typing.specs.Coded.{ty_in, code_says}
 use Rattle.typing.proofs.Coded.{says_type, says_refusal}
 use Rattle.typing.proofs.Leaves.{leaf_typed}
-use Rattle.typing.proofs.Placed.{operand_codable}
 use Rattle.typing.proofs.Walked.{between}
-use Rattle.typing.proofs.walk.type_at.Reads as type-at
-use Rattle.typing.proofs.walk.type_at.Kinds as type-at-kinds
-use Rattle.typing.proofs.walk.+type_at.Lts-type_at as lts
-use Rattle.trees.proofs.node.Node.read.Reads as read-reads
-use Rattle.typing.proofs.code.coded.Reads as coded-reads
-use Rattle.typing.proofs.code.is_type.Reads as is-type-reads
-use Rattle.typing.proofs.leaf.leaf_type.Reads as leaf-type-reads
-use Rattle.typing.proofs.walk.operated.Reads as operated-reads
-use Rattle.typing.proofs.walk.+type_at.{statement}
-use Rattle.typing.proofs.walk.+type_at.Tie.{close}
 use Rattle.typing.proofs.walk.+type_at.Goals as goal
 
 abbrev nodes : (t : ℕ) → (goal.After-coded t) → List ℕ

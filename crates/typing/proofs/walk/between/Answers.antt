@@ -1,11 +1,9 @@
 -- `typing::between` meets its contract, by the laws of proofs/Compared: what the operator makes of its operands' types is refused at its
 -- place; or it joins; or it compares, and the first operand that loses bits is refused at its own place (`place_is`).
-use Prim.Native.Nat.{ℕ, ◌+◌, ◌-◌, ◌*◌}
+use Prim.Native.Nat.{ℕ, ◌-◌}
 use mathlib.Core.Path.{◌≡◌, sym, ◌∙◌, ap, ap₂}
 use mathlib.Core.Bool.{true}
 use mathlib.Core.List.{List}
-use borrow.Author.Rules.{rules}
-use borrow.Author.Tests.{not-true, not-false}
 use Rattle.paper.specs.Answers.{Answer, ok, refused, InText}
 use Rattle.paper.specs.Grammar.{place_of}
 use Rattle.paper.specs.Types.{Ty, keeps_bits, operator_type}
@@ -17,7 +15,7 @@ use Rattle.typing.specs.Says.{operator_made}
 use Rattle.typing.specs.Coded.{ty_in, code_says}
 use Rattle.typing.proofs.Coded.{says_type, says_refusal}
 use Rattle.typing.proofs.Leaves.{or_wrong}
-use Rattle.typing.proofs.Compared.{unsuited, joined, left_lost, right_lost, both_kept}
+use Rattle.typing.proofs.Compared.{unsuited, left_lost, right_lost}
 use Rattle.typing.proofs.walk.between.Goals as goal
 
 abbrev nodes : goal.Then-not-is_type → List ℕ

@@ -1,7 +1,5 @@
 -- The bit of a key below 32 is set (`one_set`); for any other there is none (`past_set`).
-use native.Mathlib.Omega.{arith}
 use mathlib.Core.Path.{refl, sym, ◌∙◌}
-use borrow.Author.Rules.{rules}
 use Rattle.number.proofs.Powers.{one_shifted}
 use Rattle.paper.proofs.KeySets.{none_set, one_set}
 use Rattle.summarizing.proofs.Sets.{past_set}

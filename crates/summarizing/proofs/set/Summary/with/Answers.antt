@@ -1,6 +1,6 @@
 -- The bits of either are the union (`or_set`), and the mark is there where either has it.
-use mathlib.Core.Path.{◌≡◌, sym, ap, ap₂, ◌∙◌}
-use mathlib.Core.Bool.{Bool, true, false, ◌||◌}
+use mathlib.Core.Path.{sym, ap, ap₂, ◌∙◌}
+use mathlib.Core.Bool.{Bool, ◌||◌}
 use lib.Bits.{bit_or}
 use Rattle.paper.proofs.KeySets.{or_set}
 use Rattle.summarizing.proofs.set.Summary.with.Goals as goal

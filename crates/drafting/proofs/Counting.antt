@@ -7,7 +7,7 @@ use mathlib.Core.Bool.{Bool, true, false}
 use Rattle.paper.specs.Tokens.{notSign}
 use Rattle.paper.specs.Grammar as G
 use Rattle.paper.specs.Grammar.{Tree}
-use Rattle.paper.specs.Print.{tightest, rung, looser}
+use Rattle.paper.specs.Print.{tightest, looser}
 use Rattle.paper.specs.Sized.{wider, deeper, count, levels as deep}
 use Rattle.trees.specs.declared.node.Operator.{Operator}
 use Rattle.trees.specs.declared.node.Operator.TheVariants.{Joins, Compares}

@@ -12,7 +12,7 @@ use lib.Dec.{eqb, leb}
 use borrow.Author.Tests.{eqb-true, le-leb}
 use Rattle.paper.specs.Answers.{Input, inEntry, Answer, ok, refused, ◌>>=◌}
 use Rattle.paper.specs.Tokens.{sequel, implies, or_else, andAlso}
-use Rattle.paper.specs.Keys.{Key, keys}
+use Rattle.paper.specs.Keys.{Key}
 use Rattle.paper.specs.Entry.{Entry, head_size, entry_of}
 use Rattle.paper.specs.Grammar.{Tree, truth, number, key, field, attribute, prefixed, joined, compared, place_of}
 use Rattle.paper.specs.Meaning.{value_of, is_true}

@@ -5,7 +5,6 @@ use mathlib.Core.Path.{◌≡◌, refl, sym, ap, ◌∙◌}
 use mathlib.Core.List.{List, []}
 use lib.ListN.{length, get_or, take, replicate, length-replicate}
 use lib.Seq.{take_at}
-use Rattle.paper.specs.declared.Fixing.TheVariants as F
 use Rattle.paper.specs.Tokens.{bytes, most_text}
 use Rattle.paper.specs.Calls.{over}
 use Rattle.paper.specs.Fixing.{fixed}

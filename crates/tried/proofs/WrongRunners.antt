@@ -6,7 +6,6 @@ use mathlib.Core.Path.{◌≡◌, refl, sym, ap, ◌∙◌}
 use mathlib.Core.Bool.{Bool, true, false, true≢false}
 use mathlib.Core.List.{List, [], ◌∷◌}
 use lib.ListN.{length, replicate}
-use Rattle.paper.specs.declared.Running.{Running}
 use Rattle.paper.specs.declared.Running.TheVariants as N
 use Rattle.paper.specs.Answers.{ok, refused, inBlocks, loading_says, Ran, running_says}
 use Rattle.paper.specs.Tokens.{equal}

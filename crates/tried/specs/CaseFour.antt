@@ -1,7 +1,7 @@
 -- 01, "For case 4 below, bytes 0 to 3 are 00 00 00 04. The instructions are: 03, zeros; 02, zeros, last constant byte 01;
 -- 08 00 00 01, zeros; 09, zeros. Bytes 504 to 511 are 00 04 00 05 EB E4 16 0F. All other bytes are zero."
-use Rattle.std.specs.Prelude.{ℕ, ◌≡◌, Bool, true, List, [], ◌∷◌, ◌++◌, replicate}
-use Rattle.paper.specs.Answers.{Answer, ok}
+use Rattle.std.specs.Prelude.{ℕ, ◌≡◌, true, List, [], ◌∷◌, ◌++◌, replicate}
+use Rattle.paper.specs.Answers.{ok}
 use Rattle.paper.specs.Tokens.{bytes}
 use Rattle.paper.specs.Calls.{translate_answer, translate_buffer, load_answer, run_answer}
 use Rattle.tried.specs.MarkedJudgements.{the_keys, the_entry}

@@ -4,7 +4,7 @@ use Rattle.std.specs.Prelude.{ℕ, ◌*◌, ◌≡◌, List, [], ◌∷◌, ◌+
 use Prim.Native.String as S
 use Rattle.paper.specs.declared.Place.TheVariants as P
 use Rattle.paper.specs.declared.Counting.TheVariants as C
-use Rattle.paper.specs.Answers.{Answer, ok, refused, InText, InList, inEntry}
+use Rattle.paper.specs.Answers.{ok, refused, InText, InList, inEntry}
 use Rattle.paper.specs.Numbers.{big_endian}
 use Rattle.paper.specs.Tokens.{bytes}
 use Rattle.paper.specs.Keys.{Key}

@@ -1,5 +1,5 @@
 -- 02 h's pass, by example: texts with what it makes of them, what it refuses, and what a buffer holds afterwards.
-use Rattle.std.specs.Prelude.{ℕ, ◌-◌, ◌^◌, ◌≡◌, List, [], ◌∷◌, ◌++◌, length, replicate}
+use Rattle.std.specs.Prelude.{ℕ, ◌≡◌, List, [], ◌∷◌, ◌++◌, replicate}
 use Rattle.paper.specs.Answers.{Answer, ok, refused, ◌>>=◌, InText, inBuffer}
 use Rattle.paper.specs.Tokens.{bytes}
 use Rattle.paper.specs.Fixing.{old_tokens, fixed, fix_answer, fix_buffer}

@@ -1,5 +1,5 @@
 -- 02 c by example: texts with their parts, both sides of each limit, and what is shown of an entry.
-use Rattle.std.specs.Prelude.{ℕ, ◌-◌, ◌^◌, true, false, List, [], ◌∷◌, ◌++◌, map, length, drop, replicate}
+use Rattle.std.specs.Prelude.{ℕ, ◌-◌, ◌^◌, true, List, [], ◌∷◌, ◌++◌, map, length, drop, replicate}
 use Prim.Native.String as S
 use Rattle.paper.specs.Answers.{Answer, ok, refused, ◌>>=◌, InText, InList, inEntry}
 use Rattle.paper.specs.Numbers.{big_endian}

@@ -1,5 +1,5 @@
 -- 02 a and e by example: texts with their prints, where parentheses stay, numerals in each base, and what is lent.
-use Rattle.std.specs.Prelude.{ℕ, ◌-◌, ◌^◌, ◌≡◌, true, false, cond, List, [], ◌∷◌, ◌++◌, map, length, get_or, replicate}
+use Rattle.std.specs.Prelude.{ℕ, ◌-◌, ◌^◌, ◌≡◌, true, cond, List, [], ◌∷◌, ◌++◌, map, length, get_or, replicate}
 use Prim.Native.String as S
 use Rattle.paper.specs.declared.Place.TheVariants as P
 use Rattle.paper.specs.declared.Printing.{Printing}

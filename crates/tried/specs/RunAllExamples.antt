@@ -5,7 +5,7 @@ use Prim.Native.String as S
 use Rattle.paper.specs.declared.Place.TheVariants as P
 use Rattle.paper.specs.declared.Judgement.TheVariants as J
 use Rattle.paper.specs.declared.RunningAll.TheVariants as U
-use Rattle.paper.specs.Answers.{Answer, ok, refused, ◌>>=◌, InList, inEntry, inBlocks, inBuffer, Ran}
+use Rattle.paper.specs.Answers.{Answer, ok, refused, ◌>>=◌, InList, inEntry, inBlocks, inBuffer}
 use Rattle.paper.specs.Numbers.{big_endian}
 use Rattle.paper.specs.Tokens.{bytes}
 use Rattle.paper.specs.Blocks.{blocks_of}

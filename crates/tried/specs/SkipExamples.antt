@@ -1,14 +1,14 @@
 -- 02 g, "Stop early, and count", by example: the bytes of a skip and what can be read as one, its landing in the load check, and what a run
 -- with skips leaves and how many steps it takes.
-use Rattle.std.specs.Prelude.{ℕ, ◌+◌, ◌^◌, ◌≡◌, Bool, true, false, List, [], ◌∷◌, ◌++◌, replicate}
+use Rattle.std.specs.Prelude.{ℕ, ◌+◌, ◌^◌, ◌≡◌, true, false, List, [], ◌∷◌, ◌++◌, replicate}
 use Rattle.std.proofs.Math.Option.{Option, none, some}
-use Rattle.paper.specs.Answers.{Answer, ok, refused, ◌>>=◌, Ran, inBlocks}
+use Rattle.paper.specs.Answers.{Answer, ok, ◌>>=◌, Ran}
 use Rattle.paper.specs.Keys.{keys}
 use Rattle.paper.specs.Entry.{entry_of}
 use Rattle.paper.specs.Code.{Instruction, push_bool, invert, connects, skip, Parts, encode, decode, first_byte, Walk, ends}
 use Rattle.paper.specs.Code as C
 use Rattle.paper.specs.Types.{Ty, bool}
-use Rattle.paper.specs.Meaning.{Value, truth, both}
+use Rattle.paper.specs.Meaning.{Value, truth}
 use Rattle.paper.specs.Loading.{program, types_along, Step, Run, stuck, done, run_along}
 use Rattle.paper.specs.Calls.{ran_to}
 use Rattle.paper.specs.LoadedBlocksRun.{types_through, values_through, Rising}

@@ -11,7 +11,7 @@ use Rattle.paper.specs.Grammar.{Tree}
 use Rattle.paper.specs.Calls.{Restriction, restriction, over}
 use Rattle.paper.specs.Parts.{Part, parts}
 use Rattle.paper.specs.Explained.{holds_on, first_false}
-use Rattle.paper.specs.Counting.{whole_in, cut_in, entries_in, count_if, judged, is_accepted, is_violated, Counts, most_entries, Totals, totals_of, counting_says, part_lines, count_output}
+use Rattle.paper.specs.Counting.{whole_in, cut_in, entries_in, count_if, judged, is_accepted, is_violated, Counts, most_entries, Totals, counting_says, part_lines, count_output}
 use Rattle.paper.specs.Promised.{Bytes, PartNumbers, CountResult}
 use Rattle.paper.specs.Demands.{Countable, counts_in, CountRight}
 use Rattle.tried.specs.WrongExplainers.{spine}

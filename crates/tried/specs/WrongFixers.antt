@@ -1,8 +1,7 @@
 -- Passes that are wrong: one that changes octal numerals in strings or in comments, one that keeps leading zeros, one that turns `0o10` into `10`.
 -- Each is described so that a sloppy maker's is one, and fails what 02 h asks. As programs they stand in WrongPrograms, and there they are
 -- shown to be real.
-use Rattle.std.specs.Prelude.{ℕ, ◌≤◌, ◌<◌, ◌≡◌, List, [], ◌∷◌, ◌++◌, map, length, replicate}
-use Rattle.paper.specs.declared.Fixing.{Fixing}
+use Rattle.std.specs.Prelude.{ℕ, ◌≤◌, ◌<◌, ◌≡◌, List, ◌∷◌, ◌++◌, map, length, replicate}
 use Rattle.paper.specs.declared.Fixing.TheVariants as F
 use Rattle.paper.specs.Numbers.{in_base}
 use Rattle.paper.specs.Tokens.{bytes, span, within, digit_of, most_text}

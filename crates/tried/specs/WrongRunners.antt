@@ -13,7 +13,7 @@ use Rattle.paper.specs.Types.{Ty}
 use Rattle.paper.specs.Meaning.{Value}
 use Rattle.paper.specs.Code.{Skip, Instruction, Action, takes_one, act, Walk, fails, ends, go_on, walk, type_action, value_action, action_of, skip_of}
 use Rattle.paper.specs.Blocks.{layout}
-use Rattle.paper.specs.Loading.{program, load_check, passed, Run, done, carry_on, run_from, left_true, steps_taken}
+use Rattle.paper.specs.Loading.{program, load_check, passed, Run, done, carry_on, left_true, steps_taken}
 use Rattle.paper.specs.Promised.{verdict_in, Bytes, LoadPromised}
 use Rattle.paper.specs.Demands.{Runnable, RanRight}
 

@@ -1,23 +1,18 @@
 -- From the stages of a comparison to its answer: the refusal of text and list, then that of the blocks, or whether they fit. And what the scratch of
 -- its codes must hold: two instructions for each node, and two more.
-use Prim.Native.Nat.{ℕ, ◌+◌, ◌-◌, ◌*◌, ◌≤◌, ◌<◌}
+use Prim.Native.Nat.{ℕ, ◌+◌, ◌-◌, ◌*◌, ◌≤◌}
 use native.Mathlib.Omega.{arith}
-use mathlib.Core.Path.{◌≡◌, refl, sym, ap, subst, ◌∙◌}
-use mathlib.Core.Bool.{Bool, true, false}
+use mathlib.Core.Path.{◌≡◌}
 use mathlib.Core.List.{List}
-use lib.ListN.{length}
-use Rattle.paper.specs.Answers.{Answer, ok, refused, ◌>>=◌, Input}
+use Rattle.paper.specs.Answers.{ok, refused, Input}
 use Rattle.paper.specs.Code.{instruction_size}
-use Rattle.paper.specs.Translating.{code_of}
 use Rattle.paper.specs.Loading.{loaded}
-use Rattle.paper.specs.Blocks.{total_of}
-use Rattle.paper.specs.Calls.{Restriction, restriction}
-use Rattle.paper.specs.Parts.{Part, parts}
-use Rattle.paper.specs.Comparing.{records_in, records_from, fits, part_codes, compare_answer}
+use Rattle.paper.specs.Calls.{restriction}
+use Rattle.paper.specs.Comparing.{records_from, fits, compare_answer}
 use Rattle.paper.proofs.CodeLength.{code_counted, few_beside_nodes}
 use Rattle.keys.specs.Says.{keys_in}
 use Rattle.trees.specs.Standing.{tree_at}
-use Rattle.parts.specs.Rows.{part_at, parts_on, each}
+use Rattle.parts.specs.Rows.{part_at, each}
 use Rattle.parts.proofs.Stored.{each_length}
 use Rattle.reading.specs.Parted.{PassedParts}
 use Rattle.reading.proofs.Stages.{root_known}

@@ -1,7 +1,7 @@
 -- From the stages' answers to that of `print`, and from what was written to scratch to what is lent.
 use Prim.Native.Nat.{ℕ, ◌-◌, ◌≤◌, ◌<◌}
 use native.Mathlib.Omega.{arith}
-use mathlib.Core.Path.{◌≡◌, refl, sym, ap, subst, ◌∙◌}
+use mathlib.Core.Path.{◌≡◌, subst}
 use mathlib.Core.List.{List}
 use lib.ListN.{length, take}
 use borrow.Author.Tests.{le-leb, lt-leb, le-ltb}
@@ -11,11 +11,11 @@ use Rattle.paper.specs.declared.Counted.{Counted}
 use Rattle.paper.specs.declared.Counted.TheVariants as S
 use Rattle.paper.specs.declared.Printing.{Printing}
 use Rattle.paper.specs.declared.Printing.TheVariants as W
-use Rattle.paper.specs.Answers.{Answer, ok, refused, ◌>>=◌, InText, input_of, offset_of}
+use Rattle.paper.specs.Answers.{refused, input_of, offset_of}
 use Rattle.paper.specs.Tokens.{most_text}
 use Rattle.paper.specs.Grammar.{Tree}
 use Rattle.paper.specs.Print.{rung, looser, enclosed, print}
-use Rattle.paper.specs.Calls.{tree, over, lends, laid, printable, print_answer, print_buffer}
+use Rattle.paper.specs.Calls.{tree, over, printable, print_answer, print_buffer}
 use Rattle.paper.specs.Promised.{PrintResult, PrintPromised}
 use Rattle.trees.specs.Standing.{tree_at}
 use Rattle.printing.specs.Writing.{Wrote}

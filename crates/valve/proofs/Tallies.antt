@@ -10,7 +10,7 @@ use Rattle.paper.specs.declared.Place.TheVariants as P
 use Rattle.paper.specs.declared.Counting.TheVariants as C
 use Rattle.paper.specs.Answers.{ok, refused, input_of, offset_of}
 use Rattle.paper.specs.Calls.{restriction, over}
-use Rattle.paper.specs.Counting.{entry_size, whole_in, cut_in, most_entries, Counts, counts_of, counted, totals_of, count_answer, count_numbers}
+use Rattle.paper.specs.Counting.{entry_size, whole_in, cut_in, most_entries, Counts, counts_of, counted, count_answer, count_numbers}
 use Rattle.paper.specs.Promised.{CountResult, CountPromised}
 use Rattle.keys.specs.Says.{keys_in}
 use Rattle.trees.specs.Standing.{tree_at}

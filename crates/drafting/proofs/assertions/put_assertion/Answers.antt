@@ -1,20 +1,15 @@
 -- `drafting::assertions::put_assertion` meets its contract: the two operands, the comparison behind them and "!" behind that, each put where the
 -- one before ended.
-use Prim.Native.Nat.{ℕ, ◌+◌, ◌≤◌}
-use native.Mathlib.Omega.{arith}
-use mathlib.Core.Path.{◌≡◌, refl}
+use Prim.Native.Nat.{ℕ}
 use mathlib.Core.List.{List}
-use borrow.Author.Rules.{rules}
 use Rattle.paper.specs.Keys.{record_at, name_of}
-use Rattle.paper.specs.Pact as P
 use Rattle.paper.specs.Grammar as G
 use Rattle.paper.specs.Grammar.{Tree}
-use Rattle.paper.specs.Sized.{count}
 use Rattle.paper.specs.Drafting.{comparison_of, operand_tree}
 use Rattle.drafting.specs.Opcodes.{load_meant, relation_meant}
 use Rattle.drafting.specs.Pieces.{Grown}
 use Rattle.drafting.specs.Assertions.{names_in}
-use Rattle.drafting.proofs.Growing.{small, grown_behind, grown_then}
+use Rattle.drafting.proofs.Growing.{grown_behind, grown_then}
 use Rattle.drafting.proofs.Naming.{name_in, left_named}
 use Rattle.drafting.proofs.assertions.put_assertion.Goals as goal
 

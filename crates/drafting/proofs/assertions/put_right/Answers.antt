@@ -1,10 +1,7 @@
 -- `drafting::assertions::put_right` meets its contract: the load says whether the operand is a number of the table or a name.
 use Prim.Native.Nat.{◌<◌}
-use native.Mathlib.Omega.{arith}
-use lib.ListN.{length}
-use borrow.Author.Rules.{rules}
 use Rattle.paper.specs.Keys.{records_in}
-use Rattle.drafting.specs.declared.opcodes.Load.TheVariants.{User, Input}
+use Rattle.drafting.specs.declared.opcodes.Load.TheVariants.{Input}
 use Rattle.drafting.proofs.Naming.{name_in, right_there}
 use Rattle.drafting.proofs.assertions.put_right.Goals as goal
 

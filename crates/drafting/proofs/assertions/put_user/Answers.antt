@@ -4,7 +4,6 @@ use native.Mathlib.Nat.{lt_of_lt_of_le}
 use mathlib.Core.Path.{◌≡◌, refl, ap, ap₂, ◌∙◌}
 use lib.Dec.{lit≤}
 use lib.Seq.{sets}
-use borrow.Author.Rules.{rules}
 use Rattle.paper.specs.Grammar as G
 use Rattle.paper.specs.Tokens as P
 use Rattle.paper.specs.Tokens.{decimal, literal_in}

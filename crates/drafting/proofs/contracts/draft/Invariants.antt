@@ -1,12 +1,9 @@
 -- `drafting::contracts::draft` meets its contract. The invariant of its loop: what the bytes from the next one on say of what stands before it is
 -- what the whole contract says (`Read`). A turn reads a byte. The measure is how many bytes are left.
-use Prim.Native.Nat.{ℕ, ◌-◌}
-use native.Mathlib.Omega.{arith}
+use Prim.Native.Nat.{◌-◌}
 use mathlib.Core.Path.{◌≡◌}
-use mathlib.Core.List.{List}
 use lib.ListN.{length}
-use borrow.Author.Rules.{rules}
-use Rattle.drafting.proofs.Walk.{Read, read_none, read_on, read_fault, read_all, drafts_same}
+use Rattle.drafting.proofs.Walk.{Read}
 use Rattle.drafting.proofs.contracts.draft.Given as goal
 
 abbrev pub invariant-loop-i : goal.invariant-loop-i

@@ -2,7 +2,6 @@
 use native.Mathlib.Omega.{arith}
 use mathlib.Core.Path.{refl}
 use mathlib.Core.Bool.{true}
-use borrow.Author.Rules.{rules}
 use Rattle.trees.proofs.Puts.{truth_put}
 use Rattle.drafting.proofs.contracts.empty.Goals as goal
 

@@ -4,7 +4,6 @@ use native.Mathlib.Omega.{arith}
 use mathlib.Core.Path.{◌≡◌, sym, ap, ◌∙◌}
 use mathlib.Core.Option.{Option}
 use mathlib.Core.List.{List, [], ◌∷◌, ◌++◌}
-use borrow.Author.Rules.{rules}
 use Rattle.paper.specs.Answers.{ok}
 use Rattle.paper.specs.Pact.{Clause}
 use Rattle.paper.specs.Contract as P
@@ -12,8 +11,8 @@ use Rattle.paper.specs.Contract.{closed_all}
 use Rattle.paper.specs.Drafting.{contract_tree, clause_tree}
 use Rattle.drafting.specs.Assertions.{names_in}
 use Rattle.drafting.specs.Fronts.{link_meant, opened_meant, all_of, sequel_on, Represents}
-use Rattle.drafting.proofs.Clauses.{no_clause_yet, clause_there, is_closable, all_closed, all_more}
-use Rattle.drafting.proofs.Walk.{index_waits, assertion_waits, none_waits, tree_of_all, drafts_as}
+use Rattle.drafting.proofs.Clauses.{no_clause_yet, clause_there, all_closed, all_more}
+use Rattle.drafting.proofs.Walk.{none_waits, tree_of_all, drafts_as}
 use Rattle.drafting.proofs.contracts.ended.Goals as goal
 
 -- nothing waits

@@ -1,6 +1,5 @@
 -- `drafting::fronts::put_closed` meets its contract: the first clause is as it is, and any other is joined to those before it.
-use borrow.Author.Rules.{rules}
-use Rattle.drafting.proofs.Clauses.{closable_as, alone, behind_all}
+use Rattle.drafting.proofs.Clauses.{behind_all}
 use Rattle.drafting.proofs.fronts.put_closed.Goals as goal
 
 pub returns-in-Tree : goal.returns-in-Tree

@@ -1,5 +1,4 @@
 -- `drafting::fronts::put_link` meets its contract: the link is put behind the clause and the assertion, and "!" behind that where it is asked for.
-use borrow.Author.Rules.{rules}
 use Rattle.drafting.proofs.Growing.{grown_then}
 use Rattle.drafting.proofs.fronts.put_link.Goals as goal
 

@@ -1,5 +1,4 @@
 -- What `check` promises is all that demand 1 asks of it.
-use borrow.Author.Rules.{rules}
 use Rattle.paper.proofs.DemandOne.{check_answered}
 use Rattle.valve.proofs.account.checked.Goals as goal
 

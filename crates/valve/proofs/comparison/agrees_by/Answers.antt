@@ -4,7 +4,6 @@ use Prim.Native.Nat.{ℕ, ◌+◌, ◌*◌, ◌≤◌}
 use native.Mathlib.Omega.{arith}
 use mathlib.Core.Path.{◌∙◌}
 use mathlib.Core.List.{List}
-use borrow.Author.Rules.{rules}
 use Rattle.paper.specs.Tokens.{most_tokens}
 use Rattle.paper.specs.Code.{instruction_size}
 use Rattle.parts.specs.Rows.{each}

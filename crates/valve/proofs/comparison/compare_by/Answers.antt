@@ -1,8 +1,5 @@
 -- `valve::compare_by` meets its contract: the refusal of `load_for` (`blocks_refused`), or whether what it counts agrees (`compared`).
-use Prim.Native.Nat.{ℕ}
 use mathlib.Core.Path.{◌≡◌, sym, ap, ◌∙◌}
-use lib.ListN.{length}
-use borrow.Author.Rules.{rules}
 use Rattle.paper.specs.Answers.{ok, loading_says}
 use Rattle.paper.specs.Loading.{loaded}
 use Rattle.keys.specs.Says.{keys_in}

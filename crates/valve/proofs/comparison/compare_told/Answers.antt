@@ -1,6 +1,5 @@
 -- `valve::compare_told` meets its contract: the refusal of text or list (`text_refused`), or the comparison by the parts (`compare_by`).
-use borrow.Author.Rules.{rules}
-use Rattle.reading.proofs.Parted.{not_parted, passed}
+use Rattle.reading.proofs.Parted.{not_parted}
 use Rattle.valve.proofs.Agreements.{text_refused}
 use Rattle.valve.proofs.comparison.compare_told.Goals as goal
 

@@ -1,18 +1,8 @@
 -- `valve::count_by` meets its contract: too many entries (`too_many`), or the parts' numbers, which are added to zeros (`counts`).
-use Prim.Native.Nat.{ℕ, ◌*◌, ◌/◌, ◌≤◌}
-use native.Mathlib.Nat.{div-le_self}
-use native.Mathlib.Omega.{arith}
-use mathlib.Core.Path.{sym, subst}
+use Prim.Native.Nat.{ℕ}
+use mathlib.Core.Path.{subst}
 use mathlib.Core.List.{List}
-use lib.ListN.{length}
-use borrow.Author.Rules.{rules}
-use Rattle.paper.specs.Keys.{most_keys, record_size}
-use Rattle.paper.specs.Counting.{entry_size, whole_in}
-use Rattle.keys.specs.Says.{keys_in}
-use Rattle.keys.proofs.Records.{keys_length}
-use Rattle.keys.proofs.Checked.{most_bytes}
-use Rattle.counting.specs.Tallied.{Spare, Tells}
-use Rattle.counting.proofs.Growing.{zeros_spare}
+use Rattle.counting.specs.Tallied.{Tells}
 use Rattle.valve.proofs.Tallies.{all, too_many, counts}
 use Rattle.valve.proofs.counts.count_by.Goals as goal
 

@@ -1,7 +1,6 @@
 -- `valve::count_told` meets its contract: the refusal of text or list, which leaves the numbers (`text_refused`), or the numbers by the parts
 -- (`count_by`).
-use borrow.Author.Rules.{rules}
-use Rattle.reading.proofs.Parted.{not_parted, passed}
+use Rattle.reading.proofs.Parted.{not_parted}
 use Rattle.valve.proofs.Tallies.{text_refused}
 use Rattle.valve.proofs.counts.count_told.Goals as goal
 

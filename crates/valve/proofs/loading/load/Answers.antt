@@ -1,6 +1,5 @@
 -- `valve::load` meets its contract: the refusal of the list (`list_refused`), or what `load_for` answers for the count of its keys (`list_passed`).
 use mathlib.Core.Path.{sym, ◌∙◌, ap}
-use borrow.Author.Rules.{rules}
 use Rattle.paper.specs.Answers.{counted_says}
 use Rattle.valve.proofs.Loads.{list_refused, keys_counted, list_passed}
 use Rattle.valve.proofs.loading.load.Goals as goal

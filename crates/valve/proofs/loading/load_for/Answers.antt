@@ -3,7 +3,6 @@
 use Prim.Native.Nat.{ℕ}
 use mathlib.Core.Path.{◌≡◌, sym, ◌∙◌, ap}
 use lib.ListN.{length}
-use borrow.Author.Rules.{rules}
 use Rattle.paper.specs.Answers.{checking_says, counted_says}
 use Rattle.keys.specs.Says.{keys_in}
 use Rattle.blocks.specs.Layout.{laid_out}

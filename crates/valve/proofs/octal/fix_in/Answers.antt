@@ -1,6 +1,4 @@
 -- `valve::fix_in` meets its contract: the refusal of the pass, which leaves the buffer, 21 where the result does not fit it, or the result.
-use native.Mathlib.Omega.{arith}
-use borrow.Author.Rules.{rules}
 use Rattle.valve.proofs.Fixes.{Fixed, not_fixed, is_fixed, no_room, lent}
 use Rattle.valve.proofs.octal.fix_in.Goals as goal
 

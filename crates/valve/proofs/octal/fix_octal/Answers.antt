@@ -1,5 +1,4 @@
 -- `valve::fix_octal` meets its contract: refusal 1 of a text that is too long, else what the pass gives with scratch for its length.
-use borrow.Author.Rules.{rules}
 use Rattle.valve.proofs.Fixes.{too_long}
 use Rattle.valve.proofs.octal.fix_octal.Goals as goal
 

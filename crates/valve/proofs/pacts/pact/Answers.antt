@@ -1,6 +1,5 @@
 -- `valve::pact` meets its contract: the refusal of the names, else what the stages after them answer.
 use mathlib.Core.Path.{sym, ap, ◌∙◌}
-use borrow.Author.Rules.{rules}
 use Rattle.paper.specs.Answers.{counted_says}
 use Rattle.keys.proofs.Checked as K
 use Rattle.valve.proofs.Contracts.{names_refused}

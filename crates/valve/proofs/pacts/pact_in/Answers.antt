@@ -1,7 +1,5 @@
 -- `valve::pact_in` meets its contract: the draft's fault, that its text is over a limit, or the text of its tree.
-use native.Mathlib.Omega.{arith}
 use mathlib.Core.Path.{subst}
-use borrow.Author.Rules.{rules}
 use Rattle.paper.specs.Keys.{records_in}
 use Rattle.paper.specs.Contract.{clauses}
 use lib.ListN.{length}

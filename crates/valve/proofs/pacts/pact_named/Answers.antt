@@ -1,5 +1,4 @@
 -- `valve::pact_named` meets its contract: a table that is too long is refused, else what is made with nodes of its own.
-use borrow.Author.Rules.{rules}
 use Rattle.valve.proofs.Contracts.{table_over}
 use Rattle.valve.proofs.pacts.pact_named.Goals as goal
 

@@ -1,7 +1,6 @@
 -- `valve::reason_by` meets its contract: a refusal of the entry, whose key the list has (`entry_refused`), or the first part that is false on it
 -- (`explained`).
 use mathlib.Core.Path.{◌∙◌}
-use borrow.Author.Rules.{rules}
 use Rattle.explaining.proofs.Reasons.{entry_refused, explained}
 use Rattle.valve.proofs.Verdicts.{conforming}
 use Rattle.valve.proofs.reasons.reason_by.Goals as goal

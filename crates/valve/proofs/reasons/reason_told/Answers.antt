@@ -1,8 +1,7 @@
 -- `valve::reason_told` meets its contract: a refusal of text or list, which is at no record (`text_refused`), or the reason by the parts
 -- (`reason_by`).
 use mathlib.Core.Path.{◌∙◌}
-use borrow.Author.Rules.{rules}
-use Rattle.reading.proofs.Parted.{not_parted, passed}
+use Rattle.reading.proofs.Parted.{not_parted}
 use Rattle.explaining.proofs.Reasons.{text_refused}
 use Rattle.valve.proofs.reasons.reason_told.Goals as goal
 

@@ -1,7 +1,5 @@
 -- `valve::compare_told` meets its contract: the refusal of text or list (`not_passed`), or what is found by the root (`compare_by`), whose words the
 -- nodes have.
-use borrow.Author.Rules.{rules}
-use Rattle.reading.proofs.Stages.{rooted}
 use Rattle.valve.proofs.Compared.{not_passed}
 use Rattle.valve.proofs.rechecks.compare_told.Goals as goal
 

@@ -1,11 +1,10 @@
 -- `valve::same_by` meets its contract: an old entry that is refused is the same in nothing (`old_refused`); of two that conform, what the
 -- tree names decides (`both_enter`).
 use mathlib.Core.Path.{◌∙◌}
-use borrow.Author.Rules.{rules}
 use Rattle.operands.specs.Conforming.{Conforming}
 use Rattle.reading.proofs.Stages.{root_known}
 use Rattle.valve.proofs.Verdicts.{conforming}
-use Rattle.valve.proofs.Compared.{old_refused, both_enter}
+use Rattle.valve.proofs.Compared.{both_enter}
 use Rattle.valve.proofs.rechecks.same_by.Goals as goal
 
 old_conforms : (c : goal.After-summary_at-summary) → Conforming c.args.list.now c.args.old.now

@@ -1,6 +1,5 @@
 -- `valve::run` meets its contract: the refusal of `load` (`load_refused`), or what the loaded blocks say of the entry (`run_one`).
 use mathlib.Core.Path.{◌≡◌, sym, ◌∙◌, ap}
-use borrow.Author.Rules.{rules}
 use Rattle.paper.specs.Answers.{ok, loading_says}
 use Rattle.paper.specs.Calls.{load_answer}
 use Rattle.valve.proofs.Runs.{load_refused, passes}

@@ -1,14 +1,12 @@
 -- `valve::run_one` meets its contract: 19 of an entry of another length (`wrong_length`); else its byte and steps, which are those of its run
 -- (`alone`), tell the verdict (`told`), or the entry does not conform, and its check tells why (`entry_refused`).
 use Prim.Native.Nat.{ℕ}
-use native.Mathlib.Omega.{arith}
 use mathlib.Core.Path.{sym, ap, ◌∙◌}
 use mathlib.Core.Bool.{true, false}
 use mathlib.Core.List.{List}
 use lib.ListN.{get_or}
-use borrow.Author.Rules.{rules}
 use Rattle.paper.specs.Answers.{checking_says}
-use Rattle.valve.proofs.Runs.{wrong_length, Alone, alone, told, not_conforming, entry_refused, just_one}
+use Rattle.valve.proofs.Runs.{wrong_length, Alone, alone, told, not_conforming, entry_refused}
 use Rattle.valve.proofs.running.run_one.Goals as goal
 
 pub returns-then-length-entry_size : goal.returns-then-length-entry_size

@@ -1,7 +1,5 @@
 -- `valve::run_table` meets its contract: a last entry is cut (`cut`), there are too few answers (`too_few`), or each entry has its byte (`ran`).
-use native.Mathlib.Omega.{arith}
-use borrow.Author.Rules.{rules}
-use Rattle.valve.proofs.Runs.{cut, too_few, room, ran}
+use Rattle.valve.proofs.Runs.{cut, too_few, ran}
 use Rattle.valve.proofs.running.run_table.Goals as goal
 
 pub returns-then-length-size-ne0 : goal.returns-then-length-size-ne0

@@ -1,10 +1,8 @@
 -- `valve::lend_first` meets its contract: bytes that are copied to the front stand before those that stood after them (`copied_first`).
-use Prim.Native.Nat.{ℕ, ◌≤◌}
 use native.Mathlib.Omega.{arith}
-use mathlib.Core.Path.{◌≡◌, sym, ◌∙◌}
+use mathlib.Core.Path.{◌≡◌, ◌∙◌}
 use lib.ListN.{length, take}
 use lib.Seq.{length-take-le}
-use borrow.Author.Rules.{rules}
 use Rattle.printing.proofs.FromTheStart.{copied_first}
 use Rattle.valve.proofs.style.lend_first.Goals as goal
 

@@ -1,10 +1,7 @@
 -- `valve::lend_print` meets its contract: a print that did not fit the scratch is past the limit, one that is past the buffer is refused too, and
 -- any other is lent whole.
 use mathlib.Core.Path.{refl}
-use borrow.Author.Rules.{rules}
-use Rattle.paper.specs.Grammar.{Tree}
-use Rattle.trees.specs.Standing.{tree_at}
-use Rattle.valve.proofs.Prints.{past_the_limit, past_the_buffer, written_there, lent_first}
+use Rattle.valve.proofs.Prints.{lent_first}
 use Rattle.valve.proofs.style.lend_print.Goals as goal
 
 pub returns : goal.returns

@@ -1,8 +1,6 @@
 -- `valve::print` meets its contract: refusal 1 of a text that is too long (`too_long`); else it goes on from what `try_tree` answers with few nodes
 -- (`print_told`), and where that is over it lends more (`print_long`).
-use borrow.Author.Rules.{rules}
 use Rattle.valve.proofs.Prints.{too_long}
-use Rattle.valve.proofs.Tries.{answered}
 use Rattle.valve.proofs.style.print.Goals as goal
 
 pub returns-then-text-gt-MOST_TEXT : goal.returns-then-text-gt-MOST_TEXT

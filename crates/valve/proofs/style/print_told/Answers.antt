@@ -1,7 +1,5 @@
 -- `valve::print_told` meets its contract: the refusal of the tree, which leaves the buffer (`not_printed`), or the print of the tree at the last node
 -- (`is_printed`).
-use native.Mathlib.Omega.{arith}
-use borrow.Author.Rules.{rules}
 use Rattle.reading.specs.Grown.{Planted}
 use Rattle.reading.proofs.Stages.{planted}
 use Rattle.valve.proofs.Prints.{not_printed, is_printed}

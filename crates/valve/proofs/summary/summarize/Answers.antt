@@ -1,6 +1,5 @@
 -- `valve::summarize` meets its contract: it goes on from what `try_restrict` answers with few nodes (`summarize_told`), and where that is over it
 -- lends more (`summarize_long`).
-use borrow.Author.Rules.{rules}
 use Rattle.valve.proofs.Tries.{answered}
 use Rattle.valve.proofs.summary.summarize.Goals as goal
 

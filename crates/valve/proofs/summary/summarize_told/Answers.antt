@@ -1,6 +1,5 @@
 -- `valve::summarize_told` meets its contract: the refusal of text or list (`not_passed`), or what the tree at the root names (`summed_up`), whose
 -- words the nodes have.
-use borrow.Author.Rules.{rules}
 use Rattle.reading.proofs.Stages.{rooted, root_known}
 use Rattle.valve.proofs.Summaries.{not_passed, summed_up}
 use Rattle.valve.proofs.summary.summarize_told.Goals as goal

@@ -1,6 +1,5 @@
 -- `valve::check` meets its contract: it goes on from what `try_restrict` answers with few nodes (`check_told`), and where that is over it lends more
 -- (`check_long`).
-use borrow.Author.Rules.{rules}
 use Rattle.valve.proofs.Tries.{answered}
 use Rattle.valve.proofs.text.check.Goals as goal
 

@@ -1,5 +1,4 @@
 -- `valve::check_long` meets its contract: it lends nodes for any text, and goes on from what `restrict` answers (`check_told`).
-use borrow.Author.Rules.{rules}
 use Rattle.valve.proofs.text.check_long.Goals as goal
 
 pub returns : goal.returns

@@ -1,6 +1,5 @@
 -- `valve::check_told` meets its contract: the answer of a check is what was answered of text and list, without the root (`not_checked`,
 -- `is_checked`).
-use borrow.Author.Rules.{rules}
 use Rattle.valve.proofs.Texts.{not_checked, is_checked}
 use Rattle.valve.proofs.text.check_told.Goals as goal
 

@@ -1,6 +1,5 @@
 -- `valve::read` meets its contract: refusal 1 of a text that is too long (`too_long`); else it goes on from what `try_tree` answers with few nodes
 -- (`read_told`), and where that is over it lends more (`read_long`).
-use borrow.Author.Rules.{rules}
 use Rattle.valve.proofs.Texts.{too_long}
 use Rattle.valve.proofs.Tries.{answered}
 use Rattle.valve.proofs.text.read.Goals as goal

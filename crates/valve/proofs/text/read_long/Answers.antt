@@ -1,5 +1,4 @@
 -- `valve::read_long` meets its contract: it lends nodes for any text, and goes on from what `read_tree` answers (`read_told`).
-use borrow.Author.Rules.{rules}
 use Rattle.valve.proofs.text.read_long.Goals as goal
 
 pub returns : goal.returns

@@ -1,5 +1,4 @@
 -- `valve::read_told` meets its contract: the answer of a read is the refusal of the tree (`not_read`), or how many nodes it has (`is_read`).
-use borrow.Author.Rules.{rules}
 use Rattle.valve.proofs.Texts.{not_read, is_read}
 use Rattle.valve.proofs.text.read_told.Goals as goal
 

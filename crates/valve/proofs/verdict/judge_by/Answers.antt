@@ -1,5 +1,4 @@
 -- `valve::judge_by` meets its contract: the refusal of the entry, or the judgement of one that conforms (`judge_entered`).
-use borrow.Author.Rules.{rules}
 use Rattle.valve.proofs.Verdicts.{conforming, not_entered}
 use Rattle.valve.proofs.verdict.judge_by.Goals as goal
 

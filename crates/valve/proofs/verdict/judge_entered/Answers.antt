@@ -1,6 +1,5 @@
 -- `valve::judge_entered` meets its contract: whether the tree is true on the entry (`judged_by`).
 use mathlib.Core.Path.{◌∙◌}
-use borrow.Author.Rules.{rules}
 use Rattle.valve.proofs.Verdicts.{judged_by}
 use Rattle.valve.proofs.verdict.judge_entered.Goals as goal
 

@@ -1,7 +1,5 @@
 -- `valve::judge_told` meets its contract: the refusal of text or list (`not_passed`), or the judgement by the root (`judge_by`), whose words the
 -- nodes have.
-use borrow.Author.Rules.{rules}
-use Rattle.reading.proofs.Stages.{rooted}
 use Rattle.valve.proofs.Verdicts.{not_passed}
 use Rattle.valve.proofs.verdict.judge_told.Goals as goal
 

@@ -1,7 +1,6 @@
 -- `valve::translate_told` meets its contract: the refusal of text or list, which leaves the buffer (`stopped`, `kept`), or the translation by the
 -- root (`translate_by`), whose words the nodes have.
-use borrow.Author.Rules.{rules}
-use Rattle.reading.proofs.Stages.{rooted, not_restricted}
+use Rattle.reading.proofs.Stages.{not_restricted}
 use Rattle.valve.proofs.Translates.{stopped, kept}
 use Rattle.valve.proofs.writing.translate_told.Goals as goal
 

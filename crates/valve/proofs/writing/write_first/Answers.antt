@@ -1,11 +1,8 @@
 -- `valve::write_first` meets its contract: of the bytes of instructions, the blocks written are the paper's (`paper_blocks`).
-use Prim.Native.Nat.{ℕ, ◌*◌, ◌/◌}
-use native.Mathlib.Omega.{arith}
-use mathlib.Core.Path.{◌≡◌, sym, ap, ◌∙◌}
+use Prim.Native.Nat.{ℕ, ◌*◌}
+use mathlib.Core.Path.{ap, ◌∙◌}
 use mathlib.Core.List.{List}
-use lib.ListN.{length, take}
-use lib.Seq.{length-take-le}
-use borrow.Author.Rules.{rules}
+use lib.ListN.{take}
 use Rattle.paper.specs.Calls.{over}
 use Rattle.blocks.proofs.Rows.{paper_blocks}
 use Rattle.valve.proofs.writing.write_first.Goals as goal

@@ -3,10 +3,9 @@
 use Prim.Native.Nat.{ℕ}
 use native.Mathlib.Omega.{arith}
 use mathlib.Core.List.{List}
-use borrow.Author.Rules.{rules}
 use Rattle.paper.specs.Pact.{Assertion}
 use Rattle.drafting.specs.Assertions.{assertion_meant}
-use Rattle.drafting.proofs.Clauses.{is_closable, room_behind, linkable, begins_all, all_closed, closes, goes_on}
+use Rattle.drafting.proofs.Clauses.{linkable, all_closed, closes, goes_on}
 use Rattle.drafting.proofs.fronts.Front.with_assertion.Goals as goal
 
 -- its list, its table, its nodes and its assertion

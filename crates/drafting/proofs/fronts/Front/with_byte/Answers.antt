@@ -1,14 +1,9 @@
 -- `drafting::fronts::Front::with_byte` meets its contract: where no comparator waits the byte is an opcode, else its indices.
 use Prim.Native.Nat.{◌/◌}
-use mathlib.Core.Path.{◌≡◌, sym, ap, ◌∙◌}
-use mathlib.Core.Bool.{true}
+use mathlib.Core.Path.{sym, ap, ◌∙◌}
 use lib.ListN.{length}
-use borrow.Author.Rules.{rules}
-use Rattle.spelling.proofs.Steps.{refuted, granted}
-use Rattle.paper.specs.Contract as P
-use Rattle.drafting.specs.Assertions.{assertion_meant, indexed}
 use Rattle.drafting.specs.Fronts.{opened_meant}
-use Rattle.drafting.proofs.Bytes.{index_missing, index_there, byte_opcode, steps_as}
+use Rattle.drafting.proofs.Bytes.{byte_opcode, steps_as}
 use Rattle.drafting.proofs.fronts.Front.with_byte.Goals as goal
 
 pub returns-in_default : goal.returns-in_default

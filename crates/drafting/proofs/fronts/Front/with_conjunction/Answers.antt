@@ -1,7 +1,5 @@
 -- `drafting::fronts::Front::with_conjunction` meets its contract: a conjunction stands behind a clause and no other conjunction, or is a fault.
-use borrow.Author.Rules.{rules}
-use Rattle.drafting.specs.Opcodes.{conjunction_meant}
-use Rattle.drafting.proofs.Clauses.{none_before, another_before, conjoined}
+use Rattle.drafting.proofs.Clauses.{conjoined}
 use Rattle.drafting.proofs.fronts.Front.with_conjunction.Goals as goal
 
 pub returns : goal.returns

@@ -1,7 +1,6 @@
 -- `drafting::fronts::Front::with_opcode` meets its contract: each opcode has its own arm.
 use mathlib.Core.Path.{refl}
 use mathlib.Core.Option.{some}
-use borrow.Author.Rules.{rules}
 use Rattle.drafting.specs.Opcodes.{comparator_meant}
 use Rattle.drafting.proofs.fronts.Front.with_opcode.Goals as goal
 

@@ -1,9 +1,7 @@
 -- `drafting::pieces::Piece::inverted` meets its contract: where "!" is asked for it is put behind the tree, unless the text is over the limit of
 -- tokens (`put_prefix`, `over_prefix`).
 use native.Mathlib.Omega.{arith}
-use borrow.Author.Rules.{rules}
-use borrow.Author.Tests.{not-true, not-false}
-use Rattle.drafting.proofs.Growing.{grown_as, over_prefix, put_prefix}
+use Rattle.drafting.proofs.Growing.{put_prefix}
 use Rattle.drafting.proofs.pieces.Piece.inverted.Goals as goal
 
 pub returns : goal.returns

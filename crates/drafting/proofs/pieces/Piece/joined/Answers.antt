@@ -1,8 +1,7 @@
 -- `drafting::pieces::Piece::joined` meets its contract: the operator is put behind both trees, unless the text is over the limit of tokens
 -- (`put_operator`, `over_operator`).
 use native.Mathlib.Omega.{arith}
-use borrow.Author.Rules.{rules}
-use Rattle.drafting.proofs.Growing.{over_operator, put_operator}
+use Rattle.drafting.proofs.Growing.{put_operator}
 use Rattle.drafting.proofs.pieces.Piece.joined.Goals as goal
 
 pub returns : goal.returns

@@ -1,8 +1,6 @@
 -- `drafting::sizes::Size::beside` meets its contract: the sizes of both operands where they stand, and a token more (`operator_sized`).
-use Prim.Native.Nat.{◌+◌, ◌<◌}
 use native.Mathlib.Omega.{arith}
 use mathlib.Core.Path.{◌∙◌}
-use borrow.Author.Rules.{rules}
 use Rattle.printing.specs.Writing.{left_between, right_between}
 use Rattle.drafting.specs.Sizes.{Stood}
 use Rattle.drafting.proofs.Counting.{operator_sized}

@@ -15,7 +15,7 @@
 -- entry stands in the answers that are lent.
 use Rattle.std.specs.Prelude.{ℕ, ◌+◌, ◌-◌, ◌≤◌, ◌≡◌, ◌≢◌, Bool, true, false, cond, eqb, List}
 use Rattle.std.specs.Int.Count.{ones}
-use Rattle.paper.specs.Answers.{Answer, ok, refused, Input, InText, InList, inEntry, inBlocks, inBuffer, inContract, in_table, Ran, reading_says, checking_says, judgement_says, translation_says, loading_says, running_says, printing_says}
+use Rattle.paper.specs.Answers.{Answer, ok, refused, Input, in_text, in_list, in_entry, in_blocks, in_buffer, in_contract, in_table, Ran, reading_says, checking_says, judgement_says, translation_says, loading_says, running_says, printing_says}
 use Rattle.paper.specs.Code.{bit}
 use Rattle.paper.specs.Explained.{Reason, in_part, at_key, nothing_to_show, key_index, stretch_from, explanation_says}
 use Rattle.paper.specs.ExplainedRight.{judgement_of}
@@ -40,12 +40,12 @@ use Rattle.abi.specs.declared.table.PolluxTable.{PolluxTable}
 use Rattle.abi.specs.Heard.{no_answer, heard_as}
 
 abbrev pub input_no : Input → ℕ
-input_no InText = 1
-input_no InList = 2
-input_no inEntry = 3
-input_no inBlocks = 4
-input_no inBuffer = 5
-input_no inContract = 6
+input_no in_text = 1
+input_no in_list = 2
+input_no in_entry = 3
+input_no in_blocks = 4
+input_no in_buffer = 5
+input_no in_contract = 6
 input_no in_table = 7
 
 abbrev pub done : ℕ → PolluxAnswer
@@ -250,9 +250,9 @@ pub record OneAnswerForC : Type 0 where
 
 abbrev pub input_from : ℕ → Input
 input_from n =
-    cond (eqb n 1) InText
-    (cond (eqb n 2) InList
-    (cond (eqb n 3) inEntry (cond (eqb n 4) inBlocks (cond (eqb n 5) inBuffer (cond (eqb n 6) inContract in_table)))))
+    cond (eqb n 1) in_text
+    (cond (eqb n 2) in_list
+    (cond (eqb n 3) in_entry (cond (eqb n 4) in_blocks (cond (eqb n 5) in_buffer (cond (eqb n 6) in_contract in_table)))))
 
 abbrev pub heard : {A : Type 0} → (PolluxAnswer → A) → PolluxAnswer → Answer A
 heard means p = cond (eqb p.says 0) (refused p.number (input_from p.input) p.value) (ok (means p))

@@ -8,7 +8,7 @@ use mathlib.Core.List.{List, [], ◌∷◌}
 use lib.ListN.{length, get_or, take, drop}
 use lib.Dec.{eqb, leb}
 use borrow.Author.Tests.{eq-eqb, ne_eqb, lt-ltb, le-ltb, le-leb, lt-leb}
-use Rattle.paper.specs.Answers.{ok, refused, ◌>>=◌, in_turn, inBlocks}
+use Rattle.paper.specs.Answers.{ok, refused, ◌>>=◌, in_turn, in_blocks}
 use Rattle.paper.specs.Numbers.{bytes_at}
 use Rattle.paper.specs.Tokens.{same_bytes}
 use Rattle.paper.specs.Blocks.{block_size, most_blocks, Sums, sums_of, check_of, count_ok, count_at, counts_from, blocks_in, total_of, block_ok, block_test, layout}
@@ -75,15 +75,15 @@ module _ (keys total k later : ℕ) (b : List ℕ) (r : Block) (says : BlockOf b
 
 -- refusal 16, and the way past it
 module _ (keys : ℕ) (blocks : List ℕ) where
-  pub laid_empty : length blocks ≡ 0 → laid_out keys blocks ≡ refused 16 inBlocks (length blocks)
+  pub laid_empty : length blocks ≡ 0 → laid_out keys blocks ≡ refused 16 in_blocks (length blocks)
   unfolding layout
   laid_empty e = rw (le-ltb 0 (length blocks) (omega arith))
 
-  pub laid_broken : (length blocks % 512 ≡ 0 → ⊥) → 0 < length blocks → laid_out keys blocks ≡ refused 16 inBlocks (length blocks)
+  pub laid_broken : (length blocks % 512 ≡ 0 → ⊥) → 0 < length blocks → laid_out keys blocks ≡ refused 16 in_blocks (length blocks)
   unfolding layout
   laid_broken e h = rw (lt-ltb 0 (length blocks) h, ne_eqb (length blocks % 512) 0 e)
 
-  pub laid_long : most_blocks * block_size < length blocks → length blocks % 512 ≡ 0 → laid_out keys blocks ≡ refused 16 inBlocks (length blocks)
+  pub laid_long : most_blocks * block_size < length blocks → length blocks % 512 ≡ 0 → laid_out keys blocks ≡ refused 16 in_blocks (length blocks)
   unfolding layout
   laid_long h e =
       let p : 0 < length blocks = omega arith in

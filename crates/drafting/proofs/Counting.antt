@@ -4,7 +4,7 @@ use Prim.Native.Nat.{ℕ, suc, ◌+◌, min, max}
 use native.Mathlib.Omega.{arith}
 use mathlib.Core.Path.{◌≡◌, refl, ◌∙◌}
 use mathlib.Core.Bool.{Bool, true, false}
-use Rattle.paper.specs.Tokens.{notSign}
+use Rattle.paper.specs.Tokens.{not_sign}
 use Rattle.paper.specs.Grammar as G
 use Rattle.paper.specs.Grammar.{Tree}
 use Rattle.paper.specs.Print.{tightest, looser}
@@ -49,7 +49,7 @@ abbrev level_cap : ℕ
 level_cap = 65
 
 module _ (n l : ℕ) (s : Size) {x : Extent} (stood : Stood s tightest x) (tokens : n ≡ min (x.tokens + 1) token_cap) (levels : l ≡ min (x.levels + 1) level_cap) where
-  pub prefix_sized : (t : Tree) → Sized s t → Sized (record { tokens = n; levels = l; rung = R.Tightest }) (G.prefixed 0 notSign t)
+  pub prefix_sized : (t : Tree) → Sized s t → Sized (record { tokens = n; levels = l; rung = R.Tightest }) (G.prefixed 0 not_sign t)
   prefix_sized t h =
       record {
         tokens = tokens ∙ rw (stood.tokens, h.rung, h.tokens) (tokens_over token_cap (count t) (looser tightest t));

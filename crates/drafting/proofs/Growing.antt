@@ -7,7 +7,7 @@ use mathlib.Core.Bool.{Bool, true, false}
 use mathlib.Core.List.{List}
 use lib.ListN.{length, take}
 use lib.Seq.{sets, length-sets, take-take}
-use Rattle.paper.specs.Tokens.{notSign, most_tokens}
+use Rattle.paper.specs.Tokens.{not_sign, most_tokens}
 use Rattle.paper.specs.Grammar as G
 use Rattle.paper.specs.Grammar.{Tree}
 use Rattle.paper.specs.Print.{tightest, looser}
@@ -35,7 +35,7 @@ wide : (b : Bool) (n : ℕ) → n ≤ wider b n
 wide true n = omega arith
 wide false n = omega arith
 
-pub more_over : (t : Tree) → count t + 1 ≤ count (G.prefixed 0 notSign t)
+pub more_over : (t : Tree) → count t + 1 ≤ count (G.prefixed 0 not_sign t)
 more_over t = omega (arith, wide (looser tightest t) (count t))
 
 pub more_beside : (o : Operator) (t u : Tree) → count t + 1 + count u ≤ count (operator_on 0 o t u)
@@ -68,9 +68,9 @@ module _ (list before : List ℕ) (start : ℕ) where
   pub grown_as : {p : Piece} {t : Tree} → Holds list before start p t → Grown list before before start p t
   grown_as h = record { kept = refl; stays = refl; holds = h }
 
-  module _ {p : Piece} {t : Tree} (h : Holds list before start p t) (s : Size) (sized : Sized s (G.prefixed 0 notSign t)) where
+  module _ {p : Piece} {t : Tree} (h : Holds list before start p t) (s : Size) (sized : Sized s (G.prefixed 0 not_sign t)) where
     pub over_prefix : most_tokens < s.tokens
-        → Grown list before before start (record { size = s; end = p.end }) (G.prefixed 0 notSign t)
+        → Grown list before before start (record { size = s; end = p.end }) (G.prefixed 0 not_sign t)
     over_prefix over =
         grown_as
         (record {
@@ -83,7 +83,7 @@ module _ (list before : List ℕ) (start : ℕ) where
 
     pub put_prefix : (after : List ℕ) → s.tokens ≤ most_tokens → p.end * 8 + 8 ≤ length before
         → after ≡ sets before (p.end * 8) (operator_words 5 0 0)
-        → Grown list before after start (record { size = s; end = p.end + 1 }) (G.prefixed 0 notSign t)
+        → Grown list before after start (record { size = s; end = p.end + 1 }) (G.prefixed 0 not_sign t)
     put_prefix after within fits put =
         let e : p.end + 1 - 1 ≡ p.end = omega arith in
         record {
@@ -98,7 +98,7 @@ module _ (list before : List ℕ) (start : ℕ) where
                 built = λ c.
                     rw e
                     (prefix_put list before after p.end fits 0 Not (omega (arith, h.begun)) put
-                    ∙ ap (G.prefixed 0 notSign) (h.built (omega (arith, more_over t, c))));
+                    ∙ ap (G.prefixed 0 not_sign) (h.built (omega (arith, more_over t, c))));
               };
         }
 

@@ -83,7 +83,7 @@ impl Size {
     pub(crate) fn prefixed(self) -> Size
         requires { Small self }
         ensures small { Small result }
-        ensures sized { (t : Tree) → Sized self t → Sized result (G.prefixed 0 P.notSign t) }
+        ensures sized { (t : Tree) → Sized self t → Sized result (G.prefixed 0 P.not_sign t) }
     {
         let inside = standing(self, Rung::Tightest);
         Size {

@@ -9,7 +9,7 @@ use native.Mathlib.Decide.{dec_lt}
 use lib.ListN.{length}
 use lib.Seq.{sets}
 use Rattle.paper.specs.declared.Place.{Place}
-use Rattle.paper.specs.Tokens.{Sign, join, comparison, prefix, opening, closing, colons, Prefix, notSign, minusSign, Tok, sign, Token}
+use Rattle.paper.specs.Tokens.{Sign, join, comparison, prefix, opening, closing, colons, Prefix, not_sign, minus_sign, Tok, sign, Token}
 use Rattle.paper.specs.Addresses.{address}
 use Rattle.paper.specs.Grammar as G
 use Rattle.paper.specs.Grammar.{Tree, Out, got, stuck, deep, Parser, Reader, ◌>>>◌, closed, is_sign, operand, operand_at, signed, prefixes, sequence}
@@ -34,16 +34,16 @@ levels_left (suc l) h = let e : suc l - 1 ≡ l = omega arith in rw e
 
 prefix_of : (k : ℕ) → first_prefix ≤ k → k ≤ last_prefix → (o : Prefix) × (k ≡ sign_no (prefix o))
 prefix_of k l h =
-    elim (dec_lt k 14) [ yes a ↦ let e : k ≡ 13 = omega arith in (notSign, e) | no a ↦ let e : k ≡ 14 = omega arith in (minusSign, e) ]
+    elim (dec_lt k 14) [ yes a ↦ let e : k ≡ 13 = omega arith in (not_sign, e) | no a ↦ let e : k ≡ 14 = omega arith in (minus_sign, e) ]
 
 -- the kind of a prefix operator's node by that of its token
 prefixed_no : (o : Prefix) → prefix_no o ≡ prefixed_kind (sign_no (prefix o))
-prefixed_no notSign = refl
-prefixed_no minusSign = refl
+prefixed_no not_sign = refl
+prefixed_no minus_sign = refl
 
 pub prefix_no_lem : (o : Prefix) → (first_prefix ≤ sign_no (prefix o)) × (sign_no (prefix o) ≤ last_prefix)
-prefix_no_lem notSign = omega arith
-prefix_no_lem minusSign = omega arith
+prefix_no_lem not_sign = omega arith
+prefix_no_lem minus_sign = omega arith
 
 -- a ")" after a tree
 

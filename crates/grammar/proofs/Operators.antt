@@ -7,7 +7,7 @@ use mathlib.Core.List.{List, [], ◌∷◌, ◌++◌}
 use native.Mathlib.Omega.{arith}
 use native.Mathlib.Decide.{dec_lt}
 use borrow.Author.Tests.{eq-eqb, ne_eqb}
-use Rattle.paper.specs.Tokens.{Sign, join, comparison, prefix, opening, closing, colons, Join, sequel, implies, or_else, andAlso, Comparison, equal, unequal, greater, at_least, less, at_most, Token}
+use Rattle.paper.specs.Tokens.{Sign, join, comparison, prefix, opening, closing, colons, Join, sequel, implies, or_else, and_also, Comparison, equal, unequal, greater, at_least, less, at_most, Token}
 use Rattle.paper.specs.Grammar as G
 use Rattle.paper.specs.Grammar.{Tree, Make, by_sign, sign_joins, sign_compares, joins, compares}
 use Rattle.tokens.specs.Tape.{Tape, kind_at, first_join, last_join, first_comparison, last_comparison, token_on, sign_no}
@@ -48,7 +48,7 @@ sign_no_join : (o : Join) → sign_no (join o) ≡ 3 + G.join_no o
 sign_no_join sequel = refl
 sign_no_join implies = refl
 sign_no_join or_else = refl
-sign_no_join andAlso = refl
+sign_no_join and_also = refl
 
 comparison_of : (k : ℕ) → first_comparison ≤ k → k ≤ last_comparison → (c : Comparison) × (k ≡ sign_no (comparison c))
 comparison_of k l h =
@@ -75,7 +75,7 @@ pub join_no_lem : (o : Join) → (first_join ≤ sign_no (join o)) × (sign_no (
 join_no_lem sequel = omega arith
 join_no_lem implies = omega arith
 join_no_lem or_else = omega arith
-join_no_lem andAlso = omega arith
+join_no_lem and_also = omega arith
 
 pub comparison_no_lem : (c : Comparison) → (first_comparison ≤ sign_no (comparison c)) × (sign_no (comparison c) ≤ last_comparison)
 comparison_no_lem equal = omega arith
@@ -90,7 +90,7 @@ joined_no : (o : Join) → join_no o ≡ joined_kind (sign_no (join o))
 joined_no sequel = refl
 joined_no implies = refl
 joined_no or_else = refl
-joined_no andAlso = refl
+joined_no and_also = refl
 
 compared_no : (c : Comparison) → comparison_no c ≡ joined_kind (sign_no (comparison c))
 compared_no equal = refl
@@ -167,7 +167,7 @@ module _ (T : Tape) (n i : ℕ) where
   operating R.Sequence h = joining sequel h
   operating R.Implication h = joining implies h
   operating R.Disjunction h = joining or_else h
-  operating R.Conjunction h = joining andAlso h
+  operating R.Conjunction h = joining and_also h
   operating R.Comparison h = comparing h
 
   pub no_operator : (rung : Rung) → Finds T.rows n i (L.lowest rung) (L.highest rung) Other → Apart T n i (L.operators rung)
@@ -175,7 +175,7 @@ module _ (T : Tape) (n i : ℕ) where
   no_operator R.Sequence h = no_join sequel h
   no_operator R.Implication h = no_join implies h
   no_operator R.Disjunction h = no_join or_else h
-  no_operator R.Conjunction h = no_join andAlso h
+  no_operator R.Conjunction h = no_join and_also h
   no_operator R.Comparison h = no_comparison h
 
 -- its kind is that of a join or of a comparison

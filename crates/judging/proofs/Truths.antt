@@ -6,12 +6,12 @@ use mathlib.Core.Bool.{Bool, true, false, not, cond}
 use mathlib.Core.Option.{Option, none, some}
 use mathlib.Core.List.{List}
 use Rattle.paper.specs.Answers.{ok}
-use Rattle.paper.specs.Tokens.{notSign, minusSign}
+use Rattle.paper.specs.Tokens.{not_sign, minus_sign}
 use Rattle.paper.specs.Keys.{Kind}
 use Rattle.paper.specs.Entry.{Match, is_exact}
 use Rattle.paper.specs.Grammar.{Tree}
 use Rattle.paper.specs.Types.{when, and_then, typed}
-use Rattle.paper.specs.Meaning.{Value, truth, whole, matched, value_of, is_true, prefix_value, Connective, both, either, ifThen, connect, join_value}
+use Rattle.paper.specs.Meaning.{Value, truth, whole, matched, value_of, is_true, prefix_value, Connective, both, either, if_then, connect, join_value}
 use Rattle.paper.proofs.TypeSoundness.{judged}
 use Rattle.keys.specs.Says.{keys_in}
 use Rattle.keys.proofs.Conforming.{matches_length}
@@ -28,7 +28,7 @@ of_value (some (matched k w m)) v b i e = tt
 
 -- "!" turns a truth
 
-pub turned : (o : Option Value) (b : Bool) → IsTruth o b → IsTruth (and_then o (prefix_value notSign)) (not b)
+pub turned : (o : Option Value) (b : Bool) → IsTruth o b → IsTruth (and_then o (prefix_value not_sign)) (not b)
 turned none b h = tt
 turned (some (truth a)) b h = ap not h
 turned (some (whole z)) b h = tt
@@ -40,7 +40,7 @@ kept_match : (t : Bool) (k : Kind) (w : ℕ) (m : Match) (b : Bool) → IsTruth 
 kept_match true k w m b = tt
 kept_match false k w m b = tt
 
-pub no_truth : (o : Option Value) (b : Bool) → IsTruth (and_then o (prefix_value minusSign)) b
+pub no_truth : (o : Option Value) (b : Bool) → IsTruth (and_then o (prefix_value minus_sign)) b
 no_truth none b = tt
 no_truth (some (truth a)) b = tt
 no_truth (some (whole z)) b = tt
@@ -67,8 +67,8 @@ settling both true b = refl
 settling both false b = refl
 settling either true b = refl
 settling either false b = refl
-settling ifThen true b = refl
-settling ifThen false b = refl
+settling if_then true b = refl
+settling if_then false b = refl
 
 pub by_left : (c : Connective) (o p : Option Value) (a : Bool) → IsTruth o a → settles c a ≡ true → IsTruth (and_then o (λ x. and_then p (join_value c x))) (settled c)
 by_left c o p a h e = joined c o p a (settled c) h (λ b _. sym (settling c a b ∙ ap (λ (t : Bool). cond t (settled c) b) e))

@@ -1,7 +1,7 @@
 -- The truth that is told of a value, and joins that their left operand settles.
 use Rattle.std.specs.Prelude.{◌≡◌, Bool, true, false, not}
 use Rattle.std.proofs.Math.Option.{Option, none, some}
-use Rattle.paper.specs.Meaning.{Value, truth, whole, matched, Connective, both, either, ifThen}
+use Rattle.paper.specs.Meaning.{Value, truth, whole, matched, Connective, both, either, if_then}
 
 -- a bool, where the paper gives a truth
 abbrev pub IsTruth : Option Value → Bool → Type 0
@@ -15,9 +15,9 @@ IsTruth (some (matched k w m)) b = Unit {0}
 abbrev pub settles : Connective → Bool → Bool
 settles both a = not a
 settles either a = a
-settles ifThen a = not a
+settles if_then a = not a
 
 abbrev pub settled : Connective → Bool
 settled both = false
 settled either = true
-settled ifThen = true
+settled if_then = true

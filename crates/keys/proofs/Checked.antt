@@ -8,7 +8,7 @@ use mathlib.Core.List.{List}
 use lib.Dec.{eqb, ltb, leb}
 use lib.ListN.{length}
 use borrow.Author.Tests.{eqb-true, ltb-true, leb-true}
-use Rattle.paper.specs.Answers.{ok, refused, ◌>>=◌, require, in_turn, Input, InList}
+use Rattle.paper.specs.Answers.{ok, refused, ◌>>=◌, require, in_turn, Input, in_list}
 use Rattle.paper.specs.Numbers.{byte_at}
 use Rattle.paper.specs.Keys.{Key, record_size, records_in, record_at, record_ok, is_new, RecordRule, record_test, keys_by, layout_rule, keys}
 use Rattle.paper.specs.Pact.{most_indices}
@@ -24,7 +24,7 @@ module _ (rule : RecordRule) (list : List ℕ) where
   -- a record that passes its test keeps the rule
   kept : (k : ℕ) → record_test rule list k ≡ ok tt → rule k (record_at list k) ≡ true
   kept k e =
-      (required 3 InList (k * record_size) (rule k (record_at list k)) (require (is_new list k) 4 InList (k * record_size)) e).0
+      (required 3 in_list (k * record_size) (rule k (record_at list k)) (require (is_new list k) 4 in_list (k * record_size)) e).0
 
   module _ {ks : List Key} (e : keys_by rule list ≡ ok ks) where
     parts : (eqb (length list % record_size) 0 ≡ true) × (leb (length list) 2560 ≡ true)
@@ -33,7 +33,7 @@ module _ (rule : RecordRule) (list : List ℕ) where
         let whole = eqb (length list % record_size) 0 in
         let short = leb (length list) 2560 in
         let records = in_turn (record_test rule list) 0 (records_in list) in
-        let p = required 2 InList (length list) (whole && short) (records >>= λ _. ok (keys_in list)) e in
+        let p = required 2 in_list (length list) (whole && short) (records >>= λ _. ok (keys_in list)) e in
         let q = passed_on (λ _. keys_in list) records p.1 in
         let b = and_both whole short p.0 in
         (b.0, b.1, q.1, q.2)

@@ -9,7 +9,7 @@ use native.Mathlib.Omega.{arith}
 use lib.Dec.{eqb, ltb}
 use lib.ListN.{length, get_elem?}
 use borrow.Author.Tests.{eqb-true, ltb-true}
-use Rattle.paper.specs.Answers.{ok, refused, ◌>>=◌, require, in_turn, Input, inEntry}
+use Rattle.paper.specs.Answers.{ok, refused, ◌>>=◌, require, in_turn, Input, in_entry}
 use Rattle.paper.specs.Keys.{Key, record_at, key_of, keys_from}
 use Rattle.paper.specs.Entry.{Entry, head_size, match_size, match_at, match_of, match_ok, matches_from, priority_of, rule_test, entry_of}
 use Rattle.paper.proofs.Basics.{some_below}
@@ -42,7 +42,7 @@ match_at_lem list entry n k h =
 -- the record of a key that passes its test keeps the key's rule
 kept : (ks : List Key) (entry : List ℕ) (k : ℕ) {key : Key} → rule_test ks entry k ≡ ok tt → get_elem? ks k ≡ some key
     → match_ok key (match_at entry k) ≡ true
-kept ks entry k e f = require_ok _ 20 inEntry (head_size + k * match_size) tt (rw f at e)
+kept ks entry k e f = require_ok _ 20 in_entry (head_size + k * match_size) tt (rw f at e)
 
 abbrev pub entry_in : List Key → List ℕ → Entry
 entry_in ks entry = record { priority = priority_of entry; matches = matches_from entry 0 ks }
@@ -56,8 +56,8 @@ module _ (ks : List Key) (entry : List ℕ) {x : Entry} (e : entry_of ks entry �
       let low = ltb (priority_of entry) (2 ^ 31) in
       let each = in_turn (rule_test ks entry) 0 (length ks) in
       let rules = each >>= λ _. ok (entry_in ks entry) in
-      let p = required 19 inEntry (length entry) right (require low 20 inEntry 0 >>= λ _. rules) e in
-      let q = required 20 inEntry 0 low rules p.1 in
+      let p = required 19 in_entry (length entry) right (require low 20 in_entry 0 >>= λ _. rules) e in
+      let q = required 20 in_entry 0 low rules p.1 in
       let r = passed_on (λ _. entry_in ks entry) each q.1 in
       (p.0, q.0, r.1, r.2)
 

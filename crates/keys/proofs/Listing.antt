@@ -6,16 +6,16 @@ use mathlib.Core.Option.{none, some}
 use mathlib.Core.List.{List}
 use lib.ListN.{length}
 use borrow.Author.Tests.{eq-eqb, ne_eqb, le-leb, lt-leb}
-use Rattle.paper.specs.Answers.{Answer, ok, refused, ◌>>=◌, in_turn, InList}
+use Rattle.paper.specs.Answers.{Answer, ok, refused, ◌>>=◌, in_turn, in_list}
 use Rattle.paper.specs.Keys.{record_size, records_in, record_at, name_of, find, keys_from, RecordRule, record_test}
 use Rattle.keys.specs.Says.{keys_in, count_by}
 use Rattle.keys.proofs.Records.{keys_length}
 
 module _ (rule : RecordRule) (list : List ℕ) where
-  pub ragged : (length list % record_size ≡ 0 → ⊥) → count_by rule list ≡ refused 2 InList (length list)
+  pub ragged : (length list % record_size ≡ 0 → ⊥) → count_by rule list ≡ refused 2 in_list (length list)
   ragged h = rw (ne_eqb _ _ h)
 
-  pub too_long : length list % record_size ≡ 0 → 2560 < length list → count_by rule list ≡ refused 2 InList (length list)
+  pub too_long : length list % record_size ≡ 0 → 2560 < length list → count_by rule list ≡ refused 2 in_list (length list)
   too_long h g = rw (eq-eqb _ _ h, lt-leb _ _ g)
 
   counted : (a : Answer (Unit {0}))
@@ -30,11 +30,11 @@ module _ (rule : RecordRule) (list : List ℕ) where
 
 -- what is found of record k decides its test
 module _ (rule : RecordRule) (list : List ℕ) (k : ℕ) {r : List ℕ} (at : r ≡ record_at list k) where
-  pub broken : rule k r ≡ false → record_test rule list k ≡ refused 3 InList (k * record_size)
+  pub broken : rule k r ≡ false → record_test rule list k ≡ refused 3 in_list (k * record_size)
   broken e = rw (← at, e)
 
   module _ {name : List ℕ} (good : rule k r ≡ true) (named : name ≡ name_of r) where
-    pub repeated : {j : ℕ} → find (keys_from list 0 k) name ≡ some j → record_test rule list k ≡ refused 4 InList (k * record_size)
+    pub repeated : {j : ℕ} → find (keys_from list 0 k) name ≡ some j → record_test rule list k ≡ refused 4 in_list (k * record_size)
     repeated f = rw (← at, good, ← named, f)
 
     pub new : find (keys_from list 0 k) name ≡ none → record_test rule list k ≡ ok tt

@@ -4,7 +4,7 @@ use mathlib.Core.Bool.{and-true, and_assoc, and_comm, and-eq-true_iff}
 use mathlib.Core.Option.{Option, none, some, none-ne-some}
 use Rattle.paper.specs.Keys.{Kind, kind_of}
 use Rattle.paper.specs.Types.{when, and_then}
-use Rattle.paper.specs.Meaning.{both, either, ifThen}
+use Rattle.paper.specs.Meaning.{both, either, if_then}
 use Rattle.paper.specs.Code.{Instruction, push_bool, push_int, push_key, push_field, push_priority, invert, negate, convert, compare, connects, skip, first_byte, field_of, comparison_of, Parts, parts_of, instruction_named, same_parts, in_range, decode}
 use Rattle.number.specs.Values.{value}
 use Rattle.number.specs.declared.magnitude.Magnitude.{Magnitude}
@@ -91,7 +91,7 @@ operation_known (convert k w) = (lit≤ tt, lit≤ tt)
 operation_known (compare c) = (lit≤ tt, lit≤ tt)
 operation_known (connects both) = (lit≤ tt, lit≤ tt)
 operation_known (connects either) = (lit≤ tt, lit≤ tt)
-operation_known (connects ifThen) = (lit≤ tt, lit≤ tt)
+operation_known (connects if_then) = (lit≤ tt, lit≤ tt)
 operation_known (skip s) = (lit≤ tt, lit≤ tt)
 
 pub reads_none : (left : ℕ) (p : Parts) → (1 ≤ p.operation → p.operation ≤ 13 → ⊥) → decode left p ≡ none

@@ -3,7 +3,7 @@
 -- same (`marks_agree`, `marks_differ`); a landing past it is not compared (`past`).
 use Rattle.std.proofs.Common.{◌≡◌, ℕ, suc, ◌+◌, ◌-◌, ◌<◌, ◌≤◌, Bool, true, false, cond, eqb, List, [], ◌∷◌, map, length, get_or, take, sym, refl, ap, ◌∙◌, subst, add-zero, arith, ne_eqb}
 use mathlib.Core.Option.{Option, none, some, none-ne-some}
-use Rattle.paper.specs.Answers.{ok, refused, inBlocks}
+use Rattle.paper.specs.Answers.{ok, refused, in_blocks}
 use Rattle.paper.specs.Keys.{Key}
 use Rattle.paper.specs.Types.{Ty, bool, int, of}
 use Rattle.paper.specs.Code.{Skip, Instruction, skip, parts_at, Action, most_held, act, Walk, fails, ends, go_on, walk, type_action, action_of, skip_of}
@@ -21,7 +21,7 @@ mark_tells : (s t : List Ty) → length s ≤ most_held → length t ≤ most_he
 mark_tells s t a b e = (omega (arith, floor_most s, floor_most t), omega (arith, floor_most s, floor_most t))
 
 -- and whether one bool is left
-end_marks : (size : ℕ) (held : List Ty) → end_ok size held ≡ cond (eqb (mark held) floors) (ok tt) (refused 18 inBlocks size)
+end_marks : (size : ℕ) (held : List Ty) → end_ok size held ≡ cond (eqb (mark held) floors) (ok tt) (refused 18 in_blocks size)
 end_marks size [] = refl
 end_marks size (bool ∷ []) = refl
 end_marks size (int ∷ []) = refl
@@ -280,11 +280,11 @@ pub record Compared (blocks : List ℕ) (n : ℕ) (marks : List ℕ) (upto i : �
 -- what that tells of the load check
 
 module _ (ks : List Key) (blocks : List ℕ) (n : ℕ) (marks : List ℕ) (r size : ℕ) (fitted : Fitted ks blocks n marks r) where
-  pub fitted_fails : r < n → refused 18 inBlocks (instruction_at r) ≡ load_check size (types_along ks (instructions_from blocks 0 n))
+  pub fitted_fails : r < n → refused 18 in_blocks (instruction_at r) ≡ load_check size (types_along ks (instructions_from blocks 0 n))
   fitted_fails l = ap (load_check size) (sym (fitted.stops l))
 
   pub fitted_ends : n ≤ r
-      → cond (eqb (get_or marks n 0) floors) (ok tt) (refused 18 inBlocks size) ≡ load_check size (types_along ks (instructions_from blocks 0 n))
+      → cond (eqb (get_or marks n 0) floors) (ok tt) (refused 18 in_blocks size) ≡ load_check size (types_along ks (instructions_from blocks 0 n))
   fitted_ends l =
       let (held, there, told) = fitted.passes (omega (arith, fitted.within)) in
-      ap (λ m. cond (eqb m floors) (ok tt) (refused 18 inBlocks size)) told ∙ sym (end_marks size held) ∙ ap (load_check size) (sym there)
+      ap (λ m. cond (eqb m floors) (ok tt) (refused 18 in_blocks size)) told ∙ sym (end_marks size held) ∙ ap (load_check size) (sym there)

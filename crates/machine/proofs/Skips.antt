@@ -2,7 +2,7 @@
 use Rattle.std.proofs.Common.{◌≡◌, ℕ, ◌≤◌, Bool, true, false, cond, leb, refl, ap, ◌∙◌, arith, leb-true}
 use mathlib.Core.Bool.{beq, and-eq-true_iff}
 use mathlib.Core.Option.{Option, none, some, none-ne-some}
-use Rattle.paper.specs.Meaning.{both, either, ifThen}
+use Rattle.paper.specs.Meaning.{both, either, if_then}
 use Rattle.paper.specs.Code.{Skip, Instruction, push_bool, push_int, push_key, push_field, push_priority, invert, negate, convert, compare, connects, skip, Parts, parts_of, decode, skip_of}
 use Rattle.paper.proofs.InstructionsRoundTrip.{read_test, parts_again}
 use Rattle.machine.specs.Following.{over_of, over_in}
@@ -61,7 +61,7 @@ over_spelled (convert k w) = refl
 over_spelled (compare c) = refl
 over_spelled (connects both) = refl
 over_spelled (connects either) = refl
-over_spelled (connects ifThen) = refl
+over_spelled (connects if_then) = refl
 over_spelled (skip s) = refl
 
 pub over_told : (left : ℕ) (p : Parts) (i : Instruction) → decode left p ≡ some i → over_of (skip_of (decode left p)) ≡ over_in p

@@ -1,7 +1,7 @@
 // The load check: the types are followed, and each skip's landing is held to what its skip leaves.
 ghost use Rattle.std.specs.Prelude.{◌≡◌, ◌*◌, ◌^◌, ◌<◌, ◌≤◌, List, length};
 ghost use Rattle.paper.specs.Keys.{Key};
-ghost use Rattle.paper.specs.Answers.{refused, inBlocks, checking_says};
+ghost use Rattle.paper.specs.Answers.{refused, in_blocks, checking_says};
 ghost use Rattle.paper.specs.Blocks.{in_block, most_blocks, blocks_in};
 ghost use Rattle.paper.specs.Loading.{instruction_at, instructions_from, types_along, load_check};
 ghost use Rattle.keys.specs.Says.{keys_in};
@@ -20,7 +20,7 @@ const ALL_MARKS: usize = Block::MOST * Block::INSTRUCTIONS + 1;
 
 fn refused_at(i: usize) -> Checking
     requires { instruction_at i < 2 ^ 64 }
-    ensures { checking_says result ≡ refused 18 inBlocks (instruction_at i) }
+    ensures { checking_says result ≡ refused 18 in_blocks (instruction_at i) }
 {
     Checking::Refused(refused::INSTRUCTION, Place::Blocks(place_of(i)))
 }

@@ -2,7 +2,7 @@
 use mathlib.Core.Path.{◌≡◌, refl}
 use mathlib.Core.Option.{Option, none, some}
 use Rattle.paper.specs.Code.{field_of}
-use Rattle.paper.specs.Types.{Field, value, mask, prefixLength, low, high}
+use Rattle.paper.specs.Types.{Field, value, mask, prefix_length, low, high}
 use Rattle.values.specs.Typed.{named_of}
 use Rattle.values.specs.declared.fields.Named.{Named}
 use Rattle.values.specs.declared.fields.Named.TheVariants as N
@@ -15,6 +15,6 @@ pub named_back : (o : Option Field) → named_meant (named_of o) ≡ o
 named_back none = refl
 named_back (some value) = refl
 named_back (some mask) = refl
-named_back (some prefixLength) = refl
+named_back (some prefix_length) = refl
 named_back (some low) = refl
 named_back (some high) = refl

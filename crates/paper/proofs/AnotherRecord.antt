@@ -13,7 +13,7 @@ use lib.Seq.{length-take-le, take-append-le, drop-append-le, take_at, drop_at, d
 use lib.Dec.{eqb, ltb, lit<}
 use lib.Pow.{pow_mono}
 use borrow.Author.Tests.{eqb-true, eqb-false, eq-eqb, ltb-true, ltb-false, lt-ltb}
-use Rattle.paper.specs.Answers.{ok, require, inEntry}
+use Rattle.paper.specs.Answers.{ok, require, in_entry}
 use Rattle.paper.specs.Numbers.{byte_at, bytes_at, number_at, big_endian}
 use Rattle.paper.specs.Keys.{Key}
 use Rattle.paper.specs.Entry.{Match, Entry, head_size, match_size, match_record, match_at, kind_rule, match_ok, match_of, matches_from, priority_of, asked, rule_test, entry_of}
@@ -115,7 +115,7 @@ module _ (ks : List Key) (entry : List ℕ) (size : length entry ≡ head_size +
   rules_kept j l = go (get_elem? ks j) refl
     where
       go : (o : Option Key) → get_elem? ks j ≡ o
-          → require (asked o (λ y. match_ok y (match_at entry j))) 20 inEntry (head_size + j * match_size) ≡ ok tt
+          → require (asked o (λ y. match_ok y (match_at entry j))) 20 in_entry (head_size + j * match_size) ≡ ok tt
       go none h = refl
       go (some y) h = rw (each j y h)
 

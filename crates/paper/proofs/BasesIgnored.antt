@@ -10,8 +10,8 @@ use lib.ListN.{length}
 use lib.Dec.{leb}
 use lib.IntN.{neg_ℤ}
 use borrow.Author.Tests.{le-leb}
-use Rattle.paper.specs.Answers.{InText, InList, inEntry, inBlocks, inBuffer, inContract, in_table, Answer, ok, refused, ◌>>=◌, require}
-use Rattle.paper.specs.Tokens.{plain, bytes, same_bytes, notSign, minusSign, Comparison, most_text}
+use Rattle.paper.specs.Answers.{in_text, in_list, in_entry, in_blocks, in_buffer, in_contract, in_table, Answer, ok, refused, ◌>>=◌, require}
+use Rattle.paper.specs.Tokens.{plain, bytes, same_bytes, not_sign, minus_sign, Comparison, most_text}
 use Rattle.paper.specs.Keys.{Key, keys, find}
 use Rattle.paper.specs.Entry.{Entry, entry_of}
 use Rattle.paper.specs.Grammar.{Tree, truth, number, key, field, attribute, prefixed, joined, compared, place_of}
@@ -78,8 +78,8 @@ module _ (p : ℕ → ℕ) where
   spelled_moved (key at w) = refl
   spelled_moved (field at w to f) = refl
   spelled_moved (attribute at to f) = refl
-  spelled_moved (prefixed at notSign t) = refl
-  spelled_moved (prefixed at minusSign t) = ap (map neg_ℤ) (spelled_moved t)
+  spelled_moved (prefixed at not_sign t) = refl
+  spelled_moved (prefixed at minus_sign t) = ap (map neg_ℤ) (spelled_moved t)
   spelled_moved (joined at o l r) = refl
   spelled_moved (compared at c l r) = refl
 
@@ -88,7 +88,7 @@ module _ (p : ℕ → ℕ) where
   keeps_moved t int = refl
   keeps_moved t (of k w) = ap (holds_all w) (spelled_moved t)
 
-  require_moved : (b : Bool) (n at : ℕ) → require b n InText (p at) ≡ placed p (require b n InText at)
+  require_moved : (b : Bool) (n at : ℕ) → require b n in_text (p at) ≡ placed p (require b n in_text at)
   require_moved true n at = refl
   require_moved false n at = refl
 
@@ -122,8 +122,8 @@ module _ (p : ℕ → ℕ) where
 
   root_moved : (t : Tree) (a : Ty) → root_type (moved t) a ≡ placed p (root_type t a)
   root_moved t bool = refl
-  root_moved t int = ap (refused 14 InText) (place_moved t)
-  root_moved t (of k w) = ap (refused 14 InText) (place_moved t)
+  root_moved t int = ap (refused 14 in_text) (place_moved t)
+  root_moved t (of k w) = ap (refused 14 in_text) (place_moved t)
 
   typed_moved : (ks : List Key) (t : Tree) → typed ks (moved t) ≡ placed p (typed ks t)
   unfolding typed
@@ -198,18 +198,18 @@ aside (compared at c l r) = ap₂ (compared 0 c) (aside l) (aside r)
 -- placed (λ at. at) leaves an answer as it is
 placed_here : {A : Type 0} (x : Answer A) → placed (λ at. at) x ≡ x
 placed_here (ok a) = refl
-placed_here (refused n InText at) = refl
-placed_here (refused n InList at) = refl
-placed_here (refused n inEntry at) = refl
-placed_here (refused n inBlocks at) = refl
-placed_here (refused n inBuffer at) = refl
-placed_here (refused n inContract at) = refl
+placed_here (refused n in_text at) = refl
+placed_here (refused n in_list at) = refl
+placed_here (refused n in_entry at) = refl
+placed_here (refused n in_blocks at) = refl
+placed_here (refused n in_buffer at) = refl
+placed_here (refused n in_contract at) = refl
 placed_here (refused n in_table at) = refl
 
 -- what is made of a text and a list that pass, where the buffer has room for their blocks
 
 abbrev roomed : List ℕ → Restriction → Answer (Unit {0})
-roomed buffer r = require (leb (block_size * blocks_needed (length (code_of r.keys r.root))) (length buffer)) 15 inBuffer (length buffer)
+roomed buffer r = require (leb (block_size * blocks_needed (length (code_of r.keys r.root))) (length buffer)) 15 in_buffer (length buffer)
 
 abbrev made : {B : Type 0} → (Restriction → B) → List ℕ → Restriction → Answer B
 made f buffer r = roomed buffer r >>= λ _. ok (f r)
@@ -267,7 +267,7 @@ module _ (p : ℕ → ℕ) (v w : List ℕ) (first second : Tree) (short-v : len
 
     -- a refusal as the answer of a later stage
     abbrev carried : {A B : Type 0} → Answer A → Answer B
-    carried (ok a) = refused 0 InText 0
+    carried (ok a) = refused 0 in_text 0
     carried (refused n i at) = refused n i at
 
     -- whatever a call goes on with

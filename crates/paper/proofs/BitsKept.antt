@@ -12,7 +12,7 @@ use mathlib.Core.Option.{Option, none, some}
 use mathlib.Core.List.{List}
 use lib.IntN.{pos, negsuc}
 use borrow.Author.Tests.{ltb-true}
-use Rattle.paper.specs.Answers.{Answer, ok, refused, ◌>>=◌, require, InText}
+use Rattle.paper.specs.Answers.{Answer, ok, refused, ◌>>=◌, require, in_text}
 use Rattle.paper.specs.Numbers.{modulo}
 use Rattle.paper.specs.Tokens.{Comparison}
 use Rattle.paper.specs.Keys.{Key, keys}
@@ -51,8 +51,8 @@ module _ (at : ℕ) (c : Comparison) (l r : Tree) (a b : Ty) where
       let (v, right, same) = bind_ok (bits_kept r a) (λ _. ok y) x rest in
       record {
         suits = suits ∙ same;
-        left = require_ok (keeps_bits l b) 23 InText (place_of l) u left;
-        right = require_ok (keeps_bits r a) 23 InText (place_of r) v right;
+        left = require_ok (keeps_bits l b) 23 in_text (place_of l) u left;
+        right = require_ok (keeps_bits r a) 23 in_text (place_of r) v right;
       }
 
   compared_kept : (x : Ty) → Kept x → compared_type at c l r a b ≡ ok x
@@ -153,15 +153,15 @@ module _ (ks : List Key) where
 -- what is answered for a tree that had a type: it, or 23
 
 abbrev Or23 : {A : Type 0} → Answer A → Answer A → Type 0
-Or23 {A} x y = (a : A) → y ≡ ok a → (x ≡ ok a) ⊎ ((at : ℕ) × (x ≡ refused 23 InText at))
+Or23 {A} x y = (a : A) → y ≡ ok a → (x ≡ ok a) ⊎ ((at : ℕ) × (x ≡ refused 23 in_text at))
 
 then_or : {A B : Type 0} (x y : Answer A) (f g : A → Answer B) → Or23 x y → ((a : A) → Or23 (f a) (g a)) → Or23 (x >>= f) (y >>= g)
 then_or {A} {B} x y f g first next b e =
     let (a, passed, rest) = bind_ok y g b e in
     go a rest (first a passed)
   where
-    go : (a : A) → g a ≡ ok b → (x ≡ ok a) ⊎ ((at : ℕ) × (x ≡ refused 23 InText at))
-        → ((x >>= f) ≡ ok b) ⊎ ((at : ℕ) × ((x >>= f) ≡ refused 23 InText at))
+    go : (a : A) → g a ≡ ok b → (x ≡ ok a) ⊎ ((at : ℕ) × (x ≡ refused 23 in_text at))
+        → ((x >>= f) ≡ ok b) ⊎ ((at : ℕ) × ((x >>= f) ≡ refused 23 in_text at))
     go a rest (inl same) = rw same (next a b rest)
     go a rest (inr (at, lost)) = inr (at, rw lost)
 
@@ -172,8 +172,8 @@ comparison_or : (at : ℕ) (c : Comparison) (l r : Tree) (a b : Ty) → Or23 (co
 comparison_or at c l r a b x e = rw e (go (keeps_bits l b) (keeps_bits r a))
   where
     go : (s t : Bool)
-        → ((require s 23 InText (place_of l) >>= λ _. require t 23 InText (place_of r) >>= λ _. ok x) ≡ ok x)
-        ⊎ ((at : ℕ) × ((require s 23 InText (place_of l) >>= λ _. require t 23 InText (place_of r) >>= λ _. ok x) ≡ refused 23 InText at))
+        → ((require s 23 in_text (place_of l) >>= λ _. require t 23 in_text (place_of r) >>= λ _. ok x) ≡ ok x)
+        ⊎ ((at : ℕ) × ((require s 23 in_text (place_of l) >>= λ _. require t 23 in_text (place_of r) >>= λ _. ok x) ≡ refused 23 in_text at))
     go true true = inl refl
     go true false = inr (place_of r, refl)
     go false t = inr (place_of l, refl)
@@ -284,14 +284,14 @@ passes text list r = (there, back)
         now text list ∙ passed_back type_of text list r q
 
 refuses : (text list : List ℕ) (r : Restriction) → restriction_by rule_before text list ≡ ok r
-    → (restriction text list ≡ ok r) ⊎ ((at : ℕ) × (restriction text list ≡ refused 23 InText at))
+    → (restriction text list ≡ ok r) ⊎ ((at : ℕ) × (restriction text list ≡ refused 23 in_text at))
 refuses text list r h = go (types_or r.keys r.root bool p.a_bool)
   where
     p : Passed (type_by rule_before) text list r
     p = passed (type_by rule_before) text list r (sym (by_rule rule_before text list) ∙ h)
 
-    go : (type_of r.keys r.root ≡ ok bool) ⊎ ((at : ℕ) × (type_of r.keys r.root ≡ refused 23 InText at))
-        → (restriction text list ≡ ok r) ⊎ ((at : ℕ) × (restriction text list ≡ refused 23 InText at))
+    go : (type_of r.keys r.root ≡ ok bool) ⊎ ((at : ℕ) × (type_of r.keys r.root ≡ refused 23 in_text at))
+        → (restriction text list ≡ ok r) ⊎ ((at : ℕ) × (restriction text list ≡ refused 23 in_text at))
     go (inl e) = inl (now text list ∙ rw (p.short, p.listed, p.read, e))
     go (inr (at, e)) = inr (at, now text list ∙ rw (p.short, p.listed, p.read, e))
 

@@ -8,7 +8,7 @@ use mathlib.Core.List.{List}
 use lib.ListN.{length}
 use lib.Dec.{eqb, ltb, leb}
 use borrow.Author.Tests.{eqb-true, eqb-false, leb-true, leb-false, ltb-true, ltb-false}
-use Rattle.paper.specs.Answers.{require, in_turn, inBlocks}
+use Rattle.paper.specs.Answers.{require, in_turn, in_blocks}
 use Rattle.paper.specs.Blocks.{block_size, most_blocks, blocks_in, block_ok, block_test}
 use Rattle.paper.specs.Faults.{BlocksSize, no_blocks, blocks_uneven, blocks_over, BlocksLayout, block_broken}
 use Rattle.paper.specs.Table.{Free}
@@ -59,8 +59,8 @@ module _ (blocks : List ℕ) where
   size_only m to (blocks_uneven h) = (refl, refl)
   size_only m to (blocks_over h) = (refl, refl)
 
-  pub blocks_size_tells : Tells inBlocks (BlocksSize blocks) (require blocks_sized 16 inBlocks (length blocks))
-  blocks_size_tells = test_tells (BlocksSize blocks) blocks_sized 16 inBlocks (length blocks) size_free size_fault size_only
+  pub blocks_size_tells : Tells in_blocks (BlocksSize blocks) (require blocks_sized 16 in_blocks (length blocks))
+  blocks_size_tells = test_tells (BlocksSize blocks) blocks_sized 16 in_blocks (length blocks) size_free size_fault size_only
 
 -- the blocks
 
@@ -80,9 +80,9 @@ module _ (keys : ℕ) (blocks : List ℕ) where
   only : (n at : ℕ) → BlocksLayout keys blocks n at → n ≡ 17
   only n at (block_broken k l h) = refl
 
-  pub blocks_layout_tells : Tells inBlocks (BlocksLayout keys blocks) (in_turn (block_test keys blocks) 0 total)
+  pub blocks_layout_tells : Tells in_blocks (BlocksLayout keys blocks) (in_turn (block_test keys blocks) 0 total)
   blocks_layout_tells =
-      tests_tell inBlocks (BlocksLayout keys blocks) total (λ k. k * block_size) indexed (block_test keys blocks)
+      tests_tell in_blocks (BlocksLayout keys blocks) total (λ k. k * block_size) indexed (block_test keys blocks)
       (λ k l.
-      test_tells_at inBlocks (BlocksLayout keys blocks) total (λ k. k * block_size) indexed k 17 (block_ok keys blocks k)
+      test_tells_at in_blocks (BlocksLayout keys blocks) total (λ k. k * block_size) indexed k 17 (block_ok keys blocks k)
       (λ good n h. true≢false (sym good ∙ broken_at k n (k * block_size) h refl)) (block_broken k l) only)

@@ -3,7 +3,7 @@ use Prim.Native.Nat.{ℕ, zero, suc}
 use mathlib.Core.Path.{◌≡◌, refl, subst}
 use mathlib.Core.List.{List, [], ◌∷◌, ◌++◌}
 use lib.ListN.{take, drop, take-append-drop}
-use Rattle.paper.specs.Tokens.{Scan, blank, token, octal_numeral, no_token, tooLarge, taken, scan}
+use Rattle.paper.specs.Tokens.{Scan, blank, token, octal_numeral, no_token, too_large, taken, scan}
 use Rattle.paper.specs.Fixing.{piece_for, fixed_from, fixed}
 use Rattle.paper.specs.FixedRight.{StandsAs, at_end, a_byte, in_hex, InOrder}
 
@@ -21,7 +21,7 @@ module _ (b : ℕ) (s : List ℕ) where
   stands (token k n) e h = piece n h
   stands (octal_numeral v n) e h = in_hex b v n e h
   stands no_token e h = a_byte b h
-  stands tooLarge e h = a_byte b h
+  stands too_large e h = a_byte b h
 
 from : (s : List ℕ) (n : ℕ) → StandsAs (drop n s) (fixed_from n s)
 unfolding fixed_from

@@ -9,7 +9,7 @@ use mathlib.Core.Logic.{◌≢◌, inl, inr}
 use mathlib.Core.Option.{Option, none, some}
 use mathlib.Core.List.{List, [], ◌∷◌, ◌++◌, map, map-append}
 use lib.ListN.{length, take, length-map}
-use Rattle.paper.specs.Answers.{Answer, ok, refused, ◌>>=◌, require, in_turn, inBlocks}
+use Rattle.paper.specs.Answers.{Answer, ok, refused, ◌>>=◌, require, in_turn, in_blocks}
 use Rattle.paper.specs.Keys.{Key, keys}
 use Rattle.paper.specs.Types.{Ty, bool, int, of}
 use Rattle.paper.specs.Code.{Skip, Instruction, skip, act, Walk, fails, ends, go_on, walk}
@@ -45,7 +45,7 @@ inside_blocks blocks k few l = omega arith
 
 -- The end
 
-not_one_bool : (size : ℕ) (held : List Ty) → held ≢ bool ∷ [] → end_ok size held ≡ refused 18 inBlocks size
+not_one_bool : (size : ℕ) (held : List Ty) → held ≢ bool ∷ [] → end_ok size held ≡ refused 18 in_blocks size
 not_one_bool size [] h = refl
 not_one_bool size (bool ∷ []) h = absurd (h refl)
 not_one_bool size (int ∷ []) h = refl
@@ -163,20 +163,20 @@ module _ (ks : List Key) (blocks : List ℕ) where
     end_only held same free m to (at_end there e d) = (refl, refl, rw (ends_same (sym e ∙ same)) at d)
 
     end_tells : (held : List Ty) → types_through ks (program blocks) ≡ ends held → ((k : ℕ) → ¬ Wrong ks (program blocks) [] k)
-        → Tells inBlocks (BlocksCode ks blocks) (end_ok (length blocks) held)
+        → Tells in_blocks (BlocksCode ks blocks) (end_ok (length blocks) held)
     end_tells held same free = go (one_bool_decided held)
       where
         only : (m to : ℕ) → BlocksCode ks blocks m to → (m ≡ 18) × (to ≡ length blocks) × (held ≢ bool ∷ [])
         only m to f = end_only held same free m to (by_index m to f)
 
-        go : Dec (held ≡ bool ∷ []) → Tells inBlocks (BlocksCode ks blocks) (end_ok (length blocks) held)
+        go : Dec (held ≡ bool ∷ []) → Tells in_blocks (BlocksCode ks blocks) (end_ok (length blocks) held)
         go (yes e) = rw e (λ m to f. (only m to f).2 e)
         go (no d) =
             rw (not_one_bool (length blocks) held d)
             (refl, only_wins (end_not_bool held same d) (λ m to f. ((only m to f).0, (only m to f).1)))
 
     walk_tells : (w : Walk Ty) → types_along ks (program blocks) ≡ w → Told (Wrong ks (program blocks) []) 0 w
-        → Tells inBlocks (BlocksCode ks blocks) (load_check (length blocks) w)
+        → Tells in_blocks (BlocksCode ks blocks) (load_check (length blocks) w)
     unfolding types_along types_through
     walk_tells (fails at) checked h =
         let place : at ≡ h.index = h.place ∙ zero-add h.index in
@@ -189,7 +189,7 @@ module _ (ks : List Key) (blocks : List ℕ) where
         )
     walk_tells (ends held) checked free = end_tells held (check_walks ks (program blocks) 0 0 [] held checked) free
 
-    code_tells : Tells inBlocks (BlocksCode ks blocks) (load_check (length blocks) (types_along ks (program blocks)))
+    code_tells : Tells in_blocks (BlocksCode ks blocks) (load_check (length blocks) (types_along ks (program blocks)))
     unfolding types_along
     code_tells = walk_tells (types_along ks (program blocks)) refl (check_told ks (program blocks) 0 [])
 
@@ -198,26 +198,26 @@ pub blocks_follow : (list : List ℕ) (ks : List Key) (blocks : List ℕ) → ke
     → Follows (block_stages list blocks) (loaded ks blocks)
 unfolding loaded layout
 blocks_follow list ks blocks listed =
-    let size = require (blocks_sized blocks) 16 inBlocks (length blocks) in
+    let size = require (blocks_sized blocks) 16 in_blocks (length blocks) in
     let lay = in_turn (block_test (length ks) blocks) 0 (blocks_in blocks) in
     let types = load_check (length blocks) (types_along ks (program blocks)) in
     let two : List Key → Faults = λ ks. BlocksLayout (length ks) blocks in
     let three : List Key → Faults = λ ks. BlocksCode ks blocks in
-    let last = stage inBlocks (Given (keys list) three) ∷ [] in
-    let mid = stage inBlocks (Given (keys list) two) ∷ [] in
+    let last = stage in_blocks (Given (keys list) three) ∷ [] in
+    let mid = stage in_blocks (Given (keys list) two) ∷ [] in
     subst (λ (a : Answer ℕ). Follows (block_stages list blocks) a)
     (sym (bind_again size (λ _. lay) (λ _. types >>= λ _. ok (total_of blocks))))
-    (follows_then (stage inBlocks (BlocksSize blocks) ∷ []) (mid ++ last) size (λ _. lay >>= λ _. types >>= λ _. ok (total_of blocks))
-    (follows_one inBlocks (BlocksSize blocks) size (blocks_size_tells blocks))
+    (follows_then (stage in_blocks (BlocksSize blocks) ∷ []) (mid ++ last) size (λ _. lay >>= λ _. types >>= λ _. ok (total_of blocks))
+    (follows_one in_blocks (BlocksSize blocks) size (blocks_size_tells blocks))
     (λ _ _.
     follows_then mid last lay (λ _. types >>= λ _. ok (total_of blocks))
-    (follows_one inBlocks (Given (keys list) two) lay
-    (given_tells (keys list) ks listed two inBlocks lay (blocks_layout_tells (length ks) blocks)))
+    (follows_one in_blocks (Given (keys list) two) lay
+    (given_tells (keys list) ks listed two in_blocks lay (blocks_layout_tells (length ks) blocks)))
     (λ _ passes.
     let few = counts_within (length ks) blocks (each_block (length ks) blocks passes) in
     follows_as last types (λ _. total_of blocks)
-    (follows_one inBlocks (Given (keys list) three) types
-    (given_tells (keys list) ks listed three inBlocks types (code_tells ks blocks few))))))
+    (follows_one in_blocks (Given (keys list) three) types
+    (given_tells (keys list) ks listed three in_blocks types (code_tells ks blocks few))))))
 
 pub load_follows : (list blocks : List ℕ) → Follows (load_stages list blocks) (load_answer list blocks)
 unfolding load_answer

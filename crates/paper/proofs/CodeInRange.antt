@@ -8,10 +8,10 @@ use mathlib.Core.List.{List, [], ◌∷◌, ◌++◌}
 use lib.ListN.{length, length-append, get_elem?}
 use lib.Dec.{eqb}
 use Rattle.paper.specs.Answers.{Answer, ok, refused, ◌>>=◌}
-use Rattle.paper.specs.Tokens.{bytes, same_bytes, Prefix, notSign, minusSign}
+use Rattle.paper.specs.Tokens.{bytes, same_bytes, Prefix, not_sign, minus_sign}
 use Rattle.paper.specs.Keys.{Key, find_from, find}
 use Rattle.paper.specs.Grammar.{Tree, truth, number, key, field, attribute, prefixed, joined, compared}
-use Rattle.paper.specs.Types.{Ty, bool, int, of, same_ty, when, and_then, Field, value, mask, prefixLength, low, high, has, field_ty, field_named, bare_type, field_type, prefix_type, is_number, join_type, meet_kind, meet, compares, comparison_type, bits_kept, operator_type, known, named_type, type_of}
+use Rattle.paper.specs.Types.{Ty, bool, int, of, same_ty, when, and_then, Field, value, mask, prefix_length, low, high, has, field_ty, field_named, bare_type, field_type, prefix_type, is_number, join_type, meet_kind, meet, compares, comparison_type, bits_kept, operator_type, known, named_type, type_of}
 use Rattle.paper.specs.Meaning.{connective}
 use Rattle.paper.specs.Code.{push_key, push_field, compare}
 use Rattle.paper.specs.Translating.{has_type, meeting, convert_to, changed, conversion, operation, pushing, code_of}
@@ -44,8 +44,8 @@ has_narrow (ok a) h = h
 has_narrow (refused n i at) h = tt
 
 prefix_narrow : (o : Prefix) (a : Ty) → Narrow a → If Narrow (prefix_type o a)
-prefix_narrow notSign a h = if_when Narrow (same_ty a bool) bool tt
-prefix_narrow minusSign a h = if_when Narrow (is_number a) a h
+prefix_narrow not_sign a h = if_when Narrow (same_ty a bool) bool tt
+prefix_narrow minus_sign a h = if_when Narrow (is_number a) a h
 
 meet_narrow : (a b : Ty) → Narrow a → Narrow b → If Narrow (meet a b)
 meet_narrow bool bool h k = tt
@@ -62,7 +62,7 @@ meet_narrow (of j w) (of l x) h k =
 field_narrow : (w : ℕ) (f : Field) → Width w → Narrow (field_ty w f)
 field_narrow w value h = h
 field_narrow w mask h = h
-field_narrow w prefixLength h = tt
+field_narrow w prefix_length h = tt
 field_narrow w low h = h
 field_narrow w high h = h
 
@@ -136,8 +136,8 @@ field_ranged (some k) none h = tt
 field_ranged (some k) (some g) h = (h, tt)
 
 prefix_ranged : (o : Prefix) → Ranged (operation o ∷ [])
-prefix_ranged notSign = (tt, tt)
-prefix_ranged minusSign = (tt, tt)
+prefix_ranged not_sign = (tt, tt)
+prefix_ranged minus_sign = (tt, tt)
 
 convert_ranged : (m : Ty) → Narrow m → Ranged (convert_to m)
 convert_ranged bool h = tt

@@ -10,13 +10,13 @@ use mathlib.Core.List.{List, [], ◌∷◌, ◌++◌}
 use lib.ListN.{length, length-append}
 use borrow.Author.Tests.{lt-ltb}
 use lib.IntN.{pos}
-use Rattle.paper.specs.Tokens.{bytes, same_bytes, Prefix, notSign, minusSign, Comparison}
+use Rattle.paper.specs.Tokens.{bytes, same_bytes, Prefix, not_sign, minus_sign, Comparison}
 use Rattle.paper.specs.Keys.{Key, find}
 use Rattle.paper.specs.Entry.{Entry}
 use Rattle.paper.specs.Grammar as G
 use Rattle.paper.specs.Grammar.{Tree}
 use Rattle.paper.specs.Types.{Ty, bool, int, of, same_ty, when, and_then, Field, field_named, meet, takes, keeps_bits, type_of}
-use Rattle.paper.specs.Meaning.{Value, truth, whole, matched, ty_of, bare_value, field_value, prefix_value, Connective, both, either, ifThen, connective, connect, join_value, in_type, compare_value, comparison_value, is_true, value_of}
+use Rattle.paper.specs.Meaning.{Value, truth, whole, matched, ty_of, bare_value, field_value, prefix_value, Connective, both, either, if_then, connective, connect, join_value, in_type, compare_value, comparison_value, is_true, value_of}
 use Rattle.paper.specs.Code.{Skip, Instruction, push_bool, push_int, push_key, push_field, push_priority, convert, compare, connects, skip, most_held, put, act, value_action, skip_of}
 use Rattle.paper.specs.Translating.{has_type, changed, convert_to, pushing, operation, settled_by, settled_to, skip_for, code_of, steps_of}
 use Rattle.paper.specs.LoadedBlocksRun.{Covers}
@@ -40,8 +40,8 @@ settles both false b = refl
 settles both true b = refl
 settles either false b = refl
 settles either true b = refl
-settles ifThen false b = refl
-settles ifThen true b = refl
+settles if_then false b = refl
+settles if_then true b = refl
 
 needs_some : (t : Tree) → 1 ≤ needs t
 needs_some (G.truth at b) = omega arith
@@ -186,8 +186,8 @@ module _ (ks : List Key) (e : Entry) (way : Way ks e) where
   priority_gives false s room = tt
 
   prefix_gives : (o : Prefix) (a : Value) (s : List Value) → length s < most_held → Gives (operation o ∷ []) 1 (a ∷ s) s (prefix_value o a)
-  prefix_gives notSign a s room = gives_one (operation notSign) (a ∷ s) s (prefix_value notSign a) refl refl room
-  prefix_gives minusSign a s room = gives_one (operation minusSign) (a ∷ s) s (prefix_value minusSign a) refl refl room
+  prefix_gives not_sign a s room = gives_one (operation not_sign) (a ∷ s) s (prefix_value not_sign a) refl refl room
+  prefix_gives minus_sign a s room = gives_one (operation minus_sign) (a ∷ s) s (prefix_value minus_sign a) refl refl room
 
   module _ (covers : Covers ks e) where
     code_gives : (t : Tree) (s : List Value) → length s + needs t ≤ most_held → Gives (code_of ks t) (steps_of ks e t) s s (value_of ks e t)

@@ -10,7 +10,7 @@ use mathlib.Core.List.{List, [], ◌∷◌, ◌++◌, append-nil, append_assoc}
 use lib.ListN.{length, length-append}
 use lib.Dec.{ltb}
 use borrow.Author.Tests.{ltb-true}
-use Rattle.paper.specs.Answers.{inContract, Answer, ok, refused, ◌>>=◌, require}
+use Rattle.paper.specs.Answers.{in_contract, Answer, ok, refused, ◌>>=◌, require}
 use Rattle.paper.specs.Pact.{Comparator, Conjunction, Assertion, Clause, Opcode, compares, conjoins, wrong, opcode_of, comparator_byte, conjunction_byte, clause_bytes, contract_bytes, Indexed, AllIndexed, left_index, right_index, indices_of}
 use Rattle.paper.specs.Contract.{Front, at_start, continued, with_opcode, ended, index_fits, with_index, with_byte, clauses_from, clauses}
 use Rattle.paper.specs.Faults.{front_bytes, Stands, ContractFaults, opcode_wrong, nothing_to_join, joined_twice, index_unknown, cut_before_index, cut_before_assertion}
@@ -86,12 +86,12 @@ module _ (names users : ℕ) where
   module _ (contract : List ℕ) where
     abbrev Told : Answer (List Clause) → Type 0
     Told (ok cs) = (contract ≡ contract_bytes cs) × All (AllIndexed names users) cs
-    Told (refused n i at) = (i ≡ inContract) × ContractFaults names users contract n at
+    Told (refused n i at) = (i ≡ in_contract) × ContractFaults names users contract n at
 
     -- of one byte behind a front
     abbrev StepTold : Front → ℕ → Answer Front → Type 0
     StepTold f b (ok g) = Further f b g
-    StepTold f b (refused n i at) = (i ≡ inContract) × ContractFaults names users contract n at
+    StepTold f b (refused n i at) = (i ≡ in_contract) × ContractFaults names users contract n at
 
     module _ (b : ℕ) (rest : List ℕ) where
       abbrev Behind : Front → Type 0
@@ -115,7 +115,7 @@ module _ (names users : ℕ) where
           f = record { closed = cs; clause = c; conjunction = j; comparator = some o }
 
           by : (t : Bool) → index_fits names users o b ≡ t
-              → StepTold f b (require t 24 inContract (length (front_bytes f)) >>= λ _. ok (continued cs c j (record { comparator = o; left = left_index b; right = right_index b })))
+              → StepTold f b (require t 24 in_contract (length (front_bytes f)) >>= λ _. ok (continued cs c j (record { comparator = o; left = left_index b; right = right_index b })))
           by true e =
               let (left, right) = (and-eq-true_iff (ltb (left_index b) names) (ltb (right_index b) (indices_of names users o.load))).0 e in
               index_further cs c j o b h
@@ -195,23 +195,23 @@ contracts_read names users contract cs = (
 
 module _ (names users : ℕ) where
   wrong_byte : (f : Front) (b : ℕ) (rest : List ℕ) → Stands names users f
-      → ((at : ℕ) → with_byte names users at f f.comparator b ≡ refused 24 inContract at)
-      → clauses names users (front_bytes f ++ (b ∷ rest)) ≡ refused 24 inContract (length (front_bytes f))
+      → ((at : ℕ) → with_byte names users at f f.comparator b ≡ refused 24 in_contract at)
+      → clauses names users (front_bytes f ++ (b ∷ rest)) ≡ refused 24 in_contract (length (front_bytes f))
   unfolding clauses_from
   wrong_byte f b rest h refuses = from_front names users f (b ∷ rest) h ∙ rw refuses
 
   cut_short : (f : Front) → Stands names users f
-      → ((at : ℕ) → ended at f f.conjunction f.comparator ≡ refused 24 inContract at)
-      → clauses names users (front_bytes f) ≡ refused 24 inContract (length (front_bytes f))
+      → ((at : ℕ) → ended at f f.conjunction f.comparator ≡ refused 24 in_contract at)
+      → clauses names users (front_bytes f) ≡ refused 24 in_contract (length (front_bytes f))
   unfolding clauses_from
   cut_short f h refuses = (simp append-nil at (from_front names users f [] h)) ∙ refuses (length (front_bytes f))
 
-  waits_on : (at : ℕ) (f : Front) (j : Conjunction) (o : Option Comparator) → ended at f (some j) o ≡ refused 24 inContract at
+  waits_on : (at : ℕ) (f : Front) (j : Conjunction) (o : Option Comparator) → ended at f (some j) o ≡ refused 24 in_contract at
   waits_on at f j none = refl
   waits_on at f j (some o) = refl
 
   module _ (contract : List ℕ) where
-    fault_given : (n at : ℕ) → ContractFaults names users contract n at → clauses names users contract ≡ refused n inContract at
+    fault_given : (n at : ℕ) → ContractFaults names users contract n at → clauses names users contract ≡ refused n in_contract at
     fault_given n at (opcode_wrong f b rest h none_waits split e) =
         ap (clauses names users) split ∙ wrong_byte f b rest h (λ at. rw (none_waits, e))
     fault_given n at (nothing_to_join f b rest k h none_waits split e first) =
@@ -224,7 +224,7 @@ module _ (names users : ℕ) where
     fault_given n at (cut_before_assertion f j h waits whole) =
         ap (clauses names users) whole ∙ cut_short f h (λ at. rw waits (waits_on at f j f.comparator)) ∙ rw whole
 
-    pub contract_tells : Tells inContract (ContractFaults names users contract) (clauses names users contract)
+    pub contract_tells : Tells in_contract (ContractFaults names users contract) (clauses names users contract)
     contract_tells =
-        exact_tells inContract (ContractFaults names users contract) (clauses names users contract)
+        exact_tells in_contract (ContractFaults names users contract) (clauses names users contract)
         (λ n j at e. subst (Told names users contract) e (answer_told names users contract)) fault_given

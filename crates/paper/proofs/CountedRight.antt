@@ -10,7 +10,7 @@ use mathlib.Core.List.{List, [], ◌∷◌, ◌++◌, map}
 use lib.ListN.{length}
 use lib.Dec.{leb}
 use borrow.Author.Tests.{leb-true, le-leb}
-use Rattle.paper.specs.Answers.{Input, inEntry, Answer, ok, refused, ◌>>=◌}
+use Rattle.paper.specs.Answers.{Input, in_entry, Answer, ok, refused, ◌>>=◌}
 use Rattle.paper.specs.Keys.{Key}
 use Rattle.paper.specs.Entry.{Entry, entry_of}
 use Rattle.paper.specs.Grammar.{Tree}
@@ -217,7 +217,7 @@ module _ (text list entries : List ℕ) where
       let (ps, divided, more) = bind_ok (parts text) (λ ps. few_entries r.keys entries >>= last r ps) c rest in
       let (u, fits, end) = bind_ok (few_entries r.keys entries) (last r ps) c more in
       let whole = whole_in r.keys entries in
-      let few = require_ok (leb whole most_entries) 25 inEntry (most_entries * entry_size r.keys) u fits in
+      let few = require_ok (leb whole most_entries) 25 in_entry (most_entries * entry_size r.keys) u fits in
       record {
         rule = r;
         passes = passes;

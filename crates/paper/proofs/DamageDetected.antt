@@ -13,7 +13,7 @@ use lib.Bits.{bit_xor, xor_lt}
 use lib.Pow.{pow-lt}
 use lib.Dec.{eqb}
 use borrow.Author.Tests.{ne_eqb}
-use Rattle.paper.specs.Answers.{ok, refused, ◌>>=◌, inBlocks}
+use Rattle.paper.specs.Answers.{ok, refused, ◌>>=◌, in_blocks}
 use Rattle.paper.specs.Numbers.{byte_at, bytes_at, number_at}
 use Rattle.paper.specs.Keys.{keys, Key}
 use Rattle.paper.specs.Blocks.{block_size, check_of, count_at, counts_from, blocks_in, total_of, block_ok, layout}
@@ -61,7 +61,7 @@ module _ (keys : ℕ) (blocks : List ℕ) (good : Laid keys blocks) (m : ℕ) (i
   same : number_at (block_at cut 0) 504 2 ≡ total_of cut → total_of blocks ≡ counts_from blocks 0 (suc m)
   same e = sym first_total ∙ ap (λ b. number_at b 504 2) (sym first_kept) ∙ e ∙ total_kept
 
-  cut_fails : layout keys cut ≡ refused 17 inBlocks 0
+  cut_fails : layout keys cut ≡ refused 17 in_blocks 0
   cut_fails =
       let less = fewer keys blocks good.each (suc m) (omega arith) in
       let wrong : eqb (number_at (block_at cut 0) 504 2) (total_of cut) ≡ false =
@@ -171,8 +171,8 @@ called list blocks n h =
     record { ks = a.0; listed = a.1; good = laid (length a.0) blocks b.1 }
 
 -- a layout that is refused is the call's answer
-refused_call : (list blocks : List ℕ) (ks : List Key) (at : ℕ) → keys list ≡ ok ks → layout (length ks) blocks ≡ refused 17 inBlocks at
-    → load_answer list blocks ≡ refused 17 inBlocks at
+refused_call : (list blocks : List ℕ) (ks : List Key) (at : ℕ) → keys list ≡ ok ks → layout (length ks) blocks ≡ refused 17 in_blocks at
+    → load_answer list blocks ≡ refused 17 in_blocks at
 unfolding load_answer
 refused_call list blocks ks at k h = rw (k, h)
 

@@ -14,7 +14,7 @@ use Rattle.paper.specs.declared.Explanation.{Explanation}
 use Rattle.paper.specs.declared.Summarizing.{Summarizing}
 use Rattle.paper.specs.declared.Rechecking.{Rechecking}
 use Rattle.paper.specs.declared.Rechecking.TheVariants as K
-use Rattle.paper.specs.Answers.{Input, InText, InList, inEntry, inBlocks, inBuffer, inContract, in_table, Answer, input_of, offset_of, reading_says, checking_says, judgement_says, translation_says, loading_says, running_says, printing_says}
+use Rattle.paper.specs.Answers.{Input, in_text, in_list, in_entry, in_blocks, in_buffer, in_contract, in_table, Answer, input_of, offset_of, reading_says, checking_says, judgement_says, translation_says, loading_says, running_says, printing_says}
 use Rattle.paper.specs.Calls.{read_answer, check_answer, judge_answer, translate_answer, load_answer, run_answer, print_answer}
 use Rattle.paper.specs.Explained.{explanation_says}
 use Rattle.paper.specs.ExplainedRight.{judgement_of}
@@ -74,26 +74,26 @@ third = Memᴰ.tail second
 fourth : {x y z w : Lent} {xs : List Lent} → Memᴰ x (y ∷ z ∷ w ∷ x ∷ xs)
 fourth = Memᴰ.tail third
 
-read_located : (inputs : List Lent) (text : List ℕ) → Memᴰ (lent InText text) inputs → AllLocated inputs (read_stages text)
+read_located : (inputs : List Lent) (text : List ℕ) → Memᴰ (lent in_text text) inputs → AllLocated inputs (read_stages text)
 read_located inputs text m =
     located_then inputs (size_stages text) (tree_stages text) (size_located inputs text m) (λ _. tree_located inputs text m)
 
 pub read_answered : (text : List ℕ) (r : Reading) → ReadPromised text r → ReadAnswered text r
 read_answered text r promised =
-    let inputs = lent InText text ∷ [] in
+    let inputs = lent in_text text ∷ [] in
     answered_by inputs (read_answer text) (reading_says r) (read_stages text) (table_holds.read text)
     (read_located inputs text here) promised
 
 pub check_answered : (text list : List ℕ) (r : Checking) → CheckPromised text list r → CheckAnswered text list r
 check_answered text list r promised =
-    let inputs = lent InText text ∷ lent InList list ∷ [] in
+    let inputs = lent in_text text ∷ lent in_list list ∷ [] in
     answered_by inputs (check_answer text list) (checking_says r) (check_stages text list) (table_holds.check text list)
     (check_located inputs text list here second) promised
 
 -- what tells the judgement
 entry_answered : (text list entry : List ℕ) (a : Answer Bool) → a ≡ judge_answer text list entry → EntryAnswered text list entry a
 entry_answered text list entry a told =
-    let inputs = lent InText text ∷ lent InList list ∷ lent inEntry entry ∷ [] in
+    let inputs = lent in_text text ∷ lent in_list list ∷ lent in_entry entry ∷ [] in
     answered_by inputs (judge_answer text list entry) a (judge_stages text list entry) (table_holds.judge text list entry)
     (located_then inputs (check_stages text list) (entry_stages list entry) (check_located inputs text list here second)
     (λ _. entry_located inputs list entry third)) told
@@ -108,7 +108,7 @@ explain_answered text list entry r promised =
 pub translate_answered : (text list buffer : List ℕ) (r : TranslateResult) → TranslatePromised text list buffer r
     → TranslateAnswered text list buffer r
 translate_answered text list buffer r promised =
-    let inputs = lent InText text ∷ lent InList list ∷ lent inBuffer buffer ∷ [] in
+    let inputs = lent in_text text ∷ lent in_list list ∷ lent in_buffer buffer ∷ [] in
     record {
       says =
           answered_by inputs (translate_answer text list buffer) (translation_says r.answer) (translate_stages text list buffer)
@@ -120,27 +120,27 @@ translate_answered text list buffer r promised =
           ∙ refused_unchanged text list buffer n (input_of at) (offset_of at) (sym promised.says ∙ ap translation_says e);
     }
 
-load_located : (inputs : List Lent) (list blocks : List ℕ) → Memᴰ (lent InList list) inputs → Memᴰ (lent inBlocks blocks) inputs
+load_located : (inputs : List Lent) (list blocks : List ℕ) → Memᴰ (lent in_list list) inputs → Memᴰ (lent in_blocks blocks) inputs
     → AllLocated inputs (load_stages list blocks)
 load_located inputs list blocks l s =
     located_then inputs (list_stages list) (block_stages list blocks) (list_located inputs list l) (λ _. block_located inputs list blocks s)
 
 pub load_answered : (list blocks : List ℕ) (r : Loading) → LoadPromised list blocks r → LoadAnswered list blocks r
 load_answered list blocks r promised =
-    let inputs = lent InList list ∷ lent inBlocks blocks ∷ [] in
+    let inputs = lent in_list list ∷ lent in_blocks blocks ∷ [] in
     answered_by inputs (load_answer list blocks) (loading_says r) (load_stages list blocks) (table_holds.load list blocks)
     (load_located inputs list blocks here second) promised
 
 pub run_answered : (list blocks entry : List ℕ) (r : Running) → RunPromised list blocks entry r → RunAnswered list blocks entry r
 run_answered list blocks entry r promised =
-    let inputs = lent InList list ∷ lent inBlocks blocks ∷ lent inEntry entry ∷ [] in
+    let inputs = lent in_list list ∷ lent in_blocks blocks ∷ lent in_entry entry ∷ [] in
     answered_by inputs (run_answer list blocks entry) (running_says r) (run_stages list blocks entry) (table_holds.run list blocks entry)
     (located_then inputs (load_stages list blocks) (entry_stages list entry) (load_located inputs list blocks here second)
     (λ _. entry_located inputs list entry third)) promised
 
 pub print_answered : (text buffer : List ℕ) (r : PrintResult) → PrintPromised text buffer r → PrintAnswered text buffer r
 print_answered text buffer r promised =
-    let inputs = lent InText text ∷ lent inBuffer buffer ∷ [] in
+    let inputs = lent in_text text ∷ lent in_buffer buffer ∷ [] in
     record {
       says =
           answered_by inputs (print_answer text buffer) (printing_says r.answer) (print_stages text buffer) (table_holds.print text buffer)
@@ -151,7 +151,7 @@ print_answered text buffer r promised =
 
 pub fix_answered : (text buffer : List ℕ) (r : FixResult) → FixPromised text buffer r → FixAnswered text buffer r
 fix_answered text buffer r promised =
-    let inputs = lent InText text ∷ lent inBuffer buffer ∷ [] in
+    let inputs = lent in_text text ∷ lent in_buffer buffer ∷ [] in
     record {
       says =
           answered_by inputs (fix_answer text buffer) (fixing_says r.answer) (fix_stages text buffer) (table_holds.fix text buffer)
@@ -163,7 +163,7 @@ fix_answered text buffer r promised =
 pub draft_answered : (contract table list buffer : List ℕ) (r : DraftResult) → DraftPromised contract table list buffer r
     → DraftAnswered contract table list buffer r
 draft_answered contract table list buffer r promised =
-    let inputs = lent inContract contract ∷ lent in_table table ∷ lent InList list ∷ lent inBuffer buffer ∷ [] in
+    let inputs = lent in_contract contract ∷ lent in_table table ∷ lent in_list list ∷ lent in_buffer buffer ∷ [] in
     record {
       says =
           answered_by inputs (draft_answer contract table list buffer) (drafting_says r.answer) (draft_stages contract table list buffer)
@@ -175,7 +175,7 @@ draft_answered contract table list buffer r promised =
 
 pub compare_answered : (text list blocks : List ℕ) (r : Agreement) → ComparePromised text list blocks r → CompareAnswered text list blocks r
 compare_answered text list blocks r promised =
-    let inputs = lent InText text ∷ lent InList list ∷ lent inBlocks blocks ∷ [] in
+    let inputs = lent in_text text ∷ lent in_list list ∷ lent in_blocks blocks ∷ [] in
     answered_by inputs (compare_answer text list blocks) (agreement_says r) (compare_stages text list blocks) (table_holds.compare text list blocks)
     (located_then inputs (check_stages text list) (block_stages list blocks) (check_located inputs text list here second)
     (λ _. block_located inputs list blocks third)) promised
@@ -183,7 +183,7 @@ compare_answered text list blocks r promised =
 pub count_answered : (text list entries numbers : List ℕ) (r : CountResult) → CountPromised text list entries numbers r
     → CountAnswered text list entries numbers r
 count_answered text list entries numbers r promised =
-    let inputs = lent InText text ∷ lent InList list ∷ lent inEntry entries ∷ [] in
+    let inputs = lent in_text text ∷ lent in_list list ∷ lent in_entry entries ∷ [] in
     record {
       says =
           answered_by inputs (count_answer text list entries) (counting_says r.answer) (count_stages text list entries)
@@ -198,7 +198,7 @@ count_answered text list entries numbers r promised =
 pub run_all_answered : (list blocks entries answers : List ℕ) (r : RunAllResult) → RunAllPromised list blocks entries answers r
     → RunAllAnswered list blocks entries answers r
 run_all_answered list blocks entries answers r promised =
-    let inputs = lent InList list ∷ lent inBlocks blocks ∷ lent inEntry entries ∷ lent inBuffer answers ∷ [] in
+    let inputs = lent in_list list ∷ lent in_blocks blocks ∷ lent in_entry entries ∷ lent in_buffer answers ∷ [] in
     record {
       says =
           answered_by inputs (run_all_answer list blocks entries answers) (running_all_says r.answer) (run_all_stages list blocks entries answers)
@@ -212,7 +212,7 @@ run_all_answered list blocks entries answers r promised =
 
 pub summarize_answered : (text list : List ℕ) (r : Summarizing) → SummarizePromised text list r → SummarizeAnswered text list r
 summarize_answered text list r promised =
-    let inputs = lent InText text ∷ lent InList list ∷ [] in
+    let inputs = lent in_text text ∷ lent in_list list ∷ [] in
     answered_by inputs (summary_answer text list) (summarizing_says r) (check_stages text list) (table_holds.summarize text list)
     (check_located inputs text list here second) promised
 

@@ -28,7 +28,7 @@ use Rattle.paper.specs.declared.Summarizing.{Summarizing}
 use Rattle.paper.specs.declared.Summarizing.TheVariants as S
 use Rattle.paper.specs.declared.Rechecking.{Rechecking}
 use Rattle.paper.specs.declared.Rechecking.TheVariants as K
-use Rattle.paper.specs.Answers.{InText, Answer, ok, ◌>>=◌, reading_says, checking_says, judgement_says, translation_says}
+use Rattle.paper.specs.Answers.{in_text, Answer, ok, ◌>>=◌, reading_says, checking_says, judgement_says, translation_says}
 use Rattle.paper.specs.Tokens.{most_text}
 use Rattle.paper.specs.Keys.{keys}
 use Rattle.paper.specs.Entry.{entry_of}
@@ -85,7 +85,7 @@ module _ (text list : List ℕ) where
       let (u, short, _) =
       bind_ok (sized text) (λ _. keys list >>= λ ks. tree text >>= λ t. typed ks t >>= λ _. ok (record { keys = ks; root = t })) r passed
       in
-      let few = require_ok (leb (length text) most_text) 1 InText most_text u short in
+      let few = require_ok (leb (length text) most_text) 1 in_text most_text u short in
       let known = passing text list r passed in
       let (a, has, root) = bind_ok (type_of r.keys r.root) (root_type r.root) tt known.checked in (
         record {

@@ -13,7 +13,7 @@ use lib.ListN.{length, get_elem?}
 use lib.Dec.{eqb, ltb}
 use lib.IntN.{pos}
 use borrow.Author.Tests.{eq-eqb}
-use Rattle.paper.specs.Answers.{ok, ◌>>=◌, require, in_turn, inEntry}
+use Rattle.paper.specs.Answers.{ok, ◌>>=◌, require, in_turn, in_entry}
 use Rattle.paper.specs.Tokens.{bytes, same_bytes}
 use Rattle.paper.specs.Keys.{Key, find}
 use Rattle.paper.specs.Entry.{Entry, head_size, match_size, match_at, match_of, matches_from, rule_test, priority_of, entry_of}
@@ -134,15 +134,15 @@ entry_read ks entry e conforms =
     let below = ltb (priority_of entry) (2 ^ 31) in
     let tests = in_turn (rule_test ks entry) 0 (length ks) in
     let read : Entry = record { priority = priority_of entry; matches = matches_from entry 0 ks } in
-    let high = require below 20 inEntry 0 in
+    let high = require below 20 in_entry 0 in
     let (u, first, later) =
-    bind_ok (require sized 19 inEntry (length entry)) (λ _. high >>= λ _. tests >>= λ _. ok read) e conforms
+    bind_ok (require sized 19 in_entry (length entry)) (λ _. high >>= λ _. tests >>= λ _. ok read) e conforms
     in
     let (v, second, last) = bind_ok high (λ _. tests >>= λ _. ok read) e later in
     let (_, third, is) = bind_ok tests (λ _. ok read) e last in
     record {
-      size = require_ok sized 19 inEntry (length entry) u first;
-      low = require_ok below 20 inEntry 0 v second;
+      size = require_ok sized 19 in_entry (length entry) u first;
+      low = require_ok below 20 in_entry 0 v second;
       rules = third;
       is = sym (ok_same read e is);
     }

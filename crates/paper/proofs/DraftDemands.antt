@@ -10,7 +10,7 @@ use lib.Dec.{leb}
 use borrow.Author.Tests.{leb-true, le-leb}
 use Rattle.paper.specs.declared.Place.{Place}
 use Rattle.paper.specs.declared.Drafting.TheVariants as D
-use Rattle.paper.specs.Answers.{in_table, inBuffer, ok, ◌>>=◌, require, input_of, offset_of}
+use Rattle.paper.specs.Answers.{in_table, in_buffer, ok, ◌>>=◌, require, input_of, offset_of}
 use Rattle.paper.specs.Tokens.{bytes, most_text, most_tokens}
 use Rattle.paper.specs.Keys.{Key}
 use Rattle.paper.specs.Grammar.{Tree, truth, most_levels}
@@ -78,8 +78,8 @@ pub text_has : (t : Tree) (buffer s : List ℕ) → lends_text t buffer ≡ ok s
 text_has t buffer s e =
     let few = leb (count t) most_tokens in
     let shallow = leb (levels t) most_levels in
-    let (u, within, last) = bind_ok (require (few && shallow) 21 inBuffer (length buffer)) (λ _. lends (print t) buffer) s e in
-    let (many, deep) = (and-eq-true_iff few shallow).0 (require_ok (few && shallow) 21 inBuffer (length buffer) u within) in
+    let (u, within, last) = bind_ok (require (few && shallow) 21 in_buffer (length buffer)) (λ _. lends (print t) buffer) s e in
+    let (many, deep) = (and-eq-true_iff few shallow).0 (require_ok (few && shallow) 21 in_buffer (length buffer) u within) in
     let l = lends_has (print t) buffer s last in
     record {
       tokens = leb-true (count t) most_tokens many;

@@ -8,7 +8,7 @@ use mathlib.Core.List.{List, [], ◌∷◌, ◌++◌, map}
 use lib.ListN.{length}
 use lib.Dec.{leb}
 use borrow.Author.Tests.{leb-true, leb-false}
-use Rattle.paper.specs.Answers.{inContract, in_table, inBuffer, ok, require}
+use Rattle.paper.specs.Answers.{in_contract, in_table, in_buffer, ok, require}
 use Rattle.paper.specs.Tokens.{most_tokens}
 use Rattle.paper.specs.Keys.{Key}
 use Rattle.paper.specs.Grammar.{Tree, most_levels}
@@ -48,13 +48,13 @@ module _ (contract table list buffer : List ℕ) where
   in_names ks = ContractFaults (length ks) (length table) contract
 
   abbrev contract_stages : List Stage
-  contract_stages = stage inContract (Given (names_of list) in_names) ∷ []
+  contract_stages = stage in_contract (Given (names_of list) in_names) ∷ []
 
   contract_follows : (ks : List Key) → names_of list ≡ ok ks → Follows contract_stages (clauses (length ks) (length table) contract)
   contract_follows ks named =
       let read = clauses (length ks) (length table) contract in
-      follows_one inContract (Given (names_of list) in_names) read
-      (given_tells (names_of list) ks named in_names inContract read (contract_tells (length ks) (length table) contract))
+      follows_one in_contract (Given (names_of list) in_names) read
+      (given_tells (names_of list) ks named in_names in_contract read (contract_tells (length ks) (length table) contract))
 
   drafted_follows : Follows (list_stages_by name_rule list ++ (table_stages ++ contract_stages)) (drafted contract table list)
   unfolding drafted names_of
@@ -75,20 +75,20 @@ module _ (contract table list buffer : List ℕ) where
   size_faults t = LendingSize (print t) buffer
 
   abbrev limit_stages : List Stage
-  limit_stages = stage inBuffer (Given (drafted contract table list) limit_faults) ∷ []
+  limit_stages = stage in_buffer (Given (drafted contract table list) limit_faults) ∷ []
 
   abbrev lending_stages : List Stage
-  lending_stages = stage inBuffer (Given (drafted contract table list) size_faults) ∷ []
+  lending_stages = stage in_buffer (Given (drafted contract table list) size_faults) ∷ []
 
   text_follows : (t : Tree) → drafted contract table list ≡ ok t → Follows (limit_stages ++ lending_stages) (lends_text t buffer)
   text_follows t made =
-      let within = require (leb (count t) most_tokens && leb (levels t) most_levels) 21 inBuffer (length buffer) in
+      let within = require (leb (count t) most_tokens && leb (levels t) most_levels) 21 in_buffer (length buffer) in
       follows_then limit_stages lending_stages within (λ _. lends (print t) buffer)
-      (follows_one inBuffer (Given (drafted contract table list) limit_faults) within
-      (given_tells (drafted contract table list) t made limit_faults inBuffer within (limits_tell t buffer)))
+      (follows_one in_buffer (Given (drafted contract table list) limit_faults) within
+      (given_tells (drafted contract table list) t made limit_faults in_buffer within (limits_tell t buffer)))
       (λ _ _.
-      follows_one inBuffer (Given (drafted contract table list) size_faults) (lends (print t) buffer)
-      (given_tells (drafted contract table list) t made size_faults inBuffer (lends (print t) buffer) (lending_tells (print t) buffer)))
+      follows_one in_buffer (Given (drafted contract table list) size_faults) (lends (print t) buffer)
+      (given_tells (drafted contract table list) t made size_faults in_buffer (lends (print t) buffer) (lending_tells (print t) buffer)))
 
   pub draft_follows : Follows (draft_stages contract table list buffer) (draft_answer contract table list buffer)
   unfolding draft_answer draftable

@@ -7,7 +7,7 @@ use mathlib.Core.List.{List}
 use lib.ListN.{length, get_elem?}
 use lib.Dec.{ltb}
 use borrow.Author.Tests.{eq-eqb}
-use Rattle.paper.specs.Answers.{Input, inEntry, Answer, ok, refused, ◌>>=◌, require, in_turn}
+use Rattle.paper.specs.Answers.{Input, in_entry, Answer, ok, refused, ◌>>=◌, require, in_turn}
 use Rattle.paper.specs.Keys.{Key}
 use Rattle.paper.specs.Entry.{Entry, head_size, match_size, match_at, match_ok, asked, priority_of, rule_test, matches_from, entry_of}
 use Rattle.paper.specs.Loading.{program, run_along}
@@ -18,13 +18,13 @@ use Rattle.paper.proofs.Stages.{never_ok}
 use Rattle.paper.proofs.EntriesLaid.{some_size}
 
 abbrev pub ByRule : ℕ → ℕ → Input → ℕ → Type 0
-ByRule size n i at = (n ≡ 20) × (i ≡ inEntry) × (at < size)
+ByRule size n i at = (n ≡ 20) × (i ≡ in_entry) × (at < size)
 
-same_refusal : (size m to n : ℕ) (i : Input) (at : ℕ) {A : Type 0} → to < size → m ≡ 20 → ◌≡◌ {A = Answer A} (refused m inEntry to) (refused n i at)
+same_refusal : (size m to n : ℕ) (i : Input) (at : ℕ) {A : Type 0} → to < size → m ≡ 20 → ◌≡◌ {A = Answer A} (refused m in_entry to) (refused n i at)
     → ByRule size n i at
 same_refusal size m to n i at inside twenty e =
     let number : m ≡ n = cc in
-    let input : inEntry ≡ i = cc in
+    let input : in_entry ≡ i = cc in
     let place : to ≡ at = cc in
     (sym number ∙ twenty, sym input, omega (arith, inside, place))
 
@@ -36,7 +36,7 @@ module _ (ks : List Key) (entry : List ℕ) where
       go (asked (get_elem? ks k) (λ key. match_ok key (match_at entry k))) e
       (λ later. rules_refuse size n (suc k) (omega (arith, room)) m i at later)
     where
-      go : (b : Bool) → (require b 20 inEntry (head_size + k * match_size) >>= λ _. in_turn (rule_test ks entry) (suc k) n) ≡ refused m i at
+      go : (b : Bool) → (require b 20 in_entry (head_size + k * match_size) >>= λ _. in_turn (rule_test ks entry) (suc k) n) ≡ refused m i at
           → (in_turn (rule_test ks entry) (suc k) n ≡ refused m i at → ByRule size m i at) → ByRule size m i at
       go true e later = later e
       go false e later = same_refusal size 20 (head_size + k * match_size) m i at (omega (arith, room)) refl e
@@ -51,7 +51,7 @@ module _ (ks : List Key) (entry : List ℕ) where
       all = record { priority = priority_of entry; matches = matches_from entry 0 ks }
 
       go : (b : Bool) (x : Answer (Unit {0})) → in_turn (rule_test ks entry) 0 (length ks) ≡ x
-          → (require b 20 inEntry 0 >>= λ _. x >>= λ _. ok all) ≡ refused m i at → ByRule (entry_size ks) m i at
+          → (require b 20 in_entry 0 >>= λ _. x >>= λ _. ok all) ≡ refused m i at → ByRule (entry_size ks) m i at
       go false x there e = same_refusal (entry_size ks) 20 0 m i at (some_size ks) refl e
       go true (ok u) there e = absurd (never_ok (sym e))
       go true (refused n j to) there e =

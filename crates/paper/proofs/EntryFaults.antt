@@ -8,7 +8,7 @@ use mathlib.Core.List.{List, [], ◌∷◌}
 use lib.ListN.{length, get_elem?}
 use lib.Dec.{eqb, leb, ltb}
 use borrow.Author.Tests.{eqb-true, eqb-false, leb-true, leb-false, ltb-false, le-ltb}
-use Rattle.paper.specs.Answers.{Answer, ok, ◌>>=◌, require, in_turn, inEntry, inBuffer}
+use Rattle.paper.specs.Answers.{Answer, ok, ◌>>=◌, require, in_turn, in_entry, in_buffer}
 use Rattle.paper.specs.Keys.{Key, keys}
 use Rattle.paper.specs.Entry.{Entry, head_size, match_size, match_at, match_ok, matches_from, asked, priority_of, rule_test, entry_of}
 use Rattle.paper.specs.Counting.{entry_size, whole_in, cut_in, most_entries, few_entries}
@@ -32,9 +32,9 @@ module _ (ks : List Key) (entry : List ℕ) where
   size_only : (m to : ℕ) → EntrySize ks entry m to → (m ≡ 19) × (to ≡ length entry)
   size_only m to (entry_wrong d) = (refl, refl)
 
-  size_tells : Tells inEntry (EntrySize ks entry) (require sized 19 inEntry (length entry))
+  size_tells : Tells in_entry (EntrySize ks entry) (require sized 19 in_entry (length entry))
   size_tells =
-      test_tells (EntrySize ks entry) sized 19 inEntry (length entry) size_free
+      test_tells (EntrySize ks entry) sized 19 in_entry (length entry) size_free
       (λ h. entry_wrong (eqb-false (length entry) (head_size + match_size * length ks) h)) size_only
 
   -- the priority, and then the records
@@ -48,7 +48,7 @@ module _ (ks : List Key) (entry : List ℕ) where
   right (suc k) = asked (get_elem? ks k) (λ x. match_ok x (match_at entry k))
 
   abbrev part_test : ℕ → Answer (Unit {0})
-  part_test k = require (right k) 20 inEntry (place k)
+  part_test k = require (right k) 20 in_entry (place k)
 
   -- the records are the parts after the first
   rules_tests : (n k : ℕ) → in_turn (rule_test ks entry) k n ≡ in_turn part_test (suc k) n
@@ -91,38 +91,38 @@ module _ (ks : List Key) (entry : List ℕ) where
   only n at (priority_broken h) = refl
   only n at (match_broken k x e h) = refl
 
-  rules_tell : Tells inEntry (EntryRules ks entry) (in_turn part_test 0 (suc (length ks)))
+  rules_tell : Tells in_entry (EntryRules ks entry) (in_turn part_test 0 (suc (length ks)))
   rules_tell =
-      tests_tell inEntry (EntryRules ks entry) (suc (length ks)) place indexed part_test
+      tests_tell in_entry (EntryRules ks entry) (suc (length ks)) place indexed part_test
       (λ k l.
-      test_tells_at inEntry (EntryRules ks entry) (suc (length ks)) place indexed k 20 (right k)
+      test_tells_at in_entry (EntryRules ks entry) (suc (length ks)) place indexed k 20 (right k)
       (λ good n h. true≢false (sym good ∙ broken_at k n h)) (fault_at k l) only)
 
-  rules_stage : (require (ltb (priority_of entry) (2 ^ 31)) 20 inEntry 0 >>= λ _. in_turn (rule_test ks entry) 0 (length ks))
+  rules_stage : (require (ltb (priority_of entry) (2 ^ 31)) 20 in_entry 0 >>= λ _. in_turn (rule_test ks entry) 0 (length ks))
       ≡ in_turn part_test 0 (suc (length ks))
   rules_stage =
-      ap (λ (later : Answer (Unit {0})). require (ltb (priority_of entry) (2 ^ 31)) 20 inEntry 0 >>= λ _. later) (rules_tests (length ks) 0)
+      ap (λ (later : Answer (Unit {0})). require (ltb (priority_of entry) (2 ^ 31)) 20 in_entry 0 >>= λ _. later) (rules_tests (length ks) 0)
 
 -- of the keys of a list
 pub entry_follows : (list : List ℕ) (ks : List Key) (entry : List ℕ) → keys list ≡ ok ks
     → Follows (entry_stages list entry) (entry_of ks entry)
 unfolding entry_of
 entry_follows list ks entry listed =
-    let size = require (sized ks entry) 19 inEntry (length entry) in
-    let high = require (ltb (priority_of entry) (2 ^ 31)) 20 inEntry 0 in
+    let size = require (sized ks entry) 19 in_entry (length entry) in
+    let high = require (ltb (priority_of entry) (2 ^ 31)) 20 in_entry 0 in
     let each = in_turn (rule_test ks entry) 0 (length ks) in
     let rules = high >>= λ _. each in
     let e : Entry = record { priority = priority_of entry; matches = matches_from entry 0 ks } in
-    let told : Tells inEntry (EntryRules ks entry) rules = rw (rules_stage ks entry) (rules_tell ks entry) in
-    let one = given_tells (keys list) ks listed (λ ks. EntrySize ks entry) inEntry size (size_tells ks entry) in
-    let two = given_tells (keys list) ks listed (λ ks. EntryRules ks entry) inEntry rules told in
-    let last = stage inEntry (Given (keys list) (λ ks. EntryRules ks entry)) ∷ [] in
-    follows_then (stage inEntry (Given (keys list) (λ ks. EntrySize ks entry)) ∷ []) last size
+    let told : Tells in_entry (EntryRules ks entry) rules = rw (rules_stage ks entry) (rules_tell ks entry) in
+    let one = given_tells (keys list) ks listed (λ ks. EntrySize ks entry) in_entry size (size_tells ks entry) in
+    let two = given_tells (keys list) ks listed (λ ks. EntryRules ks entry) in_entry rules told in
+    let last = stage in_entry (Given (keys list) (λ ks. EntryRules ks entry)) ∷ [] in
+    follows_then (stage in_entry (Given (keys list) (λ ks. EntrySize ks entry)) ∷ []) last size
     (λ _. high >>= λ _. each >>= λ _. ok e)
-    (follows_one inEntry (Given (keys list) (λ ks. EntrySize ks entry)) size one)
+    (follows_one in_entry (Given (keys list) (λ ks. EntrySize ks entry)) size one)
     (λ _ _.
     subst (λ (a : Answer Entry). Follows last a) (bind_again high (λ _. each) (λ _. ok e))
-    (follows_as last rules (λ _. e) (follows_one inEntry (Given (keys list) (λ ks. EntryRules ks entry)) rules two)))
+    (follows_as last rules (λ _. e) (follows_one in_entry (Given (keys list) (λ ks. EntryRules ks entry)) rules two)))
 
 -- many: their number
 
@@ -136,17 +136,17 @@ module _ (ks : List Key) (entries : List ℕ) where
   many_only : (m to : ℕ) → EntriesMany ks entries m to → (m ≡ 25) × (to ≡ most_entries * entry_size ks)
   many_only m to (entries_over l) = (refl, refl)
 
-  many_tells : Tells inEntry (EntriesMany ks entries) (few_entries ks entries)
+  many_tells : Tells in_entry (EntriesMany ks entries) (few_entries ks entries)
   many_tells =
-      test_tells (EntriesMany ks entries) few 25 inEntry (most_entries * entry_size ks) many_free
+      test_tells (EntriesMany ks entries) few 25 in_entry (most_entries * entry_size ks) many_free
       (λ h. entries_over (leb-false (whole_in ks entries) most_entries h)) many_only
 
 pub entries_follow : (list : List ℕ) (ks : List Key) (entries : List ℕ) → keys list ≡ ok ks
     → Follows (entries_stages list entries) (few_entries ks entries)
 entries_follow list ks entries listed =
     let many : List Key → Faults = λ ks. EntriesMany ks entries in
-    follows_one inEntry (Given (keys list) many) (few_entries ks entries)
-    (given_tells (keys list) ks listed many inEntry (few_entries ks entries) (many_tells ks entries))
+    follows_one in_entry (Given (keys list) many) (few_entries ks entries)
+    (given_tells (keys list) ks listed many in_entry (few_entries ks entries) (many_tells ks entries))
 
 -- many, with their answers: none is cut, and there is an answer for each
 
@@ -157,9 +157,9 @@ module _ (ks : List Key) (entries : List ℕ) where
   whole_only_lem : (m to : ℕ) → EntriesSize ks entries m to → (m ≡ 19) × (to ≡ length entries)
   whole_only_lem m to (entries_cut d) = (refl, refl)
 
-  whole_tells : Tells inEntry (EntriesSize ks entries) (whole_only ks entries)
+  whole_tells : Tells in_entry (EntriesSize ks entries) (whole_only ks entries)
   whole_tells =
-      test_tells (EntriesSize ks entries) (eqb (cut_in ks entries) 0) 19 inEntry (length entries) whole_free
+      test_tells (EntriesSize ks entries) (eqb (cut_in ks entries) 0) 19 in_entry (length entries) whole_free
       (λ h. entries_cut (eqb-false (cut_in ks entries) 0 h)) whole_only_lem
 
   module _ (answers : List ℕ) where
@@ -172,9 +172,9 @@ module _ (ks : List Key) (entries : List ℕ) where
     answers_only : (m to : ℕ) → AnswersSize ks entries answers m to → (m ≡ 15) × (to ≡ length answers)
     answers_only m to (answers_few l) = (refl, refl)
 
-    answers_tell : Tells inBuffer (AnswersSize ks entries answers) (answers_fit ks entries answers)
+    answers_tell : Tells in_buffer (AnswersSize ks entries answers) (answers_fit ks entries answers)
     answers_tell =
-        test_tells (AnswersSize ks entries answers) enough 15 inBuffer (length answers) answers_free
+        test_tells (AnswersSize ks entries answers) enough 15 in_buffer (length answers) answers_free
         (λ h. answers_few (leb-false (whole_in ks entries) (length answers) h)) answers_only
 
 -- whatever is answered where both pass
@@ -183,11 +183,11 @@ pub table_follows : {A : Type 0} (list : List ℕ) (ks : List Key) (entries answ
 table_follows list ks entries answers v listed =
     let size : List Key → Faults = λ ks. EntriesSize ks entries in
     let room : List Key → Faults = λ ks. AnswersSize ks entries answers in
-    let last = stage inBuffer (Given (keys list) room) ∷ [] in
-    let one = given_tells (keys list) ks listed size inEntry (whole_only ks entries) (whole_tells ks entries) in
-    let two = given_tells (keys list) ks listed room inBuffer (answers_fit ks entries answers) (answers_tell ks entries answers) in
-    follows_then (stage inEntry (Given (keys list) size) ∷ []) last (whole_only ks entries) (λ _. answers_fit ks entries answers >>= λ _. ok v)
-    (follows_one inEntry (Given (keys list) size) (whole_only ks entries) one)
+    let last = stage in_buffer (Given (keys list) room) ∷ [] in
+    let one = given_tells (keys list) ks listed size in_entry (whole_only ks entries) (whole_tells ks entries) in
+    let two = given_tells (keys list) ks listed room in_buffer (answers_fit ks entries answers) (answers_tell ks entries answers) in
+    follows_then (stage in_entry (Given (keys list) size) ∷ []) last (whole_only ks entries) (λ _. answers_fit ks entries answers >>= λ _. ok v)
+    (follows_one in_entry (Given (keys list) size) (whole_only ks entries) one)
     (λ _ _.
     follows_as last (answers_fit ks entries answers) (λ _. v)
-    (follows_one inBuffer (Given (keys list) room) (answers_fit ks entries answers) two))
+    (follows_one in_buffer (Given (keys list) room) (answers_fit ks entries answers) two))

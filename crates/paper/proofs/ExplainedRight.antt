@@ -11,7 +11,7 @@ use mathlib.Core.List.{List, [], ◌∷◌, ◌++◌}
 use lib.ListN.{length, get_elem?}
 use lib.Dec.{eqb, leb}
 use borrow.Author.Tests.{eqb-true, eq-eqb, leb-true, le-leb}
-use Rattle.paper.specs.Answers.{Input, inEntry, Answer, ok, refused, ◌>>=◌}
+use Rattle.paper.specs.Answers.{Input, in_entry, Answer, ok, refused, ◌>>=◌}
 use Rattle.paper.specs.Tokens.{Token}
 use Rattle.paper.specs.Keys.{Key, keys}
 use Rattle.paper.specs.Entry.{Entry, head_size, entry_of}
@@ -225,7 +225,7 @@ module _ (text list entry : List ℕ) where
 
   module _ (n : ℕ) (i : Input) (at : ℕ) (judged : judge_answer text list entry ≡ refused n i at) where
     -- where 20 stands, if not at the priority
-    record_named : is_record n at ≡ true → (k : ℕ) × (at ≡ record_place k) × (judge_answer text list entry ≡ refused 20 inEntry (record_place k))
+    record_named : is_record n at ≡ true → (k : ℕ) × (at ≡ record_place k) × (judge_answer text list entry ≡ refused 20 in_entry (record_place k))
     record_named e =
         let (twenty, after) = (and-eq-true_iff (eqb n 20) (leb head_size at)).0 e in
         let number = eqb-true n 20 twenty in
@@ -233,10 +233,10 @@ module _ (text list entry : List ℕ) where
         let (input, place) = records_refused text list entry i at given in
         go (leb-true head_size at after) (given ∙ ap (λ (j : Input). refused 20 j at) input) place
       where
-        go : head_size ≤ at → judge_answer text list entry ≡ refused 20 inEntry at → (at ≡ 0) ⊎ KeyRecord list at
-            → (k : ℕ) × (at ≡ record_place k) × (judge_answer text list entry ≡ refused 20 inEntry (record_place k))
+        go : head_size ≤ at → judge_answer text list entry ≡ refused 20 in_entry at → (at ≡ 0) ⊎ KeyRecord list at
+            → (k : ℕ) × (at ≡ record_place k) × (judge_answer text list entry ≡ refused 20 in_entry (record_place k))
         go after given (inl zeroth) = absurd (omega arith)
-        go after given (inr k) = (k.index, k.place, given ∙ ap (refused 20 inEntry) k.place)
+        go after given (inr k) = (k.index, k.place, given ∙ ap (refused 20 in_entry) k.place)
 
     no_record : is_record n at ≡ false → NothingToShow (refused n i at)
     no_record e =
@@ -288,7 +288,7 @@ module _ (text list entry : List ℕ) where
   not_violated a j h accepted = true≢false (ok_same true false (sym h ∙ j))
   not_violated a j h (other_refusal n i at none_there) = never_ok (sym h ∙ j)
 
-  not_at_record : (a : Answer Bool) (k : ℕ) → judge_answer text list entry ≡ refused 20 inEntry (record_place k)
+  not_at_record : (a : Answer Bool) (k : ℕ) → judge_answer text list entry ≡ refused 20 in_entry (record_place k)
       → judge_answer text list entry ≡ a → ¬ NothingToShow a
   not_at_record a k j h accepted = never_ok (sym j ∙ h)
   not_at_record a k j h (other_refusal n i at none_there) =
@@ -325,7 +325,7 @@ module _ (text list entry : List ℕ) where
       record { stretch = part.stretch; from = part.from; to = part.to }
 
   key_piece : (at k : ℕ) (s : Stretch) → Explains text list entry (at_key at k s) → PieceOfList list k s
-  key_piece at k s (names_key l j) = go (records_refused text list entry inEntry (record_place k) j).1
+  key_piece at k s (names_key l j) = go (records_refused text list entry in_entry (record_place k) j).1
     where
       go : (record_place k ≡ 0) ⊎ KeyRecord list (record_place k) → PieceOfList list k (name_stretch list k)
       go (inl zeroth) = absurd (omega arith)

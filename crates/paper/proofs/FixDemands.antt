@@ -10,7 +10,7 @@ use lib.Dec.{leb}
 use borrow.Author.Tests.{leb-true, le-leb}
 use Rattle.paper.specs.declared.Place.{Place}
 use Rattle.paper.specs.declared.Fixing.TheVariants as F
-use Rattle.paper.specs.Answers.{InText, ok, ◌>>=◌, input_of, offset_of}
+use Rattle.paper.specs.Answers.{in_text, ok, ◌>>=◌, input_of, offset_of}
 use Rattle.paper.specs.Tokens.{most_text}
 use Rattle.paper.specs.Calls.{sized, lends, laid}
 use Rattle.paper.specs.Fixing.{old_tokens, fixed, fixable, fix_answer, fix_buffer, fixing_says}
@@ -41,7 +41,7 @@ module _ (text buffer : List ℕ) where
       let (u, small, more) = bind_ok (sized text) (λ _. old_tokens text >>= λ _. lends (fixed text) buffer) s (sym fixable_is ∙ passed) in
       let (ts, cut, rest) = bind_ok (old_tokens text) (λ _. lends (fixed text) buffer) s more in
       let l = lends_has (fixed text) buffer s rest in
-      let few = require_ok (leb (length text) most_text) 1 InText most_text u small in
+      let few = require_ok (leb (length text) most_text) 1 in_text most_text u small in
       let same : length s ≡ n = ok_same (length s) n last in
       record {
         short = leb-true (length text) most_text few;

@@ -15,8 +15,8 @@ use borrow.Author.Tests.{le-leb, leb-true, eq-eqb, eqb-true}
 use Rattle.paper.specs.Numbers.{byte_at, bytes_at, number_at, big_endian}
 use Rattle.paper.specs.Tokens.{equal, unequal, greater, at_least, less, at_most}
 use Rattle.paper.specs.Keys.{exact, ternary, lpm, range, optional}
-use Rattle.paper.specs.Types.{when, and_then, value, mask, prefixLength, low, high}
-use Rattle.paper.specs.Meaning.{both, either, ifThen}
+use Rattle.paper.specs.Types.{when, and_then, value, mask, prefix_length, low, high}
+use Rattle.paper.specs.Meaning.{both, either, if_then}
 use Rattle.paper.specs.Code.{Instruction, push_bool, push_int, push_key, push_field, push_priority, invert, negate, convert, compare, connects, skip, Parts, bit, first_byte, parts_of, instruction_size, encode, parts_at, instruction_named, same_parts, in_range, decode}
 use Rattle.paper.specs.Blocks.{encode_all}
 use Rattle.paper.specs.BlocksRoundTrip.{InRange, PartsBack, BytesBack, PartsAgain, WrittenAgain, BytesAgain}
@@ -32,7 +32,7 @@ named_back (push_int n) = refl
 named_back (push_key k) = refl
 named_back (push_field value k) = refl
 named_back (push_field mask k) = refl
-named_back (push_field prefixLength k) = refl
+named_back (push_field prefix_length k) = refl
 named_back (push_field low k) = refl
 named_back (push_field high k) = refl
 named_back push_priority = refl
@@ -51,7 +51,7 @@ named_back (compare less) = refl
 named_back (compare at_most) = refl
 named_back (connects both) = refl
 named_back (connects either) = refl
-named_back (connects ifThen) = refl
+named_back (connects if_then) = refl
 named_back (skip s) = skip_back s.on s.to s.over
   where
     skip_back : (on to : Bool) (over : ℕ)
@@ -103,7 +103,7 @@ small_parts left (convert k w) h = record { operand = omega arith; constant = li
 small_parts left (compare c) h = record { operand = lit< tt; constant = lit< tt }
 small_parts left (connects both) h = record { operand = lit< tt; constant = lit< tt }
 small_parts left (connects either) h = record { operand = lit< tt; constant = lit< tt }
-small_parts left (connects ifThen) h = record { operand = lit< tt; constant = lit< tt }
+small_parts left (connects if_then) h = record { operand = lit< tt; constant = lit< tt }
 small_parts left (skip s) h = record { operand = h.2; constant = first_small s.to }
 
 parts_there : (i : Instruction) → PartsSmall (parts_of i) → (s rest : List ℕ) (at : ℕ) → drop at s ≡ encode i ++ rest → parts_at s at ≡ parts_of i

@@ -7,7 +7,7 @@ use mathlib.Core.List.{List}
 use lib.ListN.{length}
 use lib.Dec.{eqb, ltb, leb}
 use borrow.Author.Tests.{eqb-true, ltb-true, leb-true}
-use Rattle.paper.specs.Answers.{ok, ◌>>=◌, require, in_turn, InList}
+use Rattle.paper.specs.Answers.{ok, ◌>>=◌, require, in_turn, in_list}
 use Rattle.paper.specs.Numbers.{byte_at}
 use Rattle.paper.specs.Keys.{Key, most_keys, record_size, records_in, record_at, record_ok, is_new, keys_from, RecordRule, record_test, keys_by, layout_rule, keys}
 use Rattle.paper.specs.Pact.{most_indices}
@@ -35,15 +35,15 @@ narrow_record r h = (leb-true 1 (byte_at r 2) (low (leb 1 (byte_at r 2)) refl), 
 pub rule_kept : (rule : RecordRule) (list : List ℕ) (k : ℕ) → record_test rule list k ≡ ok tt → rule k (record_at list k) ≡ true
 rule_kept rule list k h =
     let good = rule k (record_at list k) in
-    let (u, passed, _) = bind_ok (require good 3 InList (k * record_size)) (λ _. require (is_new list k) 4 InList (k * record_size)) tt h in
-    require_ok good 3 InList (k * record_size) u passed
+    let (u, passed, _) = bind_ok (require good 3 in_list (k * record_size)) (λ _. require (is_new list k) 4 in_list (k * record_size)) tt h in
+    require_ok good 3 in_list (k * record_size) u passed
 
 -- and passes that of another rule which it keeps
 test_by : (rule other : RecordRule) (list : List ℕ) (k : ℕ) → record_test rule list k ≡ ok tt → other k (record_at list k) ≡ true
     → record_test other list k ≡ ok tt
 test_by rule other list k h kept =
     let good = rule k (record_at list k) in
-    let (_, _, new) = bind_ok (require good 3 InList (k * record_size)) (λ _. require (is_new list k) 4 InList (k * record_size)) tt h in
+    let (_, _, new) = bind_ok (require good 3 in_list (k * record_size)) (λ _. require (is_new list k) 4 in_list (k * record_size)) tt h in
     rw kept new
 
 -- a list that passes by a rule: its length fits, each record passes its test, and its keys are those of its records
@@ -60,10 +60,10 @@ pub list_passed : (rule : RecordRule) (list : List ℕ) (ks : List Key) → keys
 list_passed rule list ks h =
     let n = records_in list in
     let tests = in_turn (record_test rule list) 0 n in
-    let (u, sized, more) = bind_ok (require (fits list) 2 InList (length list)) (λ _. tests >>= λ _. ok (keys_from list 0 n)) ks h in
+    let (u, sized, more) = bind_ok (require (fits list) 2 in_list (length list)) (λ _. tests >>= λ _. ok (keys_from list 0 n)) ks h in
     let (_, passed, last) = bind_ok tests (λ _. ok (keys_from list 0 n)) ks more in
     record {
-      sized = require_ok (fits list) 2 InList (length list) u sized;
+      sized = require_ok (fits list) 2 in_list (length list) u sized;
       each = each_passes (record_test rule list) n passed;
       same = ok_same (keys_from list 0 n) ks last;
     }

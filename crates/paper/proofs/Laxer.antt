@@ -7,7 +7,7 @@ use mathlib.Core.Option.{Option, none, some}
 use mathlib.Core.List.{List, [], ◌∷◌}
 use lib.ListN.{length}
 use native.Mathlib.Omega.{arith}
-use Rattle.paper.specs.Tokens.{plain, bytes, same_bytes, Sign, join, comparison, prefix, opening, closing, colons, Tok, word, numeral, string, sign, Token, sequel, implies, or_else, andAlso}
+use Rattle.paper.specs.Tokens.{plain, bytes, same_bytes, Sign, join, comparison, prefix, opening, closing, colons, Tok, word, numeral, string, sign, Token, sequel, implies, or_else, and_also}
 use Rattle.paper.specs.Addresses.{Scheme, scheme_of}
 use Rattle.paper.specs.Grammar.{Tree, number, key, field, truth, attribute, got, stuck, Out, ends, deep, bad, ◌>>>◌, Parser, Make, Reader, once_with, once_more, once, after_operator, more_with, more, chain, joins, compares, implication, sequence, is_sign, closed, named, address_with, address_at, addressed, opens_address, keyed, worded, signed, operand_at, operand, prefixes, finished, whole}
 
@@ -79,7 +79,7 @@ module _ (Nine Ten : Type 0) where
     sequence_keeps last =
         chain_keeps (joins sequel)
         (once_keeps (joins implies)
-        (chain_keeps (joins or_else) (chain_keeps (joins andAlso) (once_keeps compares kept) false) false)) last
+        (chain_keeps (joins or_else) (chain_keeps (joins and_also) (once_keeps compares kept) false) false)) last
 
   module _ (read read' : Reader) (some-kept : (s : Scheme) (q : List ℕ) (n : ℕ) → read s q ≡ some n → read' s q ≡ some n)
       (none_kept : Ten → (s : Scheme) (q : List ℕ) → read s q ≡ none → read' s q ≡ none) where

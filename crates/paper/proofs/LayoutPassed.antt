@@ -10,7 +10,7 @@ use lib.ListN.{length, take, drop}
 use lib.Seq.{get_or-take, get_or-drop}
 use lib.Dec.{eqb, ltb, leb}
 use borrow.Author.Tests.{eqb-true, leb-true, ltb-true, eq-eqb, le-leb, lt-ltb}
-use Rattle.paper.specs.Answers.{Answer, ok, refused, ◌>>=◌, require, in_turn, inBlocks}
+use Rattle.paper.specs.Answers.{Answer, ok, refused, ◌>>=◌, require, in_turn, in_blocks}
 use Rattle.paper.specs.Numbers.{byte_at, bytes_at, number_at}
 use Rattle.paper.specs.Tokens.{same_bytes}
 use Rattle.paper.specs.Keys.{all_zero, keys}
@@ -82,7 +82,7 @@ module _ (keys : ℕ) (blocks : List ℕ) where
 
   pub each_block : in_turn (block_test keys blocks) 0 (blocks_in blocks) ≡ ok tt → EachPasses
   each_block h k l =
-      require_ok (block_ok keys blocks k) 17 inBlocks (k * block_size) tt (each_passes (block_test keys blocks) (blocks_in blocks) h k l)
+      require_ok (block_ok keys blocks k) 17 in_blocks (k * block_size) tt (each_passes (block_test keys blocks) (blocks_in blocks) h k l)
 
   module _ (each : EachPasses) where
     -- fewer blocks count fewer instructions
@@ -106,7 +106,7 @@ module _ (keys : ℕ) (blocks : List ℕ) where
 -- where a block fails, it or an earlier one is refused
 pub record RefusedBy (x : Answer (Unit {0})) (k : ℕ) : Type 0 where
   pub block : ℕ
-  pub refuses : x ≡ refused 17 inBlocks (block * block_size)
+  pub refuses : x ≡ refused 17 in_blocks (block * block_size)
   pub upto : block ≤ k
 
 pub first_refused : (keys : ℕ) (blocks : List ℕ) (k : ℕ) → block_ok keys blocks k ≡ false → (n a : ℕ) → a ≤ k → k < a + n
@@ -115,7 +115,7 @@ first_refused keys blocks k fails zero a l m = absurd (omega arith)
 first_refused keys blocks k fails (suc n) a l m = go (block_ok keys blocks a) refl (first_refused keys blocks k fails n (suc a))
   where
     go : (b : Bool) → block_ok keys blocks a ≡ b → (suc a ≤ k → k < suc a + n → RefusedBy (in_turn (block_test keys blocks) (suc a) n) k)
-        → RefusedBy (require b 17 inBlocks (a * block_size) >>= λ _. in_turn (block_test keys blocks) (suc a) n) k
+        → RefusedBy (require b 17 in_blocks (a * block_size) >>= λ _. in_turn (block_test keys blocks) (suc a) n) k
     go false e later = record { block = a; refuses = refl; upto = l }
     go true e later =
         let before : a ≢ k = λ h. true≢false (sym e ∙ ap (block_ok keys blocks) h ∙ fails) in
@@ -145,8 +145,8 @@ laid keys blocks h =
     let a1 = ltb 0 size in
     let a2 = eqb (size % block_size) 0 in
     let a3 = leb size (most_blocks * block_size) in
-    let b = bind_ok (require (a1 && a2 && a3) 16 inBlocks size) (λ _. in_turn (block_test keys blocks) 0 (blocks_in blocks)) tt h in
-    let r = (and-eq-true_iff (a1 && a2) a3).0 (require_ok (a1 && a2 && a3) 16 inBlocks size b.0 b.1) in
+    let b = bind_ok (require (a1 && a2 && a3) 16 in_blocks size) (λ _. in_turn (block_test keys blocks) 0 (blocks_in blocks)) tt h in
+    let r = (and-eq-true_iff (a1 && a2) a3).0 (require_ok (a1 && a2 && a3) 16 in_blocks size b.0 b.1) in
     let q = (and-eq-true_iff a1 a2).0 r.0 in
     record {
       long = ltb-true 0 size q.0;

@@ -6,7 +6,7 @@ use mathlib.Core.List.{List}
 use lib.ListN.{length}
 use lib.Dec.{leb}
 use borrow.Author.Tests.{le-leb}
-use Rattle.paper.specs.Answers.{Input, inBuffer, Answer, ok, refused, ◌>>=◌, require}
+use Rattle.paper.specs.Answers.{Input, in_buffer, Answer, ok, refused, ◌>>=◌, require}
 use Rattle.paper.specs.Tokens.{most_text}
 use Rattle.paper.specs.Calls.{lends, laid}
 use Rattle.paper.proofs.Stages.{never_ok, ok_same, bind_ok, require_ok}
@@ -21,9 +21,9 @@ module _ (new buffer : List ℕ) where
   lends_has s e =
       let low = leb (length new) most_text in
       let fits = leb (length new) (length buffer) in
-      let (u, passed, last) = bind_ok (require (low && fits) 21 inBuffer (length buffer)) (λ _. ok new) s e in
+      let (u, passed, last) = bind_ok (require (low && fits) 21 in_buffer (length buffer)) (λ _. ok new) s e in
       let same : new ≡ s = ok_same new s last in
-      let both : low && fits ≡ true = require_ok (low && fits) 21 inBuffer (length buffer) u passed in
+      let both : low && fits ≡ true = require_ok (low && fits) 21 in_buffer (length buffer) u passed in
       record {
         same = same;
         short = subst (λ x. leb (length x) most_text ≡ true) same ((and-eq-true_iff low fits).0 both).0;

@@ -7,7 +7,7 @@ use mathlib.Core.List.{List}
 use lib.ListN.{length}
 use lib.Dec.{leb}
 use borrow.Author.Tests.{leb-true, leb-false}
-use Rattle.paper.specs.Answers.{require, inBuffer}
+use Rattle.paper.specs.Answers.{require, in_buffer}
 use Rattle.paper.specs.Tokens.{most_text, most_tokens}
 use Rattle.paper.specs.Grammar.{Tree, most_levels}
 use Rattle.paper.specs.Sized.{levels, count}
@@ -31,10 +31,10 @@ module _ (new buffer : List ℕ) where
   lending_only m to (over_limit l) = (refl, refl)
   lending_only m to (over_buffer l) = (refl, refl)
 
-  pub lending_tells : Tells inBuffer (LendingSize new buffer) (lends new buffer)
+  pub lending_tells : Tells in_buffer (LendingSize new buffer) (lends new buffer)
   lending_tells =
-      tells_as inBuffer (LendingSize new buffer) (require (low && fits) 21 inBuffer (length buffer)) (λ _. new)
-      (two_tests_tell (LendingSize new buffer) low fits 21 inBuffer (length buffer) lending_free
+      tells_as in_buffer (LendingSize new buffer) (require (low && fits) 21 in_buffer (length buffer)) (λ _. new)
+      (two_tests_tell (LendingSize new buffer) low fits 21 in_buffer (length buffer) lending_free
       (λ e. over_limit (leb-false (length new) most_text e)) (λ e. over_buffer (leb-false (length new) (length buffer) e)) lending_only)
 
 module _ (t : Tree) (buffer : List ℕ) where
@@ -52,7 +52,7 @@ module _ (t : Tree) (buffer : List ℕ) where
   limits_only m to (tokens_many l) = (refl, refl)
   limits_only m to (levels_many l) = (refl, refl)
 
-  pub limits_tell : Tells inBuffer (TextLimits t buffer) (require (few && shallow) 21 inBuffer (length buffer))
+  pub limits_tell : Tells in_buffer (TextLimits t buffer) (require (few && shallow) 21 in_buffer (length buffer))
   limits_tell =
-      two_tests_tell (TextLimits t buffer) few shallow 21 inBuffer (length buffer) limits_free
+      two_tests_tell (TextLimits t buffer) few shallow 21 in_buffer (length buffer) limits_free
       (λ e. tokens_many (leb-false (count t) most_tokens e)) (λ e. levels_many (leb-false (levels t) most_levels e)) limits_only

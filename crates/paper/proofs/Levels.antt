@@ -5,7 +5,7 @@ use mathlib.Core.Path.{◌≡◌, refl, ap, subst, fun_ext, ◌∙◌}
 use mathlib.Core.Bool.{true, false}
 use mathlib.Core.Option.{Option}
 use mathlib.Core.List.{List, [], ◌∷◌, ◌++◌, append-nil}
-use Rattle.paper.specs.Tokens.{plain, Join, sequel, implies, or_else, andAlso, Comparison, join, comparison, closing, Token}
+use Rattle.paper.specs.Tokens.{plain, Join, sequel, implies, or_else, and_also, Comparison, join, comparison, closing, Token}
 use Rattle.paper.specs.Grammar.{Tree, got, stuck, Out, ends, deep, bad, ◌>>>◌, Parser, Make, Reader, once, chain, joins, compares, implication, sequence, prefixes, finished, whole}
 use Rattle.paper.specs.Sentences.{sign_at, Operator, Joining, joining, Comparing, comparing, Once, Chain, none_of, first, Operand, a_numeral, Implication, Sequence, Prefixed, Whole, lenient}
 use Rattle.paper.proofs.ParserTakes.{of_end, of_next, Kind, exact, deeper, laxer, Family, Says, Tells, stays, bind}
@@ -47,7 +47,7 @@ comparing_is P h u make (comparing at c) = h at c
 -- what may follow an implication, and a sequence in parentheses
 
 abbrev AfterImplication : Token → Type 0
-AfterImplication = Past (Past (Past (Past AfterAtom compares) (joins andAlso)) (joins or_else)) (joins implies)
+AfterImplication = Past (Past (Past (Past AfterAtom compares) (joins and_also)) (joins or_else)) (joins implies)
 
 abbrev AfterSequence : Token → Type 0
 AfterSequence = Past AfterImplication (joins sequel)
@@ -61,7 +61,7 @@ module _ {p : Parser} {S : Family} (reads : Reads p S AfterAtom) where
   implication_reads =
       once_reads (joins_finds implies) (joining_is _ λ at. (((refl, refl), refl), refl))
       (chain_reads (joins_finds or_else) (joining_is _ λ at. ((refl, refl), refl))
-      (chain_reads (joins_finds andAlso) (joining_is _ λ at. (refl, refl))
+      (chain_reads (joins_finds and_also) (joining_is _ λ at. (refl, refl))
       (once_reads compares_finds (comparing_is _ λ at c. refl) reads)))
 
   before_sequel : (u : Token) (make : Make) → Joining sequel u make → AfterImplication u

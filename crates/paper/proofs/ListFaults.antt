@@ -10,7 +10,7 @@ use mathlib.Core.List.{List, [], ◌∷◌}
 use lib.ListN.{length}
 use lib.Dec.{eqb, leb}
 use borrow.Author.Tests.{eqb-true, eqb-false, leb-true, leb-false}
-use Rattle.paper.specs.Answers.{ok, ◌>>=◌, require, in_turn, InList}
+use Rattle.paper.specs.Answers.{ok, ◌>>=◌, require, in_turn, in_list}
 use Rattle.paper.specs.Tokens.{same_bytes}
 use Rattle.paper.specs.Keys.{record_size, most_keys, record_at, records_in, name_of, find_from, keys_from, is_none, is_new, RecordRule, record_test, keys_by, layout_rule, keys}
 use Rattle.paper.specs.Faults.{ListSize, list_uneven, list_over, ListRecords, record_broken, name_repeated}
@@ -36,9 +36,9 @@ module _ (list : List ℕ) where
   size_only m to (list_uneven d) = (refl, refl)
   size_only m to (list_over l) = (refl, refl)
 
-  size_tells : Tells InList (ListSize list) (require (even && few) 2 InList (length list))
+  size_tells : Tells in_list (ListSize list) (require (even && few) 2 in_list (length list))
   size_tells =
-      two_tests_tell (ListSize list) even few 2 InList (length list) size_free
+      two_tests_tell (ListSize list) even few 2 in_list (length list) size_free
       (λ e. list_uneven (eqb-false (length list % record_size) 0 e)) (λ e. list_over (leb-false (length list) (most_keys * record_size) e)) size_only
 
 -- the names before a record
@@ -116,33 +116,33 @@ module _ (rule : RecordRule) (list : List ℕ) where
   least_good k m good (inr (e, again)) = omega (arith, e)
 
   record_tells : (k : ℕ) → k < records_in list
-      → TellsAt InList (ListRecords rule list) (records_in list) (λ k. k * record_size) indexed k (record_test rule list k)
+      → TellsAt in_list (ListRecords rule list) (records_in list) (λ k. k * record_size) indexed k (record_test rule list k)
   record_tells k l = go (rule k (record_at list k)) (is_new list k) refl refl
     where
       here : (n : ℕ) → ListRecords rule list n (k * record_size) → FaultOf k n
       here n h = fault_of k n (k * record_size) h refl
 
       go : (b c : Bool) → rule k (record_at list k) ≡ b → is_new list k ≡ c
-          → TellsAt InList (ListRecords rule list) (records_in list) (λ k. k * record_size) indexed k (require b 3 InList (k * record_size) >>= λ _. require c 4 InList (k * record_size))
+          → TellsAt in_list (ListRecords rule list) (records_in list) (λ k. k * record_size) indexed k (require b 3 in_list (k * record_size) >>= λ _. require c 4 in_list (k * record_size))
       go true true good new = λ n h. no_fault k n good new (here n h)
       go true false good old =
           let (j, less, same) = repeats list k old in
           (refl, refl, name_repeated j k less l same, λ m h. least_good k m good (here m h))
       go false c bad _ = (refl, refl, record_broken k l bad, λ m h. least k m (here m h))
 
-  records_tell : Tells InList (ListRecords rule list) (in_turn (record_test rule list) 0 (records_in list))
-  records_tell = tests_tell InList (ListRecords rule list) (records_in list) (λ k. k * record_size) indexed (record_test rule list) record_tells
+  records_tell : Tells in_list (ListRecords rule list) (in_turn (record_test rule list) 0 (records_in list))
+  records_tell = tests_tell in_list (ListRecords rule list) (records_in list) (λ k. k * record_size) indexed (record_test rule list) record_tells
 
   pub list_follows_by : Follows (list_stages_by rule list) (keys_by rule list)
   list_follows_by =
-      let size = require (even list && few list) 2 InList (length list) in
+      let size = require (even list && few list) 2 in_list (length list) in
       let records = in_turn (record_test rule list) 0 (records_in list) in
       let all = keys_from list 0 (records_in list) in
-      let first : List Stage = stage InList (ListSize list) ∷ [] in
-      let last : List Stage = stage InList (ListRecords rule list) ∷ [] in
+      let first : List Stage = stage in_list (ListSize list) ∷ [] in
+      let last : List Stage = stage in_list (ListRecords rule list) ∷ [] in
       follows_then first last size (λ _. records >>= λ _. ok all)
-      (follows_one InList (ListSize list) size (size_tells list))
-      (λ _ _. follows_as last records (λ _. all) (follows_one InList (ListRecords rule list) records records_tell))
+      (follows_one in_list (ListSize list) size (size_tells list))
+      (λ _ _. follows_as last records (λ _. all) (follows_one in_list (ListRecords rule list) records records_tell))
 
 pub list_follows : (list : List ℕ) → Follows (list_stages list) (keys list)
 unfolding keys

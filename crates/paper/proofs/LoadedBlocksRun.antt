@@ -10,11 +10,11 @@ use mathlib.Core.Option.{Option, none, some, some-injective, none-ne-some}
 use mathlib.Core.List.{List, [], ◌∷◌, map}
 use lib.ListN.{length, take, get_elem?}
 use lib.Dec.{eqb, ltb}
-use Rattle.paper.specs.Answers.{Answer, ok, refused, ◌>>=◌, require, in_turn, inEntry}
+use Rattle.paper.specs.Answers.{Answer, ok, refused, ◌>>=◌, require, in_turn, in_entry}
 use Rattle.paper.specs.Tokens.{Comparison}
 use Rattle.paper.specs.Keys.{Kind, Key}
 use Rattle.paper.specs.Entry.{Match, Entry, head_size, match_size, matches_from, is_exact, priority_of, rule_test, entry_of}
-use Rattle.paper.specs.Types.{Ty, bool, int, of, same_ty, when, and_then, Field, value, mask, prefixLength, low, high, has, field_ty, bare_type, field_type, not_type, negate_type, join_type, takes, suits, compare_type}
+use Rattle.paper.specs.Types.{Ty, bool, int, of, same_ty, when, and_then, Field, value, mask, prefix_length, low, high, has, field_ty, bare_type, field_type, not_type, negate_type, join_type, takes, suits, compare_type}
 use Rattle.paper.specs.Meaning.{Value, truth, whole, matched, ty_of, is_true, bare_value, field_in, field_value, not_value, negate_value, Connective, join_value, compare_value, convert_value, holds}
 use Rattle.paper.specs.Code.{Skip, Instruction, push_bool, push_int, push_key, push_field, push_priority, invert, negate, convert, compare, connects, skip, skip_value, skip_of, Action, act, Walk, fails, ends, walk, type_action, value_action, action_of}
 use Rattle.paper.specs.Blocks.{total_of, layout}
@@ -42,8 +42,8 @@ pub conforming : ConformingCovers
 unfolding entry_of
 conforming ks entry e h =
     subst (Of (Covers ks)) h
-    (three_stages (Covers ks) (require (eqb (length entry) (head_size + match_size * length ks)) 19 inEntry (length entry))
-    (require (ltb (priority_of entry) (2 ^ 31)) 20 inEntry 0) (in_turn (rule_test ks entry) 0 (length ks)) _ (matches_length entry ks 0))
+    (three_stages (Covers ks) (require (eqb (length entry) (head_size + match_size * length ks)) 19 in_entry (length entry))
+    (require (ltb (priority_of entry) (2 ^ 31)) 20 in_entry 0) (in_turn (rule_test ks entry) 0 (length ks)) _ (matches_length entry ks 0))
 
 -- each operator gives a value where it gives a type, and it is of that type
 
@@ -90,7 +90,7 @@ field_follows : (f : Field) (x : Key) (m : Match)
     → when (has x.kind f) (field_ty x.width f) ≡ Option.map ty_of (when (has x.kind f) (field_in x.width f m))
 field_follows value x m = map_when ty_of (has x.kind value) _
 field_follows mask x m = map_when ty_of (has x.kind mask) _
-field_follows prefixLength x m = map_when ty_of (has x.kind prefixLength) _
+field_follows prefix_length x m = map_when ty_of (has x.kind prefix_length) _
 field_follows low x m = map_when ty_of (has x.kind low) _
 field_follows high x m = map_when ty_of (has x.kind high) _
 

@@ -13,7 +13,7 @@ use Rattle.paper.specs.Tokens.{bytes, same_bytes, is_key, undotted}
 use Rattle.paper.specs.Keys.{Kind, Key, find, keys}
 use Rattle.paper.specs.Entry.{Match, Entry}
 use Rattle.paper.specs.Grammar.{Tree, key, field}
-use Rattle.paper.specs.Types.{Ty, and_then, Field, value, mask, prefixLength, low, high, field_named, has, field_type, known, named_type, type_of}
+use Rattle.paper.specs.Types.{Ty, and_then, Field, value, mask, prefix_length, low, high, field_named, has, field_type, known, named_type, type_of}
 use Rattle.paper.specs.Meaning.{Value, matched, field_in, value_of}
 use Rattle.paper.specs.Print.{tightest, rung, print}
 use Rattle.paper.specs.Sized.{levels, count, Clean}
@@ -42,7 +42,7 @@ field_word : (f : List ℕ) (g : Field) → field_named f ≡ some g → FieldWo
 field_word f g =
     first_or_later f (bytes "value") value g _ (record { word = refl; plain = refl; short = lit≤ tt })
     (first_or_later f (bytes "mask") mask g _ (record { word = refl; plain = refl; short = lit≤ tt })
-    (first_or_later f (bytes "prefix_length") prefixLength g _ (record { word = refl; plain = refl; short = lit≤ tt })
+    (first_or_later f (bytes "prefix_length") prefix_length g _ (record { word = refl; plain = refl; short = lit≤ tt })
     (first_or_later f (bytes "low") low g _ (record { word = refl; plain = refl; short = lit≤ tt })
     (first_or_later f (bytes "high") high g none (record { word = refl; plain = refl; short = lit≤ tt })
     (λ h. absurd (none-ne-some g h))))))

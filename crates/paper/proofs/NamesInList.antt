@@ -11,7 +11,7 @@ use lib.ListN.{length, take, drop, get_elem?, length-take}
 use lib.Seq.{take-take, drop-drop}
 use lib.Dec.{eqb, leb}
 use borrow.Author.Tests.{leb-true}
-use Rattle.paper.specs.Answers.{ok, ◌>>=◌, require, in_turn, InList}
+use Rattle.paper.specs.Answers.{ok, ◌>>=◌, require, in_turn, in_list}
 use Rattle.paper.specs.Numbers.{byte_at, bytes_at}
 use Rattle.paper.specs.Tokens.{bytes, same_bytes, is_key}
 use Rattle.paper.specs.Keys.{Key, record_size, most_keys, records_in, record_at, name_of, key_of, record_ok, keys_from, record_test, layout_rule, keys}
@@ -45,7 +45,7 @@ module _ (list : List ℕ) (ks : List Key) (listed : keys list ≡ ok ks) where
       let all = keys_from list 0 (records_in list) in
       let fit = eqb (length list % record_size) 0 && leb (length list) (most_keys * record_size) in
       let tests = in_turn (record_test layout_rule list) 0 (records_in list) in
-      let (size, sized, rest) = bind_ok (require fit 2 InList (length list)) (λ _. tests >>= λ _. ok all) ks listed in
+      let (size, sized, rest) = bind_ok (require fit 2 in_list (length list)) (λ _. tests >>= λ _. ok all) ks listed in
       let (each, kept, last) = bind_ok tests (λ _. ok all) ks rest in
       sym (ok_same all ks last)
 

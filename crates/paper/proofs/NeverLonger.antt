@@ -4,7 +4,7 @@ use native.Mathlib.Omega.{arith}
 use mathlib.Core.Path.{◌≡◌, sym, ap, ◌∙◌}
 use mathlib.Core.List.{List, [], ◌∷◌}
 use lib.ListN.{length, take, drop, length-append, take-append-drop}
-use Rattle.paper.specs.Tokens.{Scan, blank, token, octal_numeral, no_token, tooLarge, taken, scan}
+use Rattle.paper.specs.Tokens.{Scan, blank, token, octal_numeral, no_token, too_large, taken, scan}
 use Rattle.paper.specs.Fixing.{piece_for, fixed_from, fixed}
 use Rattle.paper.specs.FixedRight.{NeverLonger}
 use Rattle.paper.proofs.OctalNumerals.{IfOctal, if_octal}
@@ -14,7 +14,7 @@ piece_short (octal_numeral v n) b s h = h.shorter
 piece_short (blank n) b s h = omega arith
 piece_short (token t n) b s h = omega arith
 piece_short no_token b s h = omega arith
-piece_short tooLarge b s h = omega arith
+piece_short too_large b s h = omega arith
 
 from_short : (s : List ℕ) (n : ℕ) → length (fixed_from n s) ≤ length (drop n s)
 unfolding fixed_from

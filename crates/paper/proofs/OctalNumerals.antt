@@ -10,7 +10,7 @@ use mathlib.Core.List.{List, [], ◌∷◌, ◌++◌, map}
 use lib.ListN.{length, take, drop, length-map}
 use lib.Dec.{eqb, ltb}
 use borrow.Author.Tests.{ltb-true, eqb-true}
-use Rattle.paper.specs.Tokens.{bytes, is, span, starts, is_id_start, is_digit, is_blank, is_id_byte, digit_of, Base, decimal, Notation, based, octal, radix_of, notation_of, Numeral, spelled, spelling, is_numeral, numeral_value, literal_in, Sign, one_byte, two_bytes, string, numeral, Scan, blank, token, octal_numeral, no_token, tooLarge, scan_comment, numeral_scan, scan_numeral, scan_one, scan_two, scan_sign, isSpace, isSlash, isQuote, isLetter, isFigure, isOther, scan_class, scan}
+use Rattle.paper.specs.Tokens.{bytes, is, span, starts, is_id_start, is_digit, is_blank, is_id_byte, digit_of, Base, decimal, Notation, based, octal, radix_of, notation_of, Numeral, spelled, spelling, is_numeral, numeral_value, literal_in, Sign, one_byte, two_bytes, string, numeral, Scan, blank, token, octal_numeral, no_token, too_large, scan_comment, numeral_scan, scan_numeral, scan_one, scan_two, scan_sign, is_space, is_slash, is_quote, is_letter, is_figure, is_other, scan_class, scan}
 use Rattle.paper.specs.Print.{digit_byte, digits_in, most_digits, numeral_in}
 use Rattle.paper.proofs.AddressNumbers.{number_below, run_below}
 use Rattle.paper.proofs.DigitsReadBack.{digits_few}
@@ -74,7 +74,7 @@ module _ (b : ℕ) (s : List ℕ) where
   IfOctal (blank n) = Unit {0}
   IfOctal (token t n) = Unit {0}
   IfOctal no_token = Unit {0}
-  IfOctal tooLarge = Unit {0}
+  IfOctal too_large = Unit {0}
 
   either : (t : Bool) (c d : Scan) → IfOctal c → IfOctal d → IfOctal (cond t c d)
   either true c d h k = h
@@ -107,7 +107,7 @@ module _ (b : ℕ) (s : List ℕ) where
 
       go : (t : Bool) (w : Notation) → is_numeral n ≡ t → n.notation ≡ w → IfOctal (cond t (numeral_scan w (numeral_value n) more) no_token)
       go true (based base) e f =
-          either (ltb (numeral_value n) (2 ^ 128)) (token (numeral (literal_in base (numeral_value n))) more) tooLarge tt tt
+          either (ltb (numeral_value n) (2 ^ 128)) (token (numeral (literal_in base (numeral_value n))) more) too_large tt tt
       go true octal e f =
           let a = announced b (take more s) f in
           record { first = eqb-true b 48 a.first; whole_run = refl; shorter = omega (arith, hex_short n e) }
@@ -118,7 +118,7 @@ module _ (b : ℕ) (s : List ℕ) where
   if_octal = go (is_blank b) (is "/" b) (is "'" b) (is_id_start b) (is_digit b)
     where
       go : (blank slash quote letter digit : Bool)
-          → IfOctal (scan_class (cond blank isSpace (cond slash isSlash (cond quote isQuote (cond letter isLetter (cond digit isFigure isOther))))) b s)
+          → IfOctal (scan_class (cond blank is_space (cond slash is_slash (cond quote is_quote (cond letter is_letter (cond digit is_figure is_other))))) b s)
       go true slash quote letter digit = tt
       go false true quote letter digit = comment s
       go false false true letter digit =

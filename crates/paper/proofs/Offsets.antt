@@ -6,7 +6,7 @@ use mathlib.Core.List.{List, [], ◌∷◌, ◌++◌, Memᴰ}
 use lib.ListN.{length}
 use native.Mathlib.Omega.{arith}
 use Rattle.paper.specs.Answers.{Answer, ok, refused, ◌>>=◌}
-use Rattle.paper.specs.Tokens.{Token, Scan, blank, token, octal_numeral, no_token, tooLarge, scan, onward, tokens_by, tokens_from, most_tokens, tokens}
+use Rattle.paper.specs.Tokens.{Token, Scan, blank, token, octal_numeral, no_token, too_large, scan, onward, tokens_by, tokens_from, most_tokens, tokens}
 use Rattle.paper.specs.Sentences.{place_from}
 use Rattle.paper.specs.Places.{Rising, OffsetsRise, OffsetsInText, PlacesInText, RefusalsInText}
 use Rattle.paper.proofs.Refusals.{parsed_is_right}
@@ -39,7 +39,7 @@ onward_rises (token t n) at (suc room) below go l h = with_first (record { at = 
 onward_rises (octal_numeral v n) at zero below go l h = tt
 onward_rises (octal_numeral v n) at (suc room) below go l h = tt
 onward_rises no_token at room below go l h = tt
-onward_rises tooLarge at room below go l h = tt
+onward_rises too_large at room below go l h = tt
 
 from_rises : (s : List ℕ) (n at room below : ℕ) → at + length s ≤ below → Of (Rising at below) (tokens_from n at room s)
 unfolding tokens_by

@@ -5,7 +5,7 @@ use mathlib.Core.Bool.{Bool, true, false, cond}
 use mathlib.Core.Option.{Option, none, some, some-injective, none-ne-some}
 use lib.Dec.{eqb}
 use borrow.Author.Tests.{eqb-true, eq-eqb}
-use Rattle.paper.specs.Tokens.{Join, sequel, implies, or_else, andAlso, join, comparison, prefix, opening, closing, colons, Tok, word, numeral, string, sign, Token}
+use Rattle.paper.specs.Tokens.{Join, sequel, implies, or_else, and_also, join, comparison, prefix, opening, closing, colons, Tok, word, numeral, string, sign, Token}
 use Rattle.paper.specs.Grammar.{Make, joined, join_no, joins, compares}
 use Rattle.paper.specs.Sentences.{token_at, sign_at, Operator, Joining, joining, Comparing, comparing}
 
@@ -18,14 +18,14 @@ join_of : ℕ → Join
 join_of zero = sequel
 join_of (suc zero) = implies
 join_of (suc (suc zero)) = or_else
-join_of (suc (suc (suc n))) = andAlso
+join_of (suc (suc (suc n))) = and_also
 
 join_of_no : (o : Join) → join_of (join_no o) ≡ o
 unfolding join_of
 join_of_no sequel = refl
 join_of_no implies = refl
 join_of_no or_else = refl
-join_of_no andAlso = refl
+join_of_no and_also = refl
 
 same_join : (i j : Join) → eqb (join_no i) (join_no j) ≡ true → i ≡ j
 same_join i j h = sym (join_of_no i) ∙ ap join_of (eqb-true _ _ h) ∙ join_of_no j

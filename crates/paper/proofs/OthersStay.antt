@@ -4,7 +4,7 @@ use mathlib.Core.Path.{◌≡◌, refl, ap, subst, ◌∙◌}
 use mathlib.Core.List.{List, [], ◌∷◌, ◌++◌}
 use lib.ListN.{take, drop, take-append-drop}
 use Rattle.paper.specs.Answers.{Answer}
-use Rattle.paper.specs.Tokens.{Token, Scan, blank, token, octal_numeral, no_token, tooLarge, taken, scan, onward, tokens_by, tokens_from, tokens, most_tokens}
+use Rattle.paper.specs.Tokens.{Token, Scan, blank, token, octal_numeral, no_token, too_large, taken, scan, onward, tokens_by, tokens_from, tokens, most_tokens}
 use Rattle.paper.specs.Fixing.{piece_for, fixed_from, fixed}
 use Rattle.paper.specs.FixedRight.{OthersStay}
 use Rattle.paper.proofs.Stages.{Of, of_so, of_bind}
@@ -25,7 +25,7 @@ module _ (b : ℕ) (s : List ℕ) where
   piece_stays (octal_numeral v n) at zero go h = tt
   piece_stays (octal_numeral v n) at (suc room) go h = tt
   piece_stays no_token at room go h = tt
-  piece_stays tooLarge at room go h = tt
+  piece_stays too_large at room go h = tt
 
 from_stays : (s : List ℕ) (n at room : ℕ) → Stays n s (tokens_from n at room s)
 unfolding fixed_from tokens_by

@@ -6,7 +6,7 @@ use mathlib.Core.Bool.{Bool, true, false}
 use mathlib.Core.List.{List, [], ◌∷◌, ◌++◌, append_assoc, append-nil}
 use lib.ListN.{length}
 use Rattle.paper.specs.Answers.{Answer, ok, ◌>>=◌}
-use Rattle.paper.specs.Tokens.{sequel, implies, or_else, andAlso, join, prefix, opening, closing, colons, word, string, Token, tokens}
+use Rattle.paper.specs.Tokens.{sequel, implies, or_else, and_also, join, prefix, opening, closing, colons, word, string, Token, tokens}
 use Rattle.paper.specs.Addresses.{address}
 use Rattle.paper.specs.Grammar.{Tree, Make, Reader, most_levels, parsed}
 use Rattle.paper.specs.Sentences.{Phrases, token_at, sign_at, Operator, Joining, joining, Comparing, comparing, Once, none_of, one_of, Chain, first, further, Operand, a_true, a_false, a_numeral, an_address, a_key, a_field, an_attribute, a_prefixed, a_parenthesis, Implication, Prefixed, without, trailing, Valid}
@@ -89,7 +89,7 @@ within_implies inside u make (joining at) depth = record { whole = refl; level =
 within_or : (inside : Bool) → Within inside (Joining or_else)
 within_or inside u make (joining at) depth = record { whole = refl; level = refl }
 
-within_and : (inside : Bool) → Within inside (Joining andAlso)
+within_and : (inside : Bool) → Within inside (Joining and_also)
 within_and inside u make (joining at) depth = record { whole = refl; level = refl }
 
 within_comparing : (inside : Bool) → Within inside Comparing

@@ -2,7 +2,7 @@
 use Prim.Native.Nat.{ℕ, zero, suc}
 use mathlib.Core.Bool.{Bool, true, false}
 use mathlib.Core.List.{List, [], ◌∷◌, ◌++◌}
-use Rattle.paper.specs.Tokens.{Literal, plain, bytes, Prefix, Join, sequel, implies, or_else, andAlso, Comparison, join, comparison, prefix, opening, closing, colons, word, numeral, string, Token}
+use Rattle.paper.specs.Tokens.{Literal, plain, bytes, Prefix, Join, sequel, implies, or_else, and_also, Comparison, join, comparison, prefix, opening, closing, colons, word, numeral, string, Token}
 use Rattle.paper.specs.Addresses.{address}
 use Rattle.paper.specs.Grammar.{Tree, truth, number, key, field, attribute, prefixed, joined, compared, Make, Reader, most_levels}
 use Rattle.paper.specs.Sentences.{Phrases, token_at, sign_at, Operator, Joining, joining, Comparing, comparing, Once, none_of, one_of, Chain, first, further, Operand, a_true, a_false, a_numeral, an_address, a_key, a_field, an_attribute, a_prefixed, a_parenthesis, Implication, Prefixed, Trailing, without, trailing, Valid}
@@ -66,7 +66,7 @@ module _ (Q : Tree → List Token → Type 0) (on : HandedOn Q) where
 
   implication_has : {S : Phrases} → Has S → Has (Implication S)
   implication_has below =
-      once_has (by_joining implies) (chain_has (by_joining or_else) (chain_has (by_joining andAlso) (once_has by_comparing below)))
+      once_has (by_joining implies) (chain_has (by_joining or_else) (chain_has (by_joining and_also) (once_has by_comparing below)))
 
   prefixed_has : (read : Reader) (levels : ℕ) → Has (Prefixed read levels)
   unfolding Prefixed

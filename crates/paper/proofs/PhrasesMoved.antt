@@ -6,7 +6,7 @@ use mathlib.Core.Path.{◌≡◌, refl, sym, ap, ap₂, subst}
 use mathlib.Core.Bool.{true, false}
 use mathlib.Core.List.{List, [], ◌∷◌, ◌++◌, head-eq_of_cons-eq, tail-eq_of_cons-eq}
 use lib.ListN.{length}
-use Rattle.paper.specs.Tokens.{opening, closing, plain, Join, sequel, implies, or_else, andAlso, Tok, Token}
+use Rattle.paper.specs.Tokens.{opening, closing, plain, Join, sequel, implies, or_else, and_also, Tok, Token}
 use Rattle.paper.specs.Addresses.{address}
 use Rattle.paper.specs.Grammar.{Tree, truth, number, key, field, attribute, prefixed, joined, compared, Make, Reader, most_levels}
 use Rattle.paper.specs.Print.{bare}
@@ -127,7 +127,7 @@ module _ (read : Reader) {Inner Outer : Phrases} (inner : Moves Inner) (outer : 
 implication_moves : {S : Phrases} → Moves S → Moves (Implication S)
 implication_moves below =
     once_moves (joining_moves implies)
-    (chain_moves (joining_moves or_else) (chain_moves (joining_moves andAlso) (once_moves comparing_moves below)))
+    (chain_moves (joining_moves or_else) (chain_moves (joining_moves and_also) (once_moves comparing_moves below)))
 
 prefixed_moves : (read : Reader) (levels : ℕ) → Moves (Prefixed read levels)
 unfolding Prefixed

@@ -8,7 +8,7 @@ use mathlib.Core.List.{List, [], ◌∷◌, ◌++◌, map}
 use lib.ListN.{length}
 use lib.Dec.{eqb, ltb}
 use borrow.Author.Tests.{eqb-true, ltb-true, ltb-false, lt-leb, ne_eqb}
-use Rattle.paper.specs.Tokens.{bytes, is, is_id_start, is_id_byte, starts, word_more, is_key, Base, decimal, binary, hex, radix, Prefix, notSign, minusSign, Join, sequel, implies, or_else, andAlso, Comparison, equal, unequal, greater, at_least, less, at_most}
+use Rattle.paper.specs.Tokens.{bytes, is, is_id_start, is_id_byte, starts, word_more, is_key, Base, decimal, binary, hex, radix, Prefix, not_sign, minus_sign, Join, sequel, implies, or_else, and_also, Comparison, equal, unequal, greater, at_least, less, at_most}
 use Rattle.paper.specs.Grammar.{Tree, truth, number, key, field, attribute, prefixed, joined, compared}
 use Rattle.paper.specs.Print.{tightest, left_of, right_of, looser, digits_in, digit_byte, most_digits, numeral_in, base_prefix, prefix_bytes, join_bytes, comparison_bytes, spaced, enclosed, truth_bytes, print}
 use Rattle.paper.specs.Sized.{Clean}
@@ -81,14 +81,14 @@ literal_bytes hex v = append_bytes (bytes "0x") (numeral_in 16 v) (all_bytes_lem
 -- operators
 
 prefix_bytes_lem : (o : Prefix) → Bytes (prefix_bytes o)
-prefix_bytes_lem notSign = all_bytes_lem (bytes "!") refl
-prefix_bytes_lem minusSign = all_bytes_lem (bytes "-") refl
+prefix_bytes_lem not_sign = all_bytes_lem (bytes "!") refl
+prefix_bytes_lem minus_sign = all_bytes_lem (bytes "-") refl
 
 join_bytes_lem : (o : Join) → Bytes (spaced (join_bytes o))
 join_bytes_lem sequel = all_bytes_lem (bytes " ; ") refl
 join_bytes_lem implies = all_bytes_lem (bytes " -> ") refl
 join_bytes_lem or_else = all_bytes_lem (bytes " || ") refl
-join_bytes_lem andAlso = all_bytes_lem (bytes " && ") refl
+join_bytes_lem and_also = all_bytes_lem (bytes " && ") refl
 
 comparison_bytes_lem : (c : Comparison) → Bytes (spaced (comparison_bytes c))
 comparison_bytes_lem equal = all_bytes_lem (bytes " == ") refl

@@ -8,7 +8,7 @@ use lib.Dec.{leb}
 use borrow.Author.Tests.{leb-true, le-leb}
 use Rattle.paper.specs.declared.Place.{Place}
 use Rattle.paper.specs.declared.Printing.TheVariants as W
-use Rattle.paper.specs.Answers.{InText, ok, ◌>>=◌, input_of, offset_of, printing_says}
+use Rattle.paper.specs.Answers.{in_text, ok, ◌>>=◌, input_of, offset_of, printing_says}
 use Rattle.paper.specs.Tokens.{most_text}
 use Rattle.paper.specs.Print.{print}
 use Rattle.paper.specs.Calls.{printable, print_answer, laid, print_buffer}
@@ -44,7 +44,7 @@ module _ (text buffer : List ℕ) where
   answer_printable n e =
       let (s, passed, last) = bind_ok (printable text buffer) (λ s. ok (length s)) n (sym answer_is ∙ e) in
       let l = lent_has text buffer s passed in
-      let few = require_ok (leb (length text) most_text) 1 InText most_text tt l.small in
+      let few = require_ok (leb (length text) most_text) 1 in_text most_text tt l.small in
       let same : length s ≡ n = ok_same (length s) n last in
       record {
         root = l.root;

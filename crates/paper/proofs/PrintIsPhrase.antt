@@ -10,7 +10,7 @@ use mathlib.Core.List.{List, [], ◌∷◌, ◌++◌, map, append_assoc, append-
 use lib.ListN.{length, drop, length-append}
 use lib.Dec.{eqb, ltb}
 use borrow.Author.Tests.{ltb-false}
-use Rattle.paper.specs.Tokens.{bytes, is_digit, is_id_start, is_id_byte, word_more, is_key, Base, decimal, binary, hex, radix, based, notation_of, Literal, literal_in, Prefix, notSign, minusSign, Join, sequel, implies, or_else, andAlso, Comparison, equal, unequal, greater, at_least, less, at_most, join, comparison, prefix, opening, closing, colons, Tok, word, numeral, sign, Token, token, scan}
+use Rattle.paper.specs.Tokens.{bytes, is_digit, is_id_start, is_id_byte, word_more, is_key, Base, decimal, binary, hex, radix, based, notation_of, Literal, literal_in, Prefix, not_sign, minus_sign, Join, sequel, implies, or_else, and_also, Comparison, equal, unequal, greater, at_least, less, at_most, join, comparison, prefix, opening, closing, colons, Tok, word, numeral, sign, Token, token, scan}
 use Rattle.paper.specs.Addresses.{address}
 use Rattle.paper.specs.Grammar.{Tree, truth, number, key, field, attribute, prefixed, joined, compared}
 use Rattle.paper.specs.BlocksRoundTrip.{All}
@@ -216,7 +216,7 @@ module _ (text : List ℕ) where
   join_lexed sequel at rest here = spaced_lexed 59 [] (sign (join sequel)) at rest here refl
   join_lexed implies at rest here = spaced_lexed 45 (62 ∷ []) (sign (join implies)) at rest here refl
   join_lexed or_else at rest here = spaced_lexed 124 (124 ∷ []) (sign (join or_else)) at rest here refl
-  join_lexed andAlso at rest here = spaced_lexed 38 (38 ∷ []) (sign (join andAlso)) at rest here refl
+  join_lexed and_also at rest here = spaced_lexed 38 (38 ∷ []) (sign (join and_also)) at rest here refl
 
   comparison_lexed : (c : Comparison) (at : ℕ) (rest : List ℕ) → drop at text ≡ spaced (comparison_bytes c) ++ rest
       → Lexed text at (spaced (comparison_bytes c)) (sign_at (at + 1) (comparison c) ∷ [])
@@ -238,10 +238,10 @@ module _ (text : List ℕ) where
       → Lexed text at (prefix_bytes o) (sign_at at (prefix o) ∷ [])
   unfolding scan
   prefix_lexed o at [] rest apart here = absurd apart
-  prefix_lexed notSign at (c ∷ s) rest apart here =
-      lexed_token text at 33 [] (c ∷ (s ++ rest)) (sign (prefix notSign)) here (rw apart.0)
-  prefix_lexed minusSign at (c ∷ s) rest apart here =
-      lexed_token text at 45 [] (c ∷ (s ++ rest)) (sign (prefix minusSign)) here (rw apart.1)
+  prefix_lexed not_sign at (c ∷ s) rest apart here =
+      lexed_token text at 33 [] (c ∷ (s ++ rest)) (sign (prefix not_sign)) here (rw apart.0)
+  prefix_lexed minus_sign at (c ∷ s) rest apart here =
+      lexed_token text at 45 [] (c ∷ (s ++ rest)) (sign (prefix minus_sign)) here (rw apart.1)
 
   prefix_reads : (p : ℕ) (o : Prefix) (t : Tree) (s : List ℕ) (n c : ℕ) → Apart s → Reads 5 s n c t
       → Reads 5 (prefix_bytes o ++ s) (suc n) (1 + c) (prefixed p o t)
@@ -319,25 +319,25 @@ module _ (text : List ℕ) where
   operand_apart (key p w) h = subst Apart (append-nil w) (key_apart w [] h.0)
   operand_apart (field p w q f) h = subst Apart (sym (append_assoc w (bytes "::") f)) (key_apart w (bytes "::" ++ f) h.0)
   operand_apart (attribute p q f) h = (refl, refl)
-  operand_apart (prefixed p notSign t) h = (refl, refl)
-  operand_apart (prefixed p minusSign t) h = (refl, refl)
+  operand_apart (prefixed p not_sign t) h = (refl, refl)
+  operand_apart (prefixed p minus_sign t) h = (refl, refl)
   operand_apart (joined p sequel l r) h = (refl, refl)
   operand_apart (joined p implies l r) h = (refl, refl)
   operand_apart (joined p or_else l r) h = (refl, refl)
-  operand_apart (joined p andAlso l r) h = (refl, refl)
+  operand_apart (joined p and_also l r) h = (refl, refl)
   operand_apart (compared p c l r) h = (refl, refl)
 
   left_low : (o : Join) → left_of o ≤ 5
   left_low sequel = omega arith
   left_low implies = omega arith
   left_low or_else = omega arith
-  left_low andAlso = omega arith
+  left_low and_also = omega arith
 
   right_low : (o : Join) → right_of o ≤ 5
   right_low sequel = omega arith
   right_low implies = omega arith
   right_low or_else = omega arith
-  right_low andAlso = omega arith
+  right_low and_also = omega arith
 
   pub back : (t : Tree) → Clean t → Reads (rung t) (print t) (levels t) (count t) t
   unfolding print scan

@@ -8,7 +8,7 @@ use mathlib.Core.Bool.{Bool, true, false}
 use mathlib.Core.List.{List, [], ◌∷◌, ◌++◌}
 use lib.ListN.{length, length-append}
 use borrow.Author.Tests.{ltb-true, ltb-false, le-ltb}
-use Rattle.paper.specs.Tokens.{Join, sequel, implies, or_else, andAlso, Comparison, join, comparison, closing, Token}
+use Rattle.paper.specs.Tokens.{Join, sequel, implies, or_else, and_also, Comparison, join, comparison, closing, Token}
 use Rattle.paper.specs.Addresses.{address}
 use Rattle.paper.specs.Grammar.{Tree, joined, compared}
 use Rattle.paper.specs.Sentences.{Phrases, sign_at, Joining, joining, Comparing, comparing, Once, none_of, one_of, Chain, first, further, Operand, a_true, a_false, a_numeral, an_address, a_key, a_field, an_attribute, a_prefixed, a_parenthesis, Implication, Sequence, Prefixed, without, trailing, Whole}
@@ -96,8 +96,8 @@ module _ (l : ℕ) (S : Phrases) (below : Has l 5 S) where
   compared_fits t ts (one_of {l = x} {r = y} {ls = xs} {rs = ys} h (comparing at c) g) =
       comparison_fits l c at x y xs ys (below x xs h) (below y ys g)
 
-  or_fits : Has l 2 (Chain (Joining or_else) (Chain (Joining andAlso) (Once Comparing S)))
-  or_fits = chain_fits l or_else _ refl (omega arith) (chain_fits l andAlso _ refl (omega arith) compared_fits)
+  or_fits : Has l 2 (Chain (Joining or_else) (Chain (Joining and_also) (Once Comparing S)))
+  or_fits = chain_fits l or_else _ refl (omega arith) (chain_fits l and_also _ refl (omega arith) compared_fits)
 
   implies_fits : Has l 1 (Implication S)
   implies_fits t ts (none_of h) = weaken l 1 2 t ts (omega arith) (or_fits t ts h)

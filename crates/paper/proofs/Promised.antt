@@ -36,7 +36,7 @@ use Rattle.paper.specs.declared.Summarizing.{Summarizing}
 use Rattle.paper.specs.declared.Summarizing.TheVariants as S
 use Rattle.paper.specs.declared.Rechecking.{Rechecking}
 use Rattle.paper.specs.declared.Rechecking.TheVariants as K
-use Rattle.paper.specs.Answers.{Input, InText, InList, inEntry, inBlocks, inBuffer, inContract, in_table, Answer, ok, refused, input_of, offset_of, Ran, reading_says, checking_says, judgement_says, translation_says, loading_says, running_says, printing_says}
+use Rattle.paper.specs.Answers.{Input, in_text, in_list, in_entry, in_blocks, in_buffer, in_contract, in_table, Answer, ok, refused, input_of, offset_of, Ran, reading_says, checking_says, judgement_says, translation_says, loading_says, running_says, printing_says}
 use Rattle.paper.specs.Calls.{read_answer, check_answer, judge_answer, translate_answer, translate_buffer, load_answer, run_answer, print_answer, print_buffer}
 use Rattle.paper.specs.TranslationCorrect.{verdict_of}
 use Rattle.paper.specs.Parts.{Part}
@@ -53,12 +53,12 @@ use Rattle.paper.specs.Promised.{ExplainPromised, RecheckPromised, verdict, verd
 -- places
 
 abbrev pub place_at : Input → ℕ → Place
-place_at InText at = P.Text at
-place_at InList at = P.List at
-place_at inEntry at = P.Entry at
-place_at inBlocks at = P.Blocks at
-place_at inBuffer at = P.Buffer at
-place_at inContract at = P.Contract at
+place_at in_text at = P.Text at
+place_at in_list at = P.List at
+place_at in_entry at = P.Entry at
+place_at in_blocks at = P.Blocks at
+place_at in_buffer at = P.Buffer at
+place_at in_contract at = P.Contract at
 place_at in_table at = P.Table at
 
 place_back : (p : Place) → place_at (input_of p) (offset_of p) ≡ p
@@ -72,12 +72,12 @@ place_back (P.Table at) = refl
 
 refusal_back : {A : Type 0} (n : ℕ) (i : Input) (at : ℕ)
     → ◌≡◌ {A = Answer A} (refused n (input_of (place_at i at)) (offset_of (place_at i at))) (refused n i at)
-refusal_back n InText at = refl
-refusal_back n InList at = refl
-refusal_back n inEntry at = refl
-refusal_back n inBlocks at = refl
-refusal_back n inBuffer at = refl
-refusal_back n inContract at = refl
+refusal_back n in_text at = refl
+refusal_back n in_list at = refl
+refusal_back n in_entry at = refl
+refusal_back n in_blocks at = refl
+refusal_back n in_buffer at = refl
+refusal_back n in_contract at = refl
 refusal_back n in_table at = refl
 
 -- an enum with a case for each thing that can be asked for, and one for refusals

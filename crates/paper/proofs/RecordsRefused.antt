@@ -6,7 +6,7 @@ use mathlib.Core.Logic.{◌⊎◌, inl, inr}
 use mathlib.Core.Option.{some}
 use mathlib.Core.List.{List, [], ◌∷◌, ◌++◌}
 use lib.ListN.{length, get_elem?}
-use Rattle.paper.specs.Answers.{Input, inEntry, ok, refused}
+use Rattle.paper.specs.Answers.{Input, in_entry, ok, refused}
 use Rattle.paper.specs.Tokens.{Token, tokens}
 use Rattle.paper.specs.Keys.{Key, layout_rule, keys}
 use Rattle.paper.specs.Grammar.{Tree}
@@ -104,19 +104,19 @@ broken_record list entry ks at listed (priority_broken h) = inl refl
 broken_record list entry ks at listed (match_broken k x e h) =
     inr (record { ks = ks; listed = listed; index = k; key = x; there = e; place = refl })
 
-in_entry : (list entry : List ℕ) (i : Input) (at : ℕ) → Decided (entry_stages list entry) 20 i at
-    → (i ≡ inEntry) × ((at ≡ 0) ⊎ KeyRecord list at)
-in_entry list entry i at (inl (e, wins)) =
+in_entry_lem : (list entry : List ℕ) (i : Input) (at : ℕ) → Decided (entry_stages list entry) 20 i at
+    → (i ≡ in_entry) × ((at ≡ 0) ⊎ KeyRecord list at)
+in_entry_lem list entry i at (inl (e, wins)) =
     let (ks, listed, fault) = wins.fault in
     absurd (not_of_size ks entry 20 at fault refl)
-in_entry list entry i at (inr (free, inl (e, wins))) =
+in_entry_lem list entry i at (inr (free, inl (e, wins))) =
     let (ks, listed, fault) = wins.fault in
     (e, broken_record list entry ks at listed fault)
-in_entry list entry i at (inr (free, inr (clear, d))) = absurd d
+in_entry_lem list entry i at (inr (free, inr (clear, d))) = absurd d
 
 pub records_refused : (text list entry : List ℕ) (i : Input) (at : ℕ) → judge_answer text list entry ≡ refused 20 i at
-    → (i ≡ inEntry) × ((at ≡ 0) ⊎ KeyRecord list at)
+    → (i ≡ in_entry) × ((at ≡ 0) ⊎ KeyRecord list at)
 records_refused text list entry i at e =
-    in_entry list entry i at
+    in_entry_lem list entry i at
     (decided_after 20 i at (check_stages text list) (entry_stages list entry) (not_of_check text list)
     (((table_holds.judge text list entry).refuses 20 i at).0 e))

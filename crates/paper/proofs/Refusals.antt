@@ -4,7 +4,7 @@ use mathlib.Core.Path.{◌≡◌, refl, sym, ap, subst, ◌∙◌}
 use mathlib.Core.Logic.{◌≢◌}
 use mathlib.Core.List.{List, [], ◌∷◌, ◌++◌, append_assoc}
 use native.Mathlib.Omega.{arith}
-use Rattle.paper.specs.Answers.{InText, Answer, ok, refused}
+use Rattle.paper.specs.Answers.{in_text, Answer, ok, refused}
 use Rattle.paper.specs.Tokens.{Token}
 use Rattle.paper.specs.Addresses.{address}
 use Rattle.paper.specs.Grammar.{Tree, got, stuck, Out, ends, deep, bad, whole, most_levels, outcome, parsed}
@@ -171,7 +171,7 @@ stops_first_bad ts us s =
 
 pub eight_is_first_bad : EightIsFirstBad
 eight_is_first_bad size ts at e =
-    let (us, s, i, place) = (parsed_is_right size ts (refused 8 InText at)).0 e in
+    let (us, s, i, place) = (parsed_is_right size ts (refused 8 in_text at)).0 e in
     (us, stops_first_bad ts us s, place)
 
 module _ (ts : List Token) where
@@ -196,7 +196,7 @@ module _ (ts : List Token) where
 pub first_bad_is_eight : FirstBadIsEight
 first_bad_is_eight size ts us f nine ten = go (parsed size ts) refl (is_right size ts)
   where
-    go : (a : Answer Tree) → parsed size ts ≡ a → Right size ts a → parsed size ts ≡ refused 8 InText (place_from size us)
+    go : (a : Answer Tree) → parsed size ts ≡ a → Right size ts a → parsed size ts ≡ refused 8 in_text (place_from size us)
     go (ok t) e v = absurd (no_bad_sentence ts t us f (valid_is_sentence t ts v))
     go (refused n i at) e (vs, s, i-is, at-is) =
         let n-is = else_eight ts s.taken vs n s.number (λ d. nine i at (rw d at e)) (λ d. ten i at (rw d at e)) in

@@ -8,7 +8,7 @@ use mathlib.Core.Logic.{inl, inr}
 use mathlib.Core.Option.{Option, some}
 use mathlib.Core.List.{List, [], ◌∷◌, ◌++◌, Memᴰ}
 use lib.ListN.{length, length-append}
-use Rattle.paper.specs.Answers.{Input, InText, InList, inEntry, inBlocks, inBuffer, inContract, in_table, Answer, ok, in_turn}
+use Rattle.paper.specs.Answers.{Input, in_text, in_list, in_entry, in_blocks, in_buffer, in_contract, in_table, Answer, ok, in_turn}
 use Rattle.paper.specs.Tokens.{Token, Scanner, scan, tokens}
 use Rattle.paper.specs.Keys.{Key, RecordRule, layout_rule, keys}
 use Rattle.paper.specs.Entry.{head_size, match_size}
@@ -167,7 +167,7 @@ code_bounded list blocks free n at (ks, listed, h) = go n at h
   where
     few : total_of blocks ≤ in_block * blocks_in blocks
     few =
-        let (_, passes) = free_passes inBlocks (BlocksLayout (length ks) blocks) (in_turn (block_test (length ks) blocks) 0 (blocks_in blocks))
+        let (_, passes) = free_passes in_blocks (BlocksLayout (length ks) blocks) (in_turn (block_test (length ks) blocks) 0 (blocks_in blocks))
         (blocks_layout_tells (length ks) blocks) (λ m to f. free m to (ks, listed, f))
         in
         counts_within (length ks) blocks (each_block (length ks) blocks passes)
@@ -255,31 +255,31 @@ module _ (inputs : List Lent) where
   abbrev There : Input → List ℕ → Type 0
   There i s = Memᴰ (lent i s) inputs
 
-  pub size_located : (text : List ℕ) → There InText text → AllLocated inputs (size_stages text)
+  pub size_located : (text : List ℕ) → There in_text text → AllLocated inputs (size_stages text)
   size_located text m = (record { bytes = text; among = m; bounded = text_bounded text }, λ _. tt)
 
-  pub list_located_by : (rule : RecordRule) (list : List ℕ) → There InList list → AllLocated inputs (list_stages_by rule list)
+  pub list_located_by : (rule : RecordRule) (list : List ℕ) → There in_list list → AllLocated inputs (list_stages_by rule list)
   list_located_by rule list m = (
     record { bytes = list; among = m; bounded = list_size_bounded list },
     λ _. (record { bytes = list; among = m; bounded = records_bounded rule list }, λ _. tt),
   )
 
-  pub list_located : (list : List ℕ) → There InList list → AllLocated inputs (list_stages list)
+  pub list_located : (list : List ℕ) → There in_list list → AllLocated inputs (list_stages list)
   list_located = list_located_by layout_rule
 
-  pub tree_located : (text : List ℕ) → There InText text → AllLocated inputs (tree_stages text)
+  pub tree_located : (text : List ℕ) → There in_text text → AllLocated inputs (tree_stages text)
   tree_located text m = (
     record { bytes = text; among = m; bounded = tokens_bounded scan text },
     λ _. (record { bytes = text; among = m; bounded = grammar_bounded text }, λ _. tt),
   )
 
-  pub type_located : (text list : List ℕ) → There InText text → AllLocated inputs (type_stages text list)
+  pub type_located : (text list : List ℕ) → There in_text text → AllLocated inputs (type_stages text list)
   type_located text list m = (
     record { bytes = text; among = m; bounded = types_bounded text list },
     λ _. (record { bytes = text; among = m; bounded = root_bounded text list }, λ _. tt),
   )
 
-  pub check_located : (text list : List ℕ) → There InText text → There InList list → AllLocated inputs (check_stages text list)
+  pub check_located : (text list : List ℕ) → There in_text text → There in_list list → AllLocated inputs (check_stages text list)
   check_located text list m l =
       located_then inputs (size_stages text ++ list_stages list ++ tree_stages text) (type_stages text list)
       (located_then inputs (size_stages text ++ list_stages list) (tree_stages text)
@@ -287,10 +287,10 @@ module _ (inputs : List Lent) where
       (λ _. tree_located text m))
       (λ _. type_located text list m)
 
-  pub buffer_located : (text list buffer : List ℕ) → There inBuffer buffer → AllLocated inputs (buffer_stages text list buffer)
+  pub buffer_located : (text list buffer : List ℕ) → There in_buffer buffer → AllLocated inputs (buffer_stages text list buffer)
   buffer_located text list buffer m = (record { bytes = buffer; among = m; bounded = buffer_bounded text list buffer }, λ _. tt)
 
-  pub block_located : (list blocks : List ℕ) → There inBlocks blocks → AllLocated inputs (block_stages list blocks)
+  pub block_located : (list blocks : List ℕ) → There in_blocks blocks → AllLocated inputs (block_stages list blocks)
   block_located list blocks m = (
     record { bytes = blocks; among = m; bounded = blocks_size_bounded blocks },
     λ _. (
@@ -299,18 +299,18 @@ module _ (inputs : List Lent) where
     ),
   )
 
-  pub entry_located : (list entry : List ℕ) → There inEntry entry → AllLocated inputs (entry_stages list entry)
+  pub entry_located : (list entry : List ℕ) → There in_entry entry → AllLocated inputs (entry_stages list entry)
   entry_located list entry m = (
     record { bytes = entry; among = m; bounded = entry_size_bounded list entry },
     λ free. (record { bytes = entry; among = m; bounded = rules_bounded list entry free }, λ _. tt),
   )
 
-  pub entries_located : (list entries : List ℕ) → There inEntry entries → AllLocated inputs (entries_stages list entries)
+  pub entries_located : (list entries : List ℕ) → There in_entry entries → AllLocated inputs (entries_stages list entries)
   entries_located list entries m =
       let bounded = given_bounded (keys list) (λ ks. EntriesMany ks entries) entries (entries_bounded entries) in
       (record { bytes = entries; among = m; bounded = bounded }, λ _. tt)
 
-  pub table_located : (list entries answers : List ℕ) → There inEntry entries → There inBuffer answers
+  pub table_located : (list entries answers : List ℕ) → There in_entry entries → There in_buffer answers
       → AllLocated inputs (table_stages list entries answers)
   table_located list entries answers m b =
       let in-entries = given_bounded (keys list) (λ ks. EntriesSize ks entries) entries (whole_bounded entries) in
@@ -319,18 +319,18 @@ module _ (inputs : List Lent) where
         λ _. (record { bytes = answers; among = b; bounded = in-answers }, λ _. tt),
       )
 
-  pub printing_located : (text buffer : List ℕ) → There inBuffer buffer → AllLocated inputs (printing_stages text buffer)
+  pub printing_located : (text buffer : List ℕ) → There in_buffer buffer → AllLocated inputs (printing_stages text buffer)
   printing_located text buffer m =
       let bounded = given_bounded (tree text) (λ t. LendingSize (print t) buffer) buffer (λ t. lending_bounded (print t) buffer) in
       (record { bytes = buffer; among = m; bounded = bounded }, λ _. tt)
 
-  pub fixing_located : (text buffer : List ℕ) → There InText text → There inBuffer buffer → AllLocated inputs (fixing_stages text buffer)
+  pub fixing_located : (text buffer : List ℕ) → There in_text text → There in_buffer buffer → AllLocated inputs (fixing_stages text buffer)
   fixing_located text buffer m b = (
     record { bytes = text; among = m; bounded = tokens_bounded old_scan text },
     λ _. (record { bytes = buffer; among = b; bounded = lending_bounded (fixed text) buffer }, λ _. tt),
   )
 
-  pub drafting_located : (contract table list buffer : List ℕ) → There inContract contract → There in_table table → There inBuffer buffer
+  pub drafting_located : (contract table list buffer : List ℕ) → There in_contract contract → There in_table table → There in_buffer buffer
       → AllLocated inputs (drafting_stages contract table list buffer)
   drafting_located contract table list buffer c t b =
       let in-contract = given_bounded (names_of list) (λ ks. ContractFaults (length ks) (length table) contract) contract

@@ -11,7 +11,7 @@ use lib.ListN.{length, take, drop, get_elem?}
 use lib.Seq.{drop-drop}
 use lib.Dec.{eqb, ltb, leb}
 use borrow.Author.Tests.{eqb-true, ne_eqb}
-use Rattle.paper.specs.Answers.{Answer, ok, refused, ◌>>=◌, require, in_turn, InList, inEntry}
+use Rattle.paper.specs.Answers.{Answer, ok, refused, ◌>>=◌, require, in_turn, in_list, in_entry}
 use Rattle.paper.specs.Numbers.{byte_at, bytes_at}
 use Rattle.paper.specs.Keys.{Key, all_zero, record_size, most_keys, records_in, record_at, record_ok, keys_from, record_test, layout_rule, keys}
 use Rattle.paper.specs.Entry.{Entry, head_size, match_size, match_at, is_exact, present_rule, match_ok, matches_from, priority_of, asked, rule_test, entry_of}
@@ -71,7 +71,7 @@ module _ (list : List ℕ) where
   unfolding keys_before
   passed_before ks h k l =
       let tests = in_turn (record_test rule_before list) 0 (records_in list) in
-      let (_, _, rest) = bind_ok (require fits 2 InList (length list)) (λ _. tests >>= λ _. ok records) ks h in
+      let (_, _, rest) = bind_ok (require fits 2 in_list (length list)) (λ _. tests >>= λ _. ok records) ks h in
       let (_, kept, _) = bind_ok tests (λ _. ok records) ks rest in
       flag_zero (record_at list k)
       (rule_kept rule_before list k (each_passes (record_test rule_before list) (records_in list) kept k l))
@@ -83,7 +83,7 @@ module _ (list : List ℕ) where
     read_same : keys list ≡ keys_before list
     unfolding keys keys_before
     read_same =
-        ap (λ (tests : Answer (Unit {0})). require fits 2 InList (length list) >>= λ _. tests >>= λ _. ok records)
+        ap (λ (tests : Answer (Unit {0})). require fits 2 in_list (length list) >>= λ _. tests >>= λ _. ok records)
         (same_turn (record_test layout_rule list) (record_test rule_before list) (records_in list) test_same)
 
     -- none of its keys must be present
@@ -102,8 +102,8 @@ module _ (ks : List Key) (entry : List ℕ) (free : (k : ℕ) (x : Key) → get_
   rule_same k l = go (get_elem? ks k) refl
     where
       go : (o : Option Key) → get_elem? ks k ≡ o
-          → require (asked o (λ x. match_ok x (match_at entry k))) 20 inEntry (head_size + k * match_size)
-          ≡ require (asked o (λ x. match_before x (match_at entry k))) 20 inEntry (head_size + k * match_size)
+          → require (asked o (λ x. match_ok x (match_at entry k))) 20 in_entry (head_size + k * match_size)
+          ≡ require (asked o (λ x. match_before x (match_at entry k))) 20 in_entry (head_size + k * match_size)
       go none e = refl
       go (some x) e = rw (match_same x (match_at entry k) (free k x e))
 
@@ -112,8 +112,8 @@ module _ (ks : List Key) (entry : List ℕ) (free : (k : ℕ) (x : Key) → get_
   entry_same =
       ap
       (λ (tests : Answer (Unit {0})).
-      require (eqb (length entry) (head_size + match_size * length ks)) 19 inEntry (length entry)
-      >>= λ _. require (ltb (priority_of entry) (2 ^ 31)) 20 inEntry 0
+      require (eqb (length entry) (head_size + match_size * length ks)) 19 in_entry (length entry)
+      >>= λ _. require (ltb (priority_of entry) (2 ^ 31)) 20 in_entry 0
       >>= λ _. tests
       >>= λ _. ok (record { priority = priority_of entry; matches = matches_from entry 0 ks }))
       (same_turn (rule_test ks entry) (test_before ks entry) (length ks) rule_same)
@@ -235,7 +235,7 @@ pub match_kept : (ks : List Key) (entry : List ℕ) (e : Entry) (k : ℕ) (x : K
 match_kept ks entry e k x conforms there =
     let rules = (entry_read ks entry e conforms).rules in
     let passed = each_passes (rule_test ks entry) (length ks) rules k (some_below ks k x there) in
-    require_ok (match_ok x (match_at entry k)) 20 inEntry (head_size + k * match_size) tt (rw there at passed)
+    require_ok (match_ok x (match_at entry k)) 20 in_entry (head_size + k * match_size) tt (rw there at passed)
 
 pub must_be_present : MustBePresent
 must_be_present =

@@ -6,7 +6,7 @@ use mathlib.Core.List.{List}
 use lib.ListN.{length}
 use lib.Dec.{eqb, leb}
 use borrow.Author.Tests.{eqb-true, eq-eqb, leb-true, le-leb}
-use Rattle.paper.specs.Answers.{Input, inEntry, inBuffer, Answer, ok, refused, ◌>>=◌}
+use Rattle.paper.specs.Answers.{Input, in_entry, in_buffer, Answer, ok, refused, ◌>>=◌}
 use Rattle.paper.specs.Keys.{Key, keys}
 use Rattle.paper.specs.Loading.{loaded}
 use Rattle.paper.specs.Calls.{run_answer, over}
@@ -33,8 +33,8 @@ module _ (list blocks entries answers : List ℕ) where
       let (n, loads, more) = bind_ok (loaded ks blocks) (λ _. whole_only ks entries >>= λ _. fit ks) v rest in
       let (u, whole, few) = bind_ok (whole_only ks entries) (λ _. fit ks) v more in
       let (w, room, end) = bind_ok (answers_fit ks entries answers) (last ks) v few in
-      let none_cut = require_ok (eqb (cut_in ks entries) 0) 19 inEntry (length entries) u whole in
-      let enough = require_ok (leb (whole_in ks entries) (length answers)) 15 inBuffer (length answers) w room in (
+      let none_cut = require_ok (eqb (cut_in ks entries) 0) 19 in_entry (length entries) u whole in
+      let enough = require_ok (leb (whole_in ks entries) (length answers)) 15 in_buffer (length answers) w room in (
         record {
           ks = ks;
           listed = listed;

@@ -3,7 +3,7 @@ use Prim.Native.Nat.{ℕ, zero, suc, ◌+◌}
 use native.Mathlib.Omega.{arith}
 use mathlib.Core.Path.{◌≡◌, refl, subst}
 use mathlib.Core.List.{List, [], ◌∷◌, ◌++◌}
-use Rattle.paper.specs.Tokens.{Join, sequel, implies, or_else, andAlso, Comparison, join, comparison, opening, closing, Token}
+use Rattle.paper.specs.Tokens.{Join, sequel, implies, or_else, and_also, Comparison, join, comparison, opening, closing, Token}
 use Rattle.paper.specs.Addresses.{address}
 use Rattle.paper.specs.Grammar.{Tree, joined, compared}
 use Rattle.paper.specs.Sentences.{Phrases, sign_at, Joining, joining, Comparing, comparing, Once, none_of, one_of, Chain, first, further, a_parenthesis, Implication, Sequence, Prefixed}
@@ -13,8 +13,8 @@ use Rattle.paper.specs.Print.{rung_of, left_of, right_of}
 abbrev pub Rung : ℕ → ℕ → Phrases
 Rung l zero = Sequence (Prefixed address l)
 Rung l (suc zero) = Implication (Prefixed address l)
-Rung l (suc (suc zero)) = Chain (Joining or_else) (Chain (Joining andAlso) (Once Comparing (Prefixed address l)))
-Rung l (suc (suc (suc zero))) = Chain (Joining andAlso) (Once Comparing (Prefixed address l))
+Rung l (suc (suc zero)) = Chain (Joining or_else) (Chain (Joining and_also) (Once Comparing (Prefixed address l)))
+Rung l (suc (suc (suc zero))) = Chain (Joining and_also) (Once Comparing (Prefixed address l))
 Rung l (suc (suc (suc (suc zero)))) = Once Comparing (Prefixed address l)
 Rung l (suc (suc (suc (suc (suc k))))) = Prefixed address l
 
@@ -40,7 +40,7 @@ pub join_rung : (l : ℕ) (o : Join) (at : ℕ) (t r : Tree) (ts rs : List Token
 join_rung l sequel at t r ts rs h g = further h (joining at) g
 join_rung l implies at t r ts rs h g = one_of h (joining at) g
 join_rung l or_else at t r ts rs h g = further h (joining at) g
-join_rung l andAlso at t r ts rs h g = further h (joining at) g
+join_rung l and_also at t r ts rs h g = further h (joining at) g
 
 pub comparison_rung : (l : ℕ) (c : Comparison) (at : ℕ) (t r : Tree) (ts rs : List Token) → Rung l 5 t ts → Rung l 5 r rs
     → Rung l 4 (compared at c t r) (ts ++ (sign_at at (comparison c) ∷ rs))

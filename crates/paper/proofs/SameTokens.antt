@@ -9,7 +9,7 @@ use lib.Seq.{length-take-le, drop-append_seam}
 use lib.Dec.{ltb}
 use borrow.Author.Tests.{eqb-true, ltb-true}
 use Rattle.paper.specs.Answers.{Answer, ok, ◌>>=◌}
-use Rattle.paper.specs.Tokens.{bytes, is, span, is_id_byte, hex, literal_in, Tok, numeral, Token, Scan, blank, token, octal_numeral, no_token, tooLarge, taken, scan, onward, tokens_by, tokens, most_tokens}
+use Rattle.paper.specs.Tokens.{bytes, is, span, is_id_byte, hex, literal_in, Tok, numeral, Token, Scan, blank, token, octal_numeral, no_token, too_large, taken, scan, onward, tokens_by, tokens, most_tokens}
 use Rattle.paper.specs.Print.{numeral_in}
 use Rattle.paper.specs.Sentences.{token_at}
 use Rattle.paper.specs.Fixing.{by_old_rules, old_scan, old_tokens, piece_for, fixed_from, fixed}
@@ -54,7 +54,7 @@ begins_alike (b ∷ s) zero at room ts h = go (scan b s) (if_octal b s) (fixed_f
     go (blank n) o rest = (refl, no_dot b s at room ts h)
     go (token t n) o rest = (refl, no_dot b s at room ts h)
     go no_token o rest = (refl, no_dot b s at room ts h)
-    go tooLarge o rest = (refl, no_dot b s at room ts h)
+    go too_large o rest = (refl, no_dot b s at room ts h)
 
 -- what is copied is scanned as it was: something of a kind, which takes n bytes more
 module _ (kind : ℕ → Scan) (takes : (n : ℕ) → (covers (kind n) ≡ suc n) × (taken (kind n) ≡ n)) where
@@ -136,14 +136,14 @@ module _ (s : List ℕ) (later : Kept s) where
       k : Tok
       k = numeral (literal_in hex v)
 
-      go : (t : Bool) → ltb v (2 ^ 128) ≡ t → onward (cond t (token k n) tooLarge) at room (λ m left. tokens_by old_scan m (suc at) left s) ≡ ok ts
+      go : (t : Bool) → ltb v (2 ^ 128) ≡ t → onward (cond t (token k n) too_large) at room (λ m left. tokens_by old_scan m (suc at) left s) ≡ ok ts
           → Same ((bytes "0x" ++ numeral_in 16 v) ++ fixed_from n s) to room ts
       go true small h =
           let o : IsOctal b s v n = subst (IfOctal b s) e (if_octal b s) in
           a_token 48 (120 ∷ numeral_in 16 v) n at k room ts to h (octal_scanned b s v n (fixed_from n s) o (ltb-true v (2 ^ 128) small))
       go false large h = absurd (never_ok h)
   step no_token b at room ts to e h = absurd (never_ok h)
-  step tooLarge b at room ts to e h = absurd (never_ok h)
+  step too_large b at room ts to e h = absurd (never_ok h)
 
 from_same : (s : List ℕ) → Kept s
 unfolding tokens_by fixed_from

@@ -6,7 +6,7 @@ use mathlib.Core.Option.{Option, none, some}
 use mathlib.Core.List.{List, [], ◌∷◌}
 use lib.ListN.{length, take, drop}
 use lib.Dec.{eqb, ltb}
-use Rattle.paper.specs.Tokens.{is, span, starts, is_id_byte, is_id_start, is_digit, is_blank, word_more, Notation, based, octal, spelling, is_numeral, numeral_value, literal_in, one_byte, two_bytes, Sign, numeral, string, Scan, blank, token, no_token, tooLarge, taken, numeral_scan, scan_comment, scan_string, scan_numeral, scan_one, scan_two, scan_sign, isSpace, isSlash, isQuote, isLetter, isFigure, isOther, scan_class, scan}
+use Rattle.paper.specs.Tokens.{is, span, starts, is_id_byte, is_id_start, is_digit, is_blank, word_more, Notation, based, octal, spelling, is_numeral, numeral_value, literal_in, one_byte, two_bytes, Sign, numeral, string, Scan, blank, token, no_token, too_large, taken, numeral_scan, scan_comment, scan_string, scan_numeral, scan_one, scan_two, scan_sign, is_space, is_slash, is_quote, is_letter, is_figure, is_other, scan_class, scan}
 
 abbrev pub Fits : List ℕ → Scan → Type 0
 Fits s c = taken c ≤ length s
@@ -47,7 +47,7 @@ string_fits s =
 notation_fits : (s : List ℕ) (o : Notation) (v more : ℕ) → more ≤ length s → Fits s (numeral_scan o v more)
 notation_fits s octal v more h = h
 notation_fits s (based base) v more h =
-    either_fits s (ltb v (2 ^ 128)) (token (numeral (literal_in base v)) more) tooLarge (λ _. h) zero-le
+    either_fits s (ltb v (2 ^ 128)) (token (numeral (literal_in base v)) more) too_large (λ _. h) zero-le
 
 numeral_fits : (b : ℕ) (s : List ℕ) → Fits s (scan_numeral b s)
 numeral_fits b s =
@@ -74,7 +74,7 @@ unfolding scan
 scan_fits b s = go (is_blank b) (is "/" b) (is "'" b) (is_id_start b) (is_digit b)
   where
     go : (blank slash quote letter digit : Bool)
-        → Fits s (scan_class (cond blank isSpace (cond slash isSlash (cond quote isQuote (cond letter isLetter (cond digit isFigure isOther))))) b s)
+        → Fits s (scan_class (cond blank is_space (cond slash is_slash (cond quote is_quote (cond letter is_letter (cond digit is_figure is_other))))) b s)
     go true slash quote letter digit = zero-le
     go false true quote letter digit = comment_fits s
     go false false true letter digit = string_fits s

@@ -9,7 +9,7 @@ use mathlib.Core.List.{List, [], ◌∷◌, ◌++◌}
 use lib.ListN.{length, take, drop, length-drop}
 use lib.Seq.{take_at, take-append-le, drop-append-le}
 use lib.Dec.{eqb, ltb}
-use Rattle.paper.specs.Tokens.{is, span, starts, is_id_byte, is_id_start, is_digit, is_blank, word_more, Notation, based, octal, spelling, is_numeral, numeral_value, literal_in, numeral, string, Scan, blank, token, octal_numeral, no_token, tooLarge, numeral_scan, scan_comment, scan_string, scan_word, scan_numeral, scan_sign, isSpace, isSlash, isQuote, isLetter, isFigure, isOther, scan_class, scan}
+use Rattle.paper.specs.Tokens.{is, span, starts, is_id_byte, is_id_start, is_digit, is_blank, word_more, Notation, based, octal, spelling, is_numeral, numeral_value, literal_in, numeral, string, Scan, blank, token, octal_numeral, no_token, too_large, numeral_scan, scan_comment, scan_string, scan_word, scan_numeral, scan_sign, is_space, is_slash, is_quote, is_letter, is_figure, is_other, scan_class, scan}
 
 -- two surroundings: both end there, or both go on with the same byte, which is no dot
 abbrev pub Alike : List ℕ → List ℕ → Type 0
@@ -24,7 +24,7 @@ covers (blank n) = suc n
 covers (token k n) = suc n
 covers (octal_numeral v n) = suc n
 covers no_token = 0
-covers tooLarge = 0
+covers too_large = 0
 
 -- a run of bytes that pass a test
 
@@ -107,7 +107,7 @@ module _ (b : ℕ) (s rest rest' : List ℕ) (a : Alike rest rest') where
   number_size true octal v more h = suc_inj h
   number_size true (based base) v more h = go (ltb v (2 ^ 128)) h
     where
-      go : (x : Bool) → covers (cond x (token (numeral (literal_in base v)) more) tooLarge) ≡ suc (length s) → more ≡ length s
+      go : (x : Bool) → covers (cond x (token (numeral (literal_in base v)) more) too_large) ≡ suc (length s) → more ≡ length s
       go true h = suc_inj h
       go false h = absurd (omega arith)
   number_size false w v more h = absurd (omega arith)
@@ -173,7 +173,7 @@ unfolding scan
 scan_local b s rest rest' a = go (is_blank b) (is "/" b) (is "'" b) (is_id_start b) (is_digit b)
   where
     go : (x y z l d : Bool)
-        → let class = cond x isSpace (cond y isSlash (cond z isQuote (cond l isLetter (cond d isFigure isOther)))) in
+        → let class = cond x is_space (cond y is_slash (cond z is_quote (cond l is_letter (cond d is_figure is_other)))) in
         covers (scan_class class b (s ++ rest)) ≡ suc (length s) → scan_class class b (s ++ rest') ≡ scan_class class b (s ++ rest)
     go true y z l d h = refl
     go false true z l d h = comment_same s rest rest' a h

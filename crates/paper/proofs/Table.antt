@@ -7,7 +7,7 @@ use mathlib.Core.List.{List, [], ◌∷◌, ◌++◌}
 use lib.ListN.{length}
 use lib.Dec.{leb}
 use borrow.Author.Tests.{leb-true, leb-false}
-use Rattle.paper.specs.Answers.{ok, refused, ◌>>=◌, require, InText, inBuffer}
+use Rattle.paper.specs.Answers.{ok, refused, ◌>>=◌, require, in_text, in_buffer}
 use Rattle.paper.specs.Tokens.{Token, tokens, most_text}
 use Rattle.paper.specs.Keys.{keys}
 use Rattle.paper.specs.Entry.{entry_of}
@@ -50,28 +50,28 @@ text_only text m to (text_over l) = (refl, refl)
 
 size_follows : (text : List ℕ) → Follows (size_stages text) (sized text)
 size_follows text =
-    follows_one InText (TextSize text) (sized text)
-    (test_tells (TextSize text) (leb (length text) most_text) 1 InText most_text (text_free text)
+    follows_one in_text (TextSize text) (sized text)
+    (test_tells (TextSize text) (leb (length text) most_text) 1 in_text most_text (text_free text)
     (λ h. text_over (leb-false (length text) most_text h)) (text_only text))
 
 -- 5 to 7 and 22; 8 to 10
 
-grammar_tells : (size : ℕ) (ts : List Token) → Tells InText (TextGrammar size ts) (parsed size ts)
+grammar_tells : (size : ℕ) (ts : List Token) → Tells in_text (TextGrammar size ts) (parsed size ts)
 grammar_tells size ts =
-    exact_tells InText (TextGrammar size ts) (parsed size ts)
+    exact_tells in_text (TextGrammar size ts) (parsed size ts)
     (λ n j at e. let (us, stops, same, place) = (parsed_is_right size ts (refused n j at)).0 e in (same, (us, stops, place)))
-    (λ n at (us, stops, place). (parsed_is_right size ts (refused n InText at)).1 (us, stops, refl, place))
+    (λ n at (us, stops, place). (parsed_is_right size ts (refused n in_text at)).1 (us, stops, refl, place))
 
 tree_follows : (text : List ℕ) → Follows (tree_stages text) (tree text)
 unfolding tree
 tree_follows text =
     let grammar = TextGrammar (length text) in
-    follows_then (stage InText (TextTokens text) ∷ []) (stage InText (Given (tokens text) grammar) ∷ []) (tokens text)
+    follows_then (stage in_text (TextTokens text) ∷ []) (stage in_text (Given (tokens text) grammar) ∷ []) (tokens text)
     (parsed (length text))
-    (follows_one InText (TextTokens text) (tokens text) (tokens_tell text))
+    (follows_one in_text (TextTokens text) (tokens text) (tokens_tell text))
     (λ ts cut.
-    follows_one InText (Given (tokens text) grammar) (parsed (length text) ts)
-    (given_tells (tokens text) ts cut grammar InText (parsed (length text) ts) (grammar_tells (length text) ts)))
+    follows_one in_text (Given (tokens text) grammar) (parsed (length text) ts)
+    (given_tells (tokens text) ts cut grammar in_text (parsed (length text) ts) (grammar_tells (length text) ts)))
 
 -- up to 14
 restriction_follows : (text list : List ℕ) → Follows (check_stages text list) (restriction text list)
@@ -101,9 +101,9 @@ module _ (r : Restriction) (buffer : List ℕ) where
   buffer_only : (m to : ℕ) → BufferSize r buffer m to → (m ≡ 15) × (to ≡ length buffer)
   buffer_only m to (buffer_short l) = (refl, refl)
 
-  buffer_tells : Tells inBuffer (BufferSize r buffer) (require (leb bytes_needed (length buffer)) 15 inBuffer (length buffer))
+  buffer_tells : Tells in_buffer (BufferSize r buffer) (require (leb bytes_needed (length buffer)) 15 in_buffer (length buffer))
   buffer_tells =
-      test_tells (BufferSize r buffer) (leb bytes_needed (length buffer)) 15 inBuffer (length buffer) buffer_free
+      test_tells (BufferSize r buffer) (leb bytes_needed (length buffer)) 15 in_buffer (length buffer) buffer_free
       (λ h. buffer_short (leb-false bytes_needed (length buffer) h)) buffer_only
 
 -- the calls
@@ -133,10 +133,10 @@ translate_follows text list buffer =
     follows_as (translate_stages text list buffer) (translatable text list buffer) (λ r. count r buffer)
     (follows_then (check_stages text list) (buffer_stages text list buffer) (restriction text list) (room_for buffer) (restriction_follows text list)
     (λ r passed.
-    let room = require (leb (bytes_needed r buffer) (length buffer)) 15 inBuffer (length buffer) in
+    let room = require (leb (bytes_needed r buffer) (length buffer)) 15 in_buffer (length buffer) in
     follows_as (buffer_stages text list buffer) room (λ _. r)
-    (follows_one inBuffer (Given (restriction text list) size) room
-    (given_tells (restriction text list) r passed size inBuffer room (buffer_tells r buffer)))))
+    (follows_one in_buffer (Given (restriction text list) size) room
+    (given_tells (restriction text list) r passed size in_buffer room (buffer_tells r buffer)))))
 
 run_follows : (list blocks entry : List ℕ) → Follows (run_stages list blocks entry) (run_answer list blocks entry)
 unfolding run_answer
@@ -158,21 +158,21 @@ print_follows text buffer =
     (λ _ _.
     follows_then (tree_stages text) (printing_stages text buffer) (tree text) (λ t. lends (print t) buffer) (tree_follows text)
     (λ t read.
-    follows_one inBuffer (Given (tree text) size) (lends (print t) buffer)
-    (given_tells (tree text) t read size inBuffer (lends (print t) buffer) (lending_tells (print t) buffer)))))
+    follows_one in_buffer (Given (tree text) size) (lends (print t) buffer)
+    (given_tells (tree text) t read size in_buffer (lends (print t) buffer) (lending_tells (print t) buffer)))))
 
 fix_follows : (text buffer : List ℕ) → Follows (fix_stages text buffer) (fix_answer text buffer)
 unfolding fix_answer fixable
 fix_follows text buffer =
-    let cutting = stage InText (TokenFaults old_scan text) ∷ [] in
-    let lending = stage inBuffer (LendingSize (fixed text) buffer) ∷ [] in
+    let cutting = stage in_text (TokenFaults old_scan text) ∷ [] in
+    let lending = stage in_buffer (LendingSize (fixed text) buffer) ∷ [] in
     follows_as (fix_stages text buffer) (fixable text buffer) length
     (follows_then (size_stages text) (fixing_stages text buffer) (sized text) (λ _. old_tokens text >>= λ _. lends (fixed text) buffer)
     (size_follows text)
     (λ _ _.
     follows_then cutting lending (old_tokens text) (λ _. lends (fixed text) buffer)
-    (follows_one InText (TokenFaults old_scan text) (old_tokens text) (old_tokens_tell text))
-    (λ _ _. follows_one inBuffer (LendingSize (fixed text) buffer) (lends (fixed text) buffer) (lending_tells (fixed text) buffer))))
+    (follows_one in_text (TokenFaults old_scan text) (old_tokens text) (old_tokens_tell text))
+    (λ _ _. follows_one in_buffer (LendingSize (fixed text) buffer) (lends (fixed text) buffer) (lending_tells (fixed text) buffer))))
 
 summarize_follows : (text list : List ℕ) → Follows (check_stages text list) (summary_answer text list)
 unfolding summary_answer

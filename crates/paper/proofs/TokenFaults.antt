@@ -10,8 +10,8 @@ use mathlib.Core.List.{List, [], ◌∷◌, ◌++◌, append_assoc, append-nil, 
 use lib.ListN.{length, drop, length-append, length-drop, drop_of_length-le}
 use lib.Seq.{drop-cons, drop-drop}
 use lib.Dec.{ltb}
-use Rattle.paper.specs.Answers.{Answer, ok, refused, ◌>>=◌, InText}
-use Rattle.paper.specs.Tokens.{hex, literal_in, numeral, Token, Scan, blank, token, octal_numeral, no_token, tooLarge, Scanner, scan, onward, tokens_by, tokens, most_tokens}
+use Rattle.paper.specs.Answers.{Answer, ok, refused, ◌>>=◌, in_text}
+use Rattle.paper.specs.Tokens.{hex, literal_in, numeral, Token, Scan, blank, token, octal_numeral, no_token, too_large, Scanner, scan, onward, tokens_by, tokens, most_tokens}
 use Rattle.paper.specs.Faults.{look_at, CutBy, CutsBy, at_start, a_blank, a_token, TokenFaults, scan_at, no_token_lem, numeral_large, one_more_token, one_more_octal, octal_numeral_lem, Cut, TextTokens}
 use Rattle.paper.specs.Fixing.{by_old_rules, old_scan, old_tokens}
 use Rattle.paper.specs.Table.{TokensAreCut}
@@ -37,7 +37,7 @@ module _ (look : Scanner) (text : List ℕ) where
 
   abbrev Told : List Token → Answer (List Token) → Type 0
   Told ts (ok us) = CutsBy look text (ts ++ us)
-  Told ts (refused n j at) = (j ≡ InText) × TokenFaults look text n at
+  Told ts (refused n j at) = (j ≡ in_text) × TokenFaults look text n at
 
   with_first : (ts : List Token) (u : Token) (a : Answer (List Token)) → Told (ts ++ (u ∷ [])) a → Told ts (a >>= λ us. ok (u ∷ us))
   with_first ts u (ok us) h = subst (CutsBy look text) (append_assoc ts (u ∷ []) us) h
@@ -57,7 +57,7 @@ module _ (look : Scanner) (text : List ℕ) where
   onward_told (octal_numeral v n) at zero ts go cut inside whole e later = (refl, one_more_octal v n cut (omega arith) inside e)
   onward_told (octal_numeral v n) at (suc room) ts go cut inside whole e later = (refl, octal_numeral_lem v n cut inside e)
   onward_told no_token at room ts go cut inside whole e later = (refl, no_token_lem cut inside e)
-  onward_told tooLarge at room ts go cut inside whole e later = (refl, numeral_large cut inside e)
+  onward_told too_large at room ts go cut inside whole e later = (refl, numeral_large cut inside e)
 
   -- a byte that is there
   record There (at b : ℕ) (s : List ℕ) : Type 0 where
@@ -140,19 +140,19 @@ module _ (look : Scanner) (text : List ℕ) where
   goes_on at n left = reading (suc at + n) left
 
   stopped : (at : ℕ) (ts : List Token) (room n : ℕ) (c : Scan) → CutBy look text at ts → length ts ≤ most_tokens
-      → most_tokens - length ts ≡ room → at < length text → look_at look text at ≡ c → onward c at room (goes_on at) ≡ refused n InText at
-      → found ≡ refused n InText at
+      → most_tokens - length ts ≡ room → at < length text → look_at look text at ≡ c → onward c at room (goes_on at) ≡ refused n in_text at
+      → found ≡ refused n in_text at
   stopped at ts room n c cut few left inside e gives =
       cut_reads at ts cut few
       ∙ ap (after ts) (reads_on at (most_tokens - length ts) inside ∙ ap₂ (λ c m. onward c at m (goes_on at)) e left ∙ gives)
 
   -- what would be one token more
   full_refused : (at : ℕ) (ts : List Token) (c : Scan) → CutBy look text at ts → length ts ≡ most_tokens → at < length text
-      → look_at look text at ≡ c → onward c at 0 (goes_on at) ≡ refused 7 InText at → found ≡ refused 7 InText at
+      → look_at look text at ≡ c → onward c at 0 (goes_on at) ≡ refused 7 in_text at → found ≡ refused 7 in_text at
   full_refused at ts c cut full inside e gives = stopped at ts 0 7 c cut (omega arith) (omega arith) inside e gives
 
   abbrev SevenBefore : ℕ → Type 0
-  SevenBefore at = (to : ℕ) × (found ≡ refused 7 InText to) × (to < at)
+  SevenBefore at = (to : ℕ) × (found ≡ refused 7 in_text to) × (to < at)
 
   -- more tokens than there is room for: one of them was the first too many
   too_many : (at : ℕ) (ts : List Token) → CutBy look text at ts → most_tokens < length ts → SevenBefore at
@@ -178,45 +178,45 @@ module _ (look : Scanner) (text : List ℕ) where
       go (no few) = omega arith
 
   -- that fault itself
-  given_itself : (n at : ℕ) → found ≡ refused n InText at → RefusedFor found InText n at
+  given_itself : (n at : ℕ) → found ≡ refused n in_text at → RefusedFor found in_text n at
   given_itself n at e = (n, at, e, inr (refl, omega arith))
 
   -- 5, 6 or 22, unless there are too many tokens before it
-  refused_for : (at : ℕ) (ts : List Token) (n : ℕ) → CutBy look text at ts → (length ts ≤ most_tokens → RefusedFor found InText n at)
-      → RefusedFor found InText n at
+  refused_for : (at : ℕ) (ts : List Token) (n : ℕ) → CutBy look text at ts → (length ts ≤ most_tokens → RefusedFor found in_text n at)
+      → RefusedFor found in_text n at
   refused_for at ts n cut given = go (dec_lt most_tokens (length ts))
     where
-      go : Dec (most_tokens < length ts) → RefusedFor found InText n at
+      go : Dec (most_tokens < length ts) → RefusedFor found in_text n at
       go (yes many) = let (to, earlier, l) = too_many at ts cut many in (7, to, earlier, inl l)
       go (no few) = given (omega arith)
 
   -- an octal numeral: 7 where it would be one token more, else 22
   octal_refused : (at : ℕ) (ts : List Token) (v n : ℕ) → CutBy look text at ts → at < length text
-      → look_at look text at ≡ octal_numeral v n → length ts ≤ most_tokens → RefusedFor found InText 22 at
+      → look_at look text at ≡ octal_numeral v n → length ts ≤ most_tokens → RefusedFor found in_text 22 at
   octal_refused at ts v n cut inside e few = go (ℕ_discrete (length ts) most_tokens)
     where
-      go : Dec (length ts ≡ most_tokens) → RefusedFor found InText 22 at
+      go : Dec (length ts ≡ most_tokens) → RefusedFor found in_text 22 at
       go (yes full) = (7, at, full_refused at ts (octal_numeral v n) cut full inside e refl, inr (refl, omega arith))
       go (no other) =
           let room : most_tokens - length ts ≡ suc (most_tokens - suc (length ts)) = omega arith in
           given_itself 22 at (stopped at ts (suc (most_tokens - suc (length ts))) 22 (octal_numeral v n) cut few room inside e refl)
 
-  fault_refused : (n at : ℕ) → TokenFaults look text n at → RefusedFor found InText n at
+  fault_refused : (n at : ℕ) → TokenFaults look text n at → RefusedFor found in_text n at
   fault_refused n at (no_token_lem {ts = ts} cut inside e) =
       refused_for at ts 5 cut
       (λ few. given_itself 5 at (stopped at ts (most_tokens - length ts) 5 no_token cut few refl inside e refl))
   fault_refused n at (numeral_large {ts = ts} cut inside e) =
       refused_for at ts 6 cut
-      (λ few. given_itself 6 at (stopped at ts (most_tokens - length ts) 6 tooLarge cut few refl inside e refl))
+      (λ few. given_itself 6 at (stopped at ts (most_tokens - length ts) 6 too_large cut few refl inside e refl))
   fault_refused n at (one_more_token {ts = ts} k m cut full inside e) =
       given_itself 7 at (full_refused at ts (token k m) cut full inside e refl)
   fault_refused n at (one_more_octal {ts = ts} v m cut full inside e) =
       given_itself 7 at (full_refused at ts (octal_numeral v m) cut full inside e refl)
   fault_refused n at (octal_numeral_lem {ts = ts} v m cut inside e) = refused_for at ts 22 cut (octal_refused at ts v m cut inside e)
 
-  found_tells : Tells InText (TokenFaults look text) found
+  found_tells : Tells in_text (TokenFaults look text) found
   found_tells =
-      soonest_tells InText (TokenFaults look text) found (λ n j at e. subst (Told []) e found_told) fault_refused
+      soonest_tells in_text (TokenFaults look text) found (λ n j at e. subst (Told []) e found_told) fault_refused
 
   -- all of it cut
   cuts_read : (ts : List Token) → CutsBy look text ts → found ≡ ok ts
@@ -231,7 +231,7 @@ module _ (look : Scanner) (text : List ℕ) where
 
 -- by the rules that hold
 
-pub tokens_tell : (text : List ℕ) → Tells InText (TextTokens text) (tokens text)
+pub tokens_tell : (text : List ℕ) → Tells in_text (TextTokens text) (tokens text)
 unfolding tokens
 tokens_tell text = found_tells scan text
 
@@ -245,7 +245,7 @@ few_tokens text at ts us cut passed = few_cut scan text at ts us cut passed
 
 -- by the old ones
 
-pub old_tokens_tell : (text : List ℕ) → Tells InText (TokenFaults old_scan text) (old_tokens text)
+pub old_tokens_tell : (text : List ℕ) → Tells in_text (TokenFaults old_scan text) (old_tokens text)
 unfolding old_tokens
 old_tokens_tell text = found_tells old_scan text
 
@@ -260,18 +260,18 @@ left_over (blank n) = false
 left_over (token t n) = false
 left_over (octal_numeral v n) = true
 left_over no_token = false
-left_over tooLarge = false
+left_over too_large = false
 
 none_left_over : (c : Scan) → left_over (by_old_rules c) ≡ false
 none_left_over (blank n) = refl
 none_left_over (token t n) = refl
 none_left_over (octal_numeral v n) = go (ltb v (2 ^ 128))
   where
-    go : (b : Bool) → left_over (cond b (token (numeral (literal_in hex v)) n) tooLarge) ≡ false
+    go : (b : Bool) → left_over (cond b (token (numeral (literal_in hex v)) n) too_large) ≡ false
     go true = refl
     go false = refl
 none_left_over no_token = refl
-none_left_over tooLarge = refl
+none_left_over too_large = refl
 
 pub never_octal : (c : Scan) (v n : ℕ) → ¬ (by_old_rules c ≡ octal_numeral v n)
 never_octal c v n e = true≢false (sym (ap left_over e) ∙ none_left_over c)

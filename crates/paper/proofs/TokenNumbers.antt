@@ -8,7 +8,7 @@ use lib.ListN.{length, take, drop}
 use lib.Dec.{eqb, ltb}
 use borrow.Author.Tests.{ltb-true, eq-eqb}
 use Rattle.paper.specs.Answers.{Answer, ok}
-use Rattle.paper.specs.Tokens.{is, span, starts, is_id_byte, is_id_start, is_digit, is_blank, word_more, is_key, spelling, is_numeral, numeral_value, Notation, based, octal, literal_in, Sign, one_byte, two_bytes, Tok, word, numeral, string, sign, Token, Scan, blank, token, octal_numeral, no_token, tooLarge, numeral_scan, scan_comment, scan_one, scan_two, scan_sign, isSpace, isSlash, isQuote, isLetter, isFigure, isOther, class_of, scan_class, scan, onward, tokens_by, tokens_from, tokens, most_tokens}
+use Rattle.paper.specs.Tokens.{is, span, starts, is_id_byte, is_id_start, is_digit, is_blank, word_more, is_key, spelling, is_numeral, numeral_value, Notation, based, octal, literal_in, Sign, one_byte, two_bytes, Tok, word, numeral, string, sign, Token, Scan, blank, token, octal_numeral, no_token, too_large, numeral_scan, scan_comment, scan_one, scan_two, scan_sign, is_space, is_slash, is_quote, is_letter, is_figure, is_other, class_of, scan_class, scan, onward, tokens_by, tokens_from, tokens, most_tokens}
 use Rattle.paper.specs.BlocksRoundTrip.{All}
 use Rattle.paper.proofs.Stages.{Of, of_bind}
 
@@ -26,7 +26,7 @@ Scanned (blank n) = Unit {0}
 Scanned (token t n) = Good t
 Scanned (octal_numeral v n) = Unit {0}
 Scanned no_token = Unit {0}
-Scanned tooLarge = Unit {0}
+Scanned too_large = Unit {0}
 
 sign_good : (o : Option Sign) → Scanned (scan_one o)
 sign_good none = tt
@@ -52,7 +52,7 @@ numeral_good : (o : Notation) (v more : ℕ) → Scanned (numeral_scan o v more)
 numeral_good octal v more = tt
 numeral_good (based base) v more = go (ltb v (2 ^ 128)) refl
   where
-    go : (b : Bool) → ltb v (2 ^ 128) ≡ b → Scanned (cond b (token (numeral (literal_in base v)) more) tooLarge)
+    go : (b : Bool) → ltb v (2 ^ 128) ≡ b → Scanned (cond b (token (numeral (literal_in base v)) more) too_large)
     go true e = ltb-true v (2 ^ 128) e
     go false e = tt
 
@@ -82,7 +82,7 @@ class_good : (b : ℕ) (s : List ℕ) → Scanned (scan_class (class_of b) b s)
 class_good b s = go (is_blank b) (is "/" b) (is "'" b) (is_id_start b) (is_digit b) refl
   where
     go : (blank slash quote letter digit : Bool) → is_id_start b ≡ letter
-        → Scanned (scan_class (cond blank isSpace (cond slash isSlash (cond quote isQuote (cond letter isLetter (cond digit isFigure isOther))))) b s)
+        → Scanned (scan_class (cond blank is_space (cond slash is_slash (cond quote is_quote (cond letter is_letter (cond digit is_figure is_other))))) b s)
     go true slash quote letter digit e = tt
     go false true quote letter digit e = comment_good s
     go false false true letter digit e =
@@ -109,7 +109,7 @@ onward_within (token t n) at (suc room) go h k =
 onward_within (octal_numeral v n) at zero go h k = tt
 onward_within (octal_numeral v n) at (suc room) go h k = tt
 onward_within no_token at room go h k = tt
-onward_within tooLarge at room go h k = tt
+onward_within too_large at room go h k = tt
 
 from_within : (s : List ℕ) (n at room : ℕ) → Of (Within room) (tokens_from n at room s)
 unfolding tokens_by scan

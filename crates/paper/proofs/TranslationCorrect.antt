@@ -9,7 +9,7 @@ use lib.ListN.{length, take, drop, length-append, length-drop}
 use lib.Seq.{take_at, drop_at}
 use lib.Dec.{leb}
 use borrow.Author.Tests.{leb-true, le-leb}
-use Rattle.paper.specs.Answers.{Answer, ok, refused, ◌>>=◌, require, Ran, Input, inBuffer}
+use Rattle.paper.specs.Answers.{Answer, ok, refused, ◌>>=◌, require, Ran, Input, in_buffer}
 use Rattle.paper.specs.Tokens.{tokens}
 use Rattle.paper.specs.Keys.{Key, keys}
 use Rattle.paper.specs.Entry.{Entry, entry_of}
@@ -189,8 +189,8 @@ module _ (text list : List ℕ) (r : Restriction) (passed : restriction text lis
       → Written (length ks) code (take size (translate_buffer text list buffer))
   written_there buffer e = rw (e, in_front buffer) written
 
-  in_buffer : (buffer : List ℕ) → size ≤ length buffer → translate_buffer text list buffer ≡ over blocks buffer → Filled text list buffer (length code)
-  in_buffer buffer room e =
+  in_buffer_lem : (buffer : List ℕ) → size ≤ length buffer → translate_buffer text list buffer ≡ over blocks buffer → Filled text list buffer (length code)
+  in_buffer_lem buffer room e =
       let rest = drop (length blocks) buffer in
       let back : drop size (over blocks buffer) ≡ rest = drop_at blocks rest size written.size in
       record {
@@ -204,13 +204,13 @@ module _ (text list : List ℕ) (r : Restriction) (passed : restriction text lis
 abbrev pub translating : List ℕ → Restriction → Answer ℕ
 translating buffer r =
     let n = length (code_of r.keys r.root) in
-    require (leb (block_size * blocks_needed n) (length buffer)) 15 inBuffer (length buffer) >>= λ _. ok n
+    require (leb (block_size * blocks_needed n) (length buffer)) 15 in_buffer (length buffer) >>= λ _. ok n
 
 pub translates : (text list buffer : List ℕ) → translate_answer text list buffer ≡ (restriction text list >>= translating buffer)
 unfolding translate_answer
 translates text list buffer =
     test_again (restriction text list)
-    (λ r. require (leb (block_size * blocks_needed (length (code_of r.keys r.root))) (length buffer)) 15 inBuffer (length buffer))
+    (λ r. require (leb (block_size * blocks_needed (length (code_of r.keys r.root))) (length buffer)) 15 in_buffer (length buffer))
     (λ r. length (code_of r.keys r.root))
 
 -- the buffer, of a translation whose stages passed, and of one that a stage refused
@@ -233,14 +233,14 @@ pub translated : (buffer : List ℕ) (r : Restriction) (n : ℕ) → translating
 translated buffer r n h =
     let code = code_of r.keys r.root in
     let test = leb (block_size * blocks_needed (length code)) (length buffer) in
-    let b = bind_ok (require test 15 inBuffer (length buffer)) (λ _. ok (length code)) n h in
-    (cc, leb-true (block_size * blocks_needed (length code)) (length buffer) (require_ok test 15 inBuffer (length buffer) b.0 b.1))
+    let b = bind_ok (require test 15 in_buffer (length buffer)) (λ _. ok (length code)) n h in
+    (cc, leb-true (block_size * blocks_needed (length code)) (length buffer) (require_ok test 15 in_buffer (length buffer) b.0 b.1))
 
 pub translation_carries : TranslationCarries
 translation_carries text list buffer n h =
     let a = bind_ok (restriction text list) (translating buffer) n (sym (translates text list buffer) ∙ h) in
     let b = translated buffer a.0 n a.2 in
-    subst (Filled text list buffer) b.0 (in_buffer text list a.0 a.1 buffer b.1 (fills text list buffer a.0 a.1 b.1))
+    subst (Filled text list buffer) b.0 (in_buffer_lem text list a.0 a.1 buffer b.1 (fills text list buffer a.0 a.1 b.1))
 
 -- and the blocks in the buffer are those of its code
 pub translation_written : (text list buffer : List ℕ) (n : ℕ) → translate_answer text list buffer ≡ ok n
@@ -268,7 +268,7 @@ checked_translates text list h buffer room =
 pub checked_count : (text list : List ℕ) → check_answer text list ≡ ok tt
     → (n : ℕ) × (n ≤ most_translated)
     × ((buffer : List ℕ) → translate_answer text list buffer
-    ≡ (require (leb (block_size * blocks_needed n) (length buffer)) 15 inBuffer (length buffer) >>= λ _. ok n))
+    ≡ (require (leb (block_size * blocks_needed n) (length buffer)) 15 in_buffer (length buffer) >>= λ _. ok n))
 unfolding check_answer
 checked_count text list h =
     let a = bind_ok (restriction text list) (λ _. ok tt) tt h in

@@ -9,7 +9,7 @@ use mathlib.Core.Bool.{Bool, true, false, cond, true≢false}
 use mathlib.Core.Option.{Option, none, some, map, none-ne-some, some-injective}
 use mathlib.Core.List.{List, [], ◌∷◌}
 use lib.ListN.{get_elem?}
-use Rattle.paper.specs.Answers.{Input, InText, Answer, ok, refused, ◌>>=◌, require}
+use Rattle.paper.specs.Answers.{Input, in_text, Answer, ok, refused, ◌>>=◌, require}
 use Rattle.paper.specs.Tokens.{bytes, same_bytes, Join, Comparison}
 use Rattle.paper.specs.Keys.{Kind, Key, find_from, find, keys}
 use Rattle.paper.specs.Grammar.{Tree, truth, number, key, field, attribute, prefixed, joined, compared, place_of}
@@ -134,7 +134,7 @@ same_ok x a b d e = ok_same a b (sym d ∙ e)
 
 -- `say` answers for it where both have types, and tells of its own faults
 module _ (L R F : Faults) (Own : Ty → Ty → Faults) (say : Ty → Ty → Answer Ty) (x y : Answer Ty)
-    (itself : (a b : Ty) → Tells InText (Own a b) (say a b)) (own : (a b : Ty) (n to : ℕ) → x ≡ ok a → y ≡ ok b → Own a b n to → F n to)
+    (itself : (a b : Ty) → Tells in_text (Own a b) (say a b)) (own : (a b : Ty) (n to : ℕ) → x ≡ ok a → y ≡ ok b → Own a b n to → F n to)
     (left : (n to : ℕ) → L n to → F n to) (right : (n to : ℕ) → R n to → F n to)
     (whence : (n to : ℕ) → F n to → Operator Own x y n to ⊎ (L n to ⊎ R n to)) (order : (n p m q : ℕ) → L n p → R m q → p < q) where
   left_wins : (n : ℕ) (j : Input) (p : ℕ) → x ≡ refused n j p → Wins L n p → Wins F n p
@@ -164,24 +164,24 @@ module _ (L R F : Faults) (Own : Ty → Ty → Faults) (say : Ty → Ty → Answ
         go (inr (inl h)) = absurd (none_left m q h)
         go (inr (inr h)) = absurd (none_right m q h)
 
-    own_tells : (v : Answer Ty) → Tells InText (Own a b) v → Tells InText F v
+    own_tells : (v : Answer Ty) → Tells in_text (Own a b) v → Tells in_text F v
     own_tells (ok t) free = λ m q f. free m q (own_only m q f)
     own_tells (refused n j p) (same, wins) =
         (same, record { fault = own a b n p d e wins.fault; first = λ m q f. wins.first m q (own_only m q f) })
 
-  operator_tells : Tells InText L x → Tells InText R y → Tells InText F (x >>= λ a. y >>= λ b. say a b)
+  operator_tells : Tells in_text L x → Tells in_text R y → Tells in_text F (x >>= λ a. y >>= λ b. say a b)
   operator_tells l r = first x refl l
     where
-      second : (a : Ty) → x ≡ ok a → Free L → (v : Answer Ty) → y ≡ v → Tells InText R v → Tells InText F (v >>= λ b. say a b)
+      second : (a : Ty) → x ≡ ok a → Free L → (v : Answer Ty) → y ≡ v → Tells in_text R v → Tells in_text F (v >>= λ b. say a b)
       second a d none_left (ok b) e h = own_tells a b d e none_left h (say a b) (itself a b)
       second a d none_left (refused n j p) e h = (h.0, right_wins n j p none_left e h.1)
 
-      first : (v : Answer Ty) → x ≡ v → Tells InText L v → Tells InText F (v >>= λ a. y >>= λ b. say a b)
+      first : (v : Answer Ty) → x ≡ v → Tells in_text L v → Tells in_text F (v >>= λ a. y >>= λ b. say a b)
       first (ok a) e h = second a e h y refl r
       first (refused n j p) e h = (h.0, left_wins n j p e h.1)
 
 -- a join itself
-join_tells : (at : ℕ) (a b : Ty) → Tells InText (JoinFaults at a b) (operator_type at (join_type a b))
+join_tells : (at : ℕ) (a b : Ty) → Tells in_text (JoinFaults at a b) (operator_type at (join_type a b))
 join_tells at a b = go (join_type a b) refl
   where
     only : (m q : ℕ) → JoinFaults at a b m q → (m ≡ 13) × (q ≡ at)
@@ -190,7 +190,7 @@ join_tells at a b = go (join_type a b) refl
     free : (t : Ty) → join_type a b ≡ some t → (m q : ℕ) → JoinFaults at a b m q → ⊥
     free t there m q (unjoined h) = none-ne-some t (sym h ∙ there)
 
-    go : (o : Option Ty) → join_type a b ≡ o → Tells InText (JoinFaults at a b) (operator_type at o)
+    go : (o : Option Ty) → join_type a b ≡ o → Tells in_text (JoinFaults at a b) (operator_type at o)
     go none h = (refl, only_wins (unjoined h) only)
     go (some t) h = free t h
 
@@ -222,12 +222,12 @@ module _ (at : ℕ) (c : Comparison) (l r : Tree) (before : place_of l < place_o
   none_lost suits kept too m q (left_loses h k) = true≢false (sym kept ∙ k)
   none_lost suits kept too m q (right_loses h k) = true≢false (sym too ∙ k)
 
-  comparison_tells : Tells InText Own (compared_type at c l r a b)
+  comparison_tells : Tells in_text Own (compared_type at c l r a b)
   comparison_tells = go (compares c a b) refl (keeps_bits l b) refl (keeps_bits r a) refl
     where
       go : (s : Bool) → compares c a b ≡ s → (x : Bool) → keeps_bits l b ≡ x → (y : Bool) → keeps_bits r a ≡ y
-          → Tells InText Own
-          (operator_type at (when s bool) >>= λ t. require x 23 InText (place_of l) >>= λ _. require y 23 InText (place_of r) >>= λ _. ok t)
+          → Tells in_text Own
+          (operator_type at (when s bool) >>= λ t. require x 23 in_text (place_of l) >>= λ _. require y 23 in_text (place_of r) >>= λ _. ok t)
       go false h x d y e = (refl, only_wins (unsuited (has_type_lem h)) (unsuited_only h))
       go true h false d y e = (refl, record { fault = left_loses (has_type_lem h) d; first = left_first h })
       go true h true d false e = (refl, only_wins (right_loses (has_type_lem h) e) (right_only h d))
@@ -255,14 +255,14 @@ module _ (L F : Faults) (at : ℕ) (op : Ty → Option Ty) (x : Answer Ty) (wron
   outer_free a c d h none_inside m q (inl (b, _, _, e, g)) = none-ne-some c (sym g ∙ ap op (same_ok x b a e d) ∙ h)
   outer_free a c d h none_inside m q (inr f) = none_inside m q f
 
-  prefix_tells : Tells InText L x → Tells InText F (x >>= λ a. operator_type at (op a))
+  prefix_tells : Tells in_text L x → Tells in_text F (x >>= λ a. operator_type at (op a))
   prefix_tells l = first x refl l
     where
-      second : (a : Ty) → x ≡ ok a → Free L → (o : Option Ty) → op a ≡ o → Tells InText F (operator_type at o)
+      second : (a : Ty) → x ≡ ok a → Free L → (o : Option Ty) → op a ≡ o → Tells in_text F (operator_type at o)
       second a d none_inside none h = (refl, only_wins (wrong a d h) (λ m q f. outer_only none_inside m q (whence m q f)))
       second a d none_inside (some c) h = λ m q f. outer_free a c d h none_inside m q (whence m q f)
 
-      first : (v : Answer Ty) → x ≡ v → Tells InText L v → Tells InText F (v >>= λ a. operator_type at (op a))
+      first : (v : Answer Ty) → x ≡ v → Tells in_text L v → Tells in_text F (v >>= λ a. operator_type at (op a))
       first (ok a) e h = second a e h (op a) refl
       first (refused n j p) e h = (h.0, inner_wins n j p e h.1)
 
@@ -270,12 +270,12 @@ module _ (L F : Faults) (at : ℕ) (op : Ty → Option Ty) (x : Answer Ty) (wron
 
 module _ (ks : List Key) where
   key_tells : (at : ℕ) (w : List ℕ) (o : Option ℕ) → find ks w ≡ o
-      → Tells InText (TreeTypes ks (key at w)) (known at (and_then o (bare_type ks)))
+      → Tells in_text (TreeTypes ks (key at w)) (known at (and_then o (bare_type ks)))
   key_tells at w none e =
       (refl, only_wins (key_unknown at e) (λ m q f. let (d, h, _) = fault_tells ks (key at w) m q f in (d, h)))
   key_tells at w (some k) e =
       let (a, there) = bare_found ks w k e in
-      subst (λ o. Tells InText (TreeTypes ks (key at w)) (known at o)) (sym there)
+      subst (λ o. Tells in_text (TreeTypes ks (key at w)) (known at o)) (sym there)
       (λ m q f. let (_, _, missing) = fault_tells ks (key at w) m q f in none-ne-some k (sym missing ∙ e))
 
   module _ (at : ℕ) (w : List ℕ) (past : ℕ) (f : List ℕ) where
@@ -299,17 +299,17 @@ module _ (ks : List Key) where
         let same : j ≡ k = some-injective j k (sym found ∙ e) in
         none-ne-some a (sym nothing ∙ ap field_has same ∙ there)
 
-    field_tells : (o : Option ℕ) → find ks w ≡ o → Tells InText F (known at o >>= λ k. named_type past (field_has k))
+    field_tells : (o : Option ℕ) → find ks w ≡ o → Tells in_text F (known at o >>= λ k. named_type past (field_has k))
     field_tells none e =
         (refl, only_wins (key_of_field_unknown at past e) (λ m q h. unknown_only e m q (fault_tells ks (field at w past f) m q h)))
     field_tells (some k) e = go (field_has k) refl
       where
-        go : (o : Option Ty) → field_has k ≡ o → Tells InText F (named_type past o)
+        go : (o : Option Ty) → field_has k ≡ o → Tells in_text F (named_type past o)
         go none h = (refl, only_wins (field_unknown at past k e h) (λ m q g. field_only k e m q (fault_tells ks (field at w past f) m q g)))
         go (some a) h = λ m q g. field_free k a e h m q (fault_tells ks (field at w past f) m q g)
 
   attribute_tells : (at past : ℕ) (f : List ℕ) (b : Bool) → same_bytes f (bytes "priority") ≡ b
-      → Tells InText (TreeTypes ks (attribute at past f)) (named_type past (when b int))
+      → Tells in_text (TreeTypes ks (attribute at past f)) (named_type past (when b int))
   attribute_tells at past f true e =
       λ m q h. let (_, _, other) = fault_tells ks (attribute at past f) m q h in other (same_bytes_lem f (bytes "priority") e)
   attribute_tells at past f false e =
@@ -329,7 +329,7 @@ module _ (ks : List Key) where
   roots_apart : (l r : Tree) → Everywhere (λ p. Everywhere (λ q. p < q) r) l → place_of l < place_of r
   roots_apart l r h = root_place (λ q. place_of l < q) r (root_place (λ p. Everywhere (λ q. p < q) r) l h)
 
-  types_tell : (t : Tree) → InOrder t → Tells InText (TreeTypes ks t) (type_of ks t)
+  types_tell : (t : Tree) → InOrder t → Tells in_text (TreeTypes ks t) (type_of ks t)
   unfolding type_of
   types_tell (truth at b) o = λ m q h. fault_tells ks (truth at b) m q h
   types_tell (number at n) o = λ m q h. fault_tells ks (number at n) m q h
@@ -364,7 +364,7 @@ module _ (ks : List Key) where
   root_only : (t : Tree) (m q : ℕ) → RootType ks t m q → (m ≡ 14) × (q ≡ place_of t)
   root_only t m q (not_bool a d other) = (refl, refl)
 
-  root_tells : (t : Tree) (a : Ty) → type_of ks t ≡ ok a → Tells InText (RootType ks t) (root_type t a)
+  root_tells : (t : Tree) (a : Ty) → type_of ks t ≡ ok a → Tells in_text (RootType ks t) (root_type t a)
   root_tells t bool e = root_free t e
   root_tells t int e = (refl, only_wins (not_bool int e (λ d. not_number (sym d))) (root_only t))
   root_tells t (of k w) e = (refl, only_wins (not_bool (of k w) e (λ d. not_match k w (sym d))) (root_only t))
@@ -376,12 +376,12 @@ unfolding typed
 types_follow text list ks t listed read =
     let types : List Key → Faults = λ ks. Given (tree text) (TreeTypes ks) in
     let root : List Key → Faults = λ ks. Given (tree text) (RootType ks) in
-    let last = stage InText (Given (keys list) root) ∷ [] in
-    follows_then (stage InText (Given (keys list) types) ∷ []) last (type_of ks t) (root_type t)
-    (follows_one InText (Given (keys list) types) (type_of ks t)
-    (given_tells (keys list) ks listed types InText (type_of ks t)
-    (given_tells (tree text) t read (TreeTypes ks) InText (type_of ks t) (types_tell ks t (text_in_order text t read)))))
+    let last = stage in_text (Given (keys list) root) ∷ [] in
+    follows_then (stage in_text (Given (keys list) types) ∷ []) last (type_of ks t) (root_type t)
+    (follows_one in_text (Given (keys list) types) (type_of ks t)
+    (given_tells (keys list) ks listed types in_text (type_of ks t)
+    (given_tells (tree text) t read (TreeTypes ks) in_text (type_of ks t) (types_tell ks t (text_in_order text t read)))))
     (λ a e.
-    follows_one InText (Given (keys list) root) (root_type t a)
-    (given_tells (keys list) ks listed root InText (root_type t a)
-    (given_tells (tree text) t read (RootType ks) InText (root_type t a) (root_tells ks t a e))))
+    follows_one in_text (Given (keys list) root) (root_type t a)
+    (given_tells (keys list) ks listed root in_text (root_type t a)
+    (given_tells (tree text) t read (RootType ks) in_text (root_type t a) (root_tells ks t a e))))

@@ -7,8 +7,8 @@ use mathlib.Core.Bool.{Bool, true, false, not, cond, ◌&&◌, and-false, false�
 use mathlib.Core.Option.{Option, none, some, map, some-injective, none-ne-some, some-ne-none}
 use mathlib.Core.List.{List}
 use borrow.Author.Tests.{eq-eqb}
-use Rattle.paper.specs.Answers.{Answer, ok, refused, ◌>>=◌, require, InText}
-use Rattle.paper.specs.Tokens.{bytes, same_bytes, Prefix, notSign, minusSign, Comparison}
+use Rattle.paper.specs.Answers.{Answer, ok, refused, ◌>>=◌, require, in_text}
+use Rattle.paper.specs.Tokens.{bytes, same_bytes, Prefix, not_sign, minus_sign, Comparison}
 use Rattle.paper.specs.Keys.{kind_no, Key, find}
 use Rattle.paper.specs.Entry.{Entry, is_exact}
 use Rattle.paper.specs.Grammar as G
@@ -87,8 +87,8 @@ compared_there c a b m e =
 -- operators
 
 prefix_follows : (o : Prefix) (a : Value) → prefix_type o (ty_of a) ≡ map ty_of (prefix_value o a)
-prefix_follows notSign a = not_follows a
-prefix_follows minusSign a = negate_follows a
+prefix_follows not_sign a = not_follows a
+prefix_follows minus_sign a = negate_follows a
 
 comparison_follows : (c : Comparison) (a b : Value) → comparison_type c (ty_of a) (ty_of b) ≡ map ty_of (comparison_value c a b)
 comparison_follows c a b = go (meet (ty_of a) (ty_of b)) refl
@@ -134,7 +134,7 @@ operand_typed (refused n i at) (some v) f g same h = absurd (none-ne-some (ty_of
 
 -- a comparison has a type where its operands' types suit it and both operands keep their bits
 has_compared : (at p q : ℕ) (o : Option Ty) (x y : Bool)
-    → has_type (operator_type at o >>= λ t. require x 23 InText p >>= λ _. require y 23 InText q >>= λ _. ok t) ≡ and_then o (when (x && y))
+    → has_type (operator_type at o >>= λ t. require x 23 in_text p >>= λ _. require y 23 in_text q >>= λ _. ok t) ≡ and_then o (when (x && y))
 has_compared at p q none x y = refl
 has_compared at p q (some a) true true = refl
 has_compared at p q (some a) true false = refl

@@ -7,7 +7,7 @@ use mathlib.Core.Bool.{Bool, true, false}
 use mathlib.Core.List.{List, [], ◌∷◌}
 use lib.ListN.{length}
 use Rattle.paper.specs.Answers.{ok}
-use Rattle.paper.specs.Tokens.{Join, implies, or_else, andAlso, sequel, Token, tokens}
+use Rattle.paper.specs.Tokens.{Join, implies, or_else, and_also, sequel, Token, tokens}
 use Rattle.paper.specs.Addresses.{address}
 use Rattle.paper.specs.Grammar.{Tree, got, stuck, Out, ends, deep, bad, Parser, joins, compares, once, chain, sequence, operand, prefixes, finished, whole, most_levels, outcome, parsed}
 use Rattle.paper.specs.Calls.{tree}
@@ -57,11 +57,11 @@ sequence_step : (a : ℕ) (p : Parser) → Yields (Shallow a) p → (last : Bool
 unfolding sequence
 sequence_step a p h last =
     let compared = once compares p in
-    let anded = chain false (joins andAlso) compared in
+    let anded = chain false (joins and_also) compared in
     let ored = chain false (joins or_else) anded in
     let implied = once (joins implies) ored in
     let c = compare_step a (a + 1) (omega arith) p h in
-    let n = chain_step (a + 1) (a + 2) (omega arith) compared c false andAlso in
+    let n = chain_step (a + 1) (a + 2) (omega arith) compared c false and_also in
     let o = chain_step (a + 2) (a + 3) (omega arith) anded n false or_else in
     let i = once_step (a + 3) (a + 4) (omega arith) ored o implies in
     chain_step (a + 4) (a + 5) (omega arith) implied i last sequel

@@ -5,7 +5,7 @@ use mathlib.Core.List.{List}
 use lib.ListN.{length}
 use lib.Dec.{leb}
 use borrow.Author.Tests.{leb-true, le-leb}
-use Rattle.paper.specs.Answers.{InText, ok, ◌>>=◌}
+use Rattle.paper.specs.Answers.{in_text, ok, ◌>>=◌}
 use Rattle.paper.specs.Tokens.{tokens, most_text}
 use Rattle.paper.specs.Grammar.{Tree, nodes, parsed}
 use Rattle.paper.specs.Calls.{sized, tree, read_answer}
@@ -37,6 +37,6 @@ module _ (text : List ℕ) where
   unfolding read_answer
   answer_formed n e =
       let (u, short, rest) = bind_ok (sized text) (λ _. tree text >>= λ t. ok (nodes t)) n e in
-      let few = require_ok (leb (length text) most_text) 1 InText most_text u short in
+      let few = require_ok (leb (length text) most_text) 1 in_text most_text u short in
       let (root, read, same) = bind_ok (tree text) (λ t. ok (nodes t)) n rest in
       (root, tree_formed root (leb-true (length text) most_text few) read, ok_same (nodes root) n same)

@@ -11,7 +11,7 @@ use lib.Seq.{take_at}
 use lib.Dec.{eqb, leb, ltb}
 use borrow.Author.Tests.{eqb-true, leb-true, lt-leb, le-leb, ne_eqb, eq-eqb, ltb-true, ltb-false, lt-ltb, le-ltb}
 use Rattle.paper.specs.Numbers.{in_base}
-use Rattle.paper.specs.Tokens.{is, is_digit, is_id_start, is_id_byte, span, starts, word_more, is_key, digit_of, Base, decimal, binary, hex, radix, Notation, based, notation_of, Numeral, spelling, spelled, is_numeral, numeral_value, Literal, literal_in, word, numeral, Scan, token, no_token, numeral_scan, scan, isLetter, isFigure, class_of}
+use Rattle.paper.specs.Tokens.{is, is_digit, is_id_start, is_id_byte, span, starts, word_more, is_key, digit_of, Base, decimal, binary, hex, radix, Notation, based, notation_of, Numeral, spelling, spelled, is_numeral, numeral_value, Literal, literal_in, word, numeral, Scan, token, no_token, numeral_scan, scan, is_letter, is_figure, class_of}
 use Rattle.paper.specs.BlocksRoundTrip.{All}
 use Rattle.paper.specs.Print.{digit_byte}
 
@@ -45,7 +45,7 @@ word_span (b ∷ w) rest h loose =
     go false true false e f d h more = absurd (omega (arith, h))
     go false false z e f d h more = absurd (omega (arith, h))
 
-letter_class : (b : ℕ) → is_id_start b ≡ true → class_of b ≡ isLetter
+letter_class : (b : ℕ) → is_id_start b ≡ true → class_of b ≡ is_letter
 letter_class b h =
     rw (
       unlike is_id_start b 32 h refl,
@@ -149,7 +149,7 @@ not_announced b h =
       unlike is_digit b 88 h refl,
     )
 
-figure_class : (b : ℕ) → is_digit b ≡ true → class_of b ≡ isFigure
+figure_class : (b : ℕ) → is_digit b ≡ true → class_of b ≡ is_figure
 figure_class b h =
     let both = (and-eq-true_iff (leb 48 b) (leb b 57)).0 h in
     let low = leb-true b 57 both.1 in

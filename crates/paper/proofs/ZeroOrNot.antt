@@ -17,7 +17,7 @@ use Rattle.paper.specs.Keys.{Kind, exact, ternary, lpm, range, optional, kind_no
 use Rattle.paper.specs.Entry.{Match, Entry}
 use Rattle.paper.specs.Grammar as G
 use Rattle.paper.specs.Grammar.{Tree}
-use Rattle.paper.specs.Types.{Field, value, mask, prefixLength, low, high, has}
+use Rattle.paper.specs.Types.{Field, value, mask, prefix_length, low, high, has}
 use Rattle.paper.specs.Meaning.{Value, truth, whole, matched, one_value, same_match, value_of}
 use Rattle.paper.specs.Dependence.{second_of}
 use Rattle.paper.proofs.Ranges.{one_value_conforms}
@@ -44,7 +44,7 @@ not_bool : (x : Key) (f : Option Field) (m : Match) → NotBool (worth_of x f m)
 not_bool x none m = tt
 not_bool x (some value) m = tt
 not_bool x (some mask) m = tt
-not_bool x (some prefixLength) m = tt
+not_bool x (some prefix_length) m = tt
 not_bool x (some low) m = tt
 not_bool x (some high) m = tt
 
@@ -99,7 +99,7 @@ abbrev pub zero_of : Key → Option Field → Match
 zero_of x none = one_value x.kind x.width 0
 zero_of x (some value) = one_value x.kind x.width 0
 zero_of x (some mask) = reading x
-zero_of x (some prefixLength) = reading x
+zero_of x (some prefix_length) = reading x
 zero_of x (some low) = one_value x.kind x.width 0
 zero_of x (some high) = one_value x.kind x.width 0
 
@@ -107,7 +107,7 @@ pub zero_fits : (x : Key) (f : Option Field) → x.width ≤ 128 → Fits x (zer
 zero_fits x none wide = one_fits x 0 wide (pow_pos x.width)
 zero_fits x (some value) wide = one_fits x 0 wide (pow_pos x.width)
 zero_fits x (some mask) wide = spelled_fits x
-zero_fits x (some prefixLength) wide = spelled_fits x
+zero_fits x (some prefix_length) wide = spelled_fits x
 zero_fits x (some low) wide = one_fits x 0 wide (pow_pos x.width)
 zero_fits x (some high) wide = one_fits x 0 wide (pow_pos x.width)
 
@@ -136,7 +136,7 @@ pub is_zero_lem : (x : Key) (f : Option Field) → offers x.kind f ≡ true → 
 is_zero_lem x none h = same_self (one_value x.kind x.width 0)
 is_zero_lem x (some value) h = rw (first_is x.kind x.width 0)
 is_zero_lem x (some mask) h = rw (mask_zero x.kind x.width h)
-is_zero_lem x (some prefixLength) h = refl
+is_zero_lem x (some prefix_length) h = refl
 is_zero_lem x (some low) h = rw (first_is x.kind x.width 0)
 is_zero_lem x (some high) h = rw (high_is x.kind x.width 0 h)
 
@@ -152,7 +152,7 @@ mask_not_zero lpm w two h = none_such h
 mask_not_zero range w two h = none_such h
 mask_not_zero optional w two h = ones_not_zero w two
 
-length_not_zero : (k : Kind) (w : ℕ) → 1 ≤ w → has k prefixLength ≡ true → eqb (one_value k w 1).length 0 ≡ false
+length_not_zero : (k : Kind) (w : ℕ) → 1 ≤ w → has k prefix_length ≡ true → eqb (one_value k w 1).length 0 ≡ false
 length_not_zero exact w some-bit h = none_such h
 length_not_zero ternary w some-bit h = none_such h
 length_not_zero lpm w some-bit h = ne_eqb w 0 (λ e. omega (arith, some-bit, e))
@@ -167,6 +167,6 @@ pub is_not_zero : (x : Key) → 1 ≤ x.width → (f : Option Field) → offers 
 is_not_zero x some-bit none h = rw (first_is x.kind x.width 1, first_is x.kind x.width 0)
 is_not_zero x some-bit (some value) h = rw (first_is x.kind x.width 1)
 is_not_zero x some-bit (some mask) h = rw (mask_not_zero x.kind x.width (two_numbers x.width some-bit) h)
-is_not_zero x some-bit (some prefixLength) h = length_not_zero x.kind x.width some-bit h
+is_not_zero x some-bit (some prefix_length) h = length_not_zero x.kind x.width some-bit h
 is_not_zero x some-bit (some low) h = rw (first_is x.kind x.width 1)
 is_not_zero x some-bit (some high) h = rw (high_is x.kind x.width 1 h)

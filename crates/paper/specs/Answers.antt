@@ -21,7 +21,7 @@ use Rattle.paper.specs.declared.Counted.{Counted}
 use Rattle.paper.specs.declared.Counted.TheVariants as S
 
 pub data Input : Type 0 where
-  InText InList inEntry inBlocks inBuffer inContract in_table : Input
+  in_text in_list in_entry in_blocks in_buffer in_contract in_table : Input
 
 -- what is asked for, or a refusal: its number, the input that it lies in, and the byte offset there
 pub data Answer (A : Type 0) : Type 0 where
@@ -45,12 +45,12 @@ in_turn test k zero = ok tt
 in_turn test k (suc n) = test k >>= λ _. in_turn test (suc k) n
 
 abbrev pub input_of : Place → Input
-input_of (P.Text at) = InText
-input_of (P.List at) = InList
-input_of (P.Entry at) = inEntry
-input_of (P.Blocks at) = inBlocks
-input_of (P.Buffer at) = inBuffer
-input_of (P.Contract at) = inContract
+input_of (P.Text at) = in_text
+input_of (P.List at) = in_list
+input_of (P.Entry at) = in_entry
+input_of (P.Blocks at) = in_blocks
+input_of (P.Buffer at) = in_buffer
+input_of (P.Contract at) = in_contract
 input_of (P.Table at) = in_table
 
 abbrev pub offset_of : Place → ℕ

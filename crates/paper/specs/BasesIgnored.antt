@@ -1,7 +1,7 @@
 -- 02 e: "Tokens, tree and print carry it; judging, typing and blocks ignore it." So the tree without its bases decides, and two texts that
 -- differ only in the bases of numerals get the same judgement, types and blocks, byte for byte.
 use Rattle.std.specs.Prelude.{ℕ, ◌≤◌, ◌≡◌, List, length}
-use Rattle.paper.specs.Answers.{Input, InText, InList, inEntry, inBlocks, inBuffer, inContract, in_table, Answer, ok, refused}
+use Rattle.paper.specs.Answers.{Input, in_text, in_list, in_entry, in_blocks, in_buffer, in_contract, in_table, Answer, ok, refused}
 use Rattle.paper.specs.Tokens.{plain, most_text}
 use Rattle.paper.specs.Keys.{Key}
 use Rattle.paper.specs.Entry.{Entry}
@@ -34,12 +34,12 @@ pub record SameTrees (sense : Tree → Tree) (v w : List ℕ) : Type 0 where
 -- an answer, with the place of a refusal in the text seen through p
 
 abbrev pub place_in : (ℕ → ℕ) → Input → ℕ → ℕ
-place_in p InText at = p at
-place_in p InList at = at
-place_in p inEntry at = at
-place_in p inBlocks at = at
-place_in p inBuffer at = at
-place_in p inContract at = at
+place_in p in_text at = p at
+place_in p in_list at = at
+place_in p in_entry at = at
+place_in p in_blocks at = at
+place_in p in_buffer at = at
+place_in p in_contract at = at
 place_in p in_table at = at
 
 abbrev pub placed : {A : Type 0} → (ℕ → ℕ) → Answer A → Answer A

@@ -5,7 +5,7 @@
 use Rattle.std.specs.Prelude.{ℕ, suc, ◌+◌, ◌-◌, ◌^◌, ◌≤◌, ◌≡◌, ◌↔◌, ◌⊎◌, Bool, true, List, pos, negsuc}
 use Rattle.std.proofs.Math.Option.{Option, some}
 use Rattle.paper.specs.Numbers.{modulo}
-use Rattle.paper.specs.Answers.{Answer, ok, refused, ◌>>=◌, InText}
+use Rattle.paper.specs.Answers.{Answer, ok, refused, ◌>>=◌, in_text}
 use Rattle.paper.specs.Tokens.{bytes, same_bytes, Comparison}
 use Rattle.paper.specs.Keys.{Key, find, keys}
 use Rattle.paper.specs.Entry.{Entry, entry_of}
@@ -82,7 +82,7 @@ pub record OnlyLostBits : Type 0 where
   pub passes : (text list : List ℕ) (r : Restriction)
       → (restriction text list ≡ ok r) ↔ ((restriction_by rule_before text list ≡ ok r) × LosesNone r.keys r.root)
   pub refuses : (text list : List ℕ) (r : Restriction) → restriction_by rule_before text list ≡ ok r
-      → (restriction text list ≡ ok r) ⊎ ((at : ℕ) × (restriction text list ≡ refused 23 InText at))
+      → (restriction text list ≡ ok r) ⊎ ((at : ℕ) × (restriction text list ≡ refused 23 in_text at))
   pub judged : (text list entry : List ℕ) (r : Restriction) → restriction text list ≡ ok r
       → judge_answer text list entry ≡ judge_before text list entry
 

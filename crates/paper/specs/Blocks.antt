@@ -3,7 +3,7 @@
 -- instructions, then zeros; 504, 505 the total count, which is the sum of the counts in all the blocks given; 506, 507 the number
 -- of keys, as in the list given; 508 to 511 the check."
 use Rattle.std.specs.Prelude.{ℕ, zero, suc, ◌+◌, ◌*◌, ◌-◌, ◌/◌, ◌%◌, Bool, ◌&&◌, List, [], ◌∷◌, ◌++◌, length, take, drop, replicate, eqb, ltb, leb}
-use Rattle.paper.specs.Answers.{Answer, ◌>>=◌, require, in_turn, inBlocks}
+use Rattle.paper.specs.Answers.{Answer, ◌>>=◌, require, in_turn, in_blocks}
 use Rattle.paper.specs.Numbers.{bytes_at, number_at, big_endian}
 use Rattle.paper.specs.Tokens.{same_bytes}
 use Rattle.paper.specs.Keys.{all_zero}
@@ -106,12 +106,12 @@ block_ok keys blocks k =
 
 -- 17: "a block breaks its layout". Of block k
 abbrev pub block_test : ℕ → List ℕ → ℕ → Answer (Unit {0})
-block_test keys blocks k = require (block_ok keys blocks k) 17 inBlocks (k * block_size)
+block_test keys blocks k = require (block_ok keys blocks k) 17 in_blocks (k * block_size)
 
 -- 16: "blocks: length 0, no multiple of 512, or over 82 blocks", 123 since 02 g; then 17
 unfoldable pub layout : ℕ → List ℕ → Answer (Unit {0})
 unfolding sums_of
 layout keys blocks =
-    require (ltb 0 (length blocks) && eqb (length blocks % block_size) 0 && leb (length blocks) (most_blocks * block_size)) 16 inBlocks
+    require (ltb 0 (length blocks) && eqb (length blocks % block_size) 0 && leb (length blocks) (most_blocks * block_size)) 16 in_blocks
     (length blocks)
     >>= λ _. in_turn (block_test keys blocks) 0 (blocks_in blocks)

@@ -2,7 +2,7 @@
 -- 01, "Stages run in the order below, those that a call has": 1; 2; 3 and 4; 5 to 7; 8 to 10; 11 to 13; 14; 15; 16; 17; 18; 19; 20.
 -- 22 (02 h) is with 5 to 7, and 23 (02 j) with 11 to 13.
 use Rattle.std.specs.Prelude.{ℕ, ◌*◌, Bool, ◌&&◌, List, ◌++◌, length, drop, leb}
-use Rattle.paper.specs.Answers.{Answer, ok, refused, ◌>>=◌, require, Ran, InText, inBuffer}
+use Rattle.paper.specs.Answers.{Answer, ok, refused, ◌>>=◌, require, Ran, in_text, in_buffer}
 use Rattle.paper.specs.Tokens.{tokens, most_text}
 use Rattle.paper.specs.Keys.{Key, keys}
 use Rattle.paper.specs.Entry.{entry_of}
@@ -16,7 +16,7 @@ use Rattle.paper.specs.Print.{print}
 
 -- 1: "text over 4,096 bytes", text 4096
 abbrev pub sized : List ℕ → Answer (Unit {0})
-sized text = require (leb (length text) most_text) 1 InText most_text
+sized text = require (leb (length text) most_text) 1 in_text most_text
 
 -- 5 to 7 and 22; 8 to 10
 unfoldable pub tree : List ℕ → Answer Tree
@@ -57,7 +57,7 @@ judge_answer text list entry =
 -- 15: "lent buffer below the bytes needed", at its length
 abbrev pub room_for : List ℕ → Restriction → Answer Restriction
 room_for buffer r =
-    require (leb (block_size * blocks_needed (length (code_of r.keys r.root))) (length buffer)) 15 inBuffer (length buffer)
+    require (leb (block_size * blocks_needed (length (code_of r.keys r.root))) (length buffer)) 15 in_buffer (length buffer)
     >>= λ _. ok r
 
 -- a text and a list that pass, and whose blocks the buffer has room for
@@ -103,7 +103,7 @@ run_answer list blocks entry =
 -- in every later request."
 abbrev pub lends : List ℕ → List ℕ → Answer (List ℕ)
 lends new buffer =
-    require (leb (length new) most_text && leb (length new) (length buffer)) 21 inBuffer (length buffer)
+    require (leb (length new) most_text && leb (length new) (length buffer)) 21 in_buffer (length buffer)
     >>= λ _. ok new
 
 -- 1; 5 to 10; 21: the print of a text that passes, where it may be lent

@@ -8,8 +8,8 @@ use Rattle.paper.specs.Numbers.{byte_at, number_at, big_endian}
 use Rattle.paper.specs.Tokens.{Comparison, equal, unequal, greater, at_least, less, at_most}
 use Rattle.paper.specs.Keys.{Kind, kind_no, kind_of, Key}
 use Rattle.paper.specs.Entry.{Entry}
-use Rattle.paper.specs.Types.{Ty, bool, int, of, when, and_then, takes, Field, value, mask, prefixLength, low, high, bare_type, field_type, not_type, negate_type, join_type, compare_type}
-use Rattle.paper.specs.Meaning.{Value, truth, whole, matched, bare_value, field_value, not_value, negate_value, Connective, both, either, ifThen, join_value, compare_value, convert_value}
+use Rattle.paper.specs.Types.{Ty, bool, int, of, when, and_then, takes, Field, value, mask, prefix_length, low, high, bare_type, field_type, not_type, negate_type, join_type, compare_type}
+use Rattle.paper.specs.Meaning.{Value, truth, whole, matched, bare_value, field_value, not_value, negate_value, Connective, both, either, if_then, join_value, compare_value, convert_value}
 
 -- 02 g, "operation 13: if the top bool equals the detail byte (0 or 1), replace it by the bool in the constant's first byte (0 or 1)
 -- and pass over as many instructions as the operand says"
@@ -36,7 +36,7 @@ pub data Instruction : Type 0 where
 abbrev pub field_no : Field → ℕ
 field_no value = 0
 field_no mask = 1
-field_no prefixLength = 2
+field_no prefix_length = 2
 field_no low = 3
 field_no high = 4
 
@@ -45,7 +45,7 @@ abbrev pub field_of : ℕ → Field
 field_of n =
     cond (eqb n 0) value
     (cond (eqb n 1) mask
-    (cond (eqb n 2) prefixLength
+    (cond (eqb n 2) prefix_length
     (cond (eqb n 3) low high)))
 
 abbrev pub comparison_no : Comparison → ℕ
@@ -92,7 +92,7 @@ parts_of (convert k w) = record { operation = 8; detail = kind_no k; operand = w
 parts_of (compare c) = record { operation = 9; detail = comparison_no c; operand = 0; constant = 0 }
 parts_of (connects both) = record { operation = 10; detail = 0; operand = 0; constant = 0 }
 parts_of (connects either) = record { operation = 11; detail = 0; operand = 0; constant = 0 }
-parts_of (connects ifThen) = record { operation = 12; detail = 0; operand = 0; constant = 0 }
+parts_of (connects if_then) = record { operation = 12; detail = 0; operand = 0; constant = 0 }
 parts_of (skip s) = record { operation = 13; detail = bit s.on; operand = s.over; constant = bit s.to * first_byte }
 
 abbrev pub instruction_size : ℕ
@@ -123,7 +123,7 @@ instruction_named p =
     ∷ compare (comparison_of p.detail)
     ∷ connects both
     ∷ connects either
-    ∷ connects ifThen
+    ∷ connects if_then
     ∷ skip (record { on = eqb p.detail 1; to = eqb p.constant first_byte; over = p.operand })
     ∷ [])
     (p.operation - 1)

@@ -3,7 +3,7 @@
 -- at the length if cut."
 use Rattle.std.specs.Prelude.{ℕ, suc, Bool, ◌&&◌, List, [], ◌∷◌, ◌++◌, ltb}
 use Rattle.std.proofs.Math.Option.{Option, none, some}
-use Rattle.paper.specs.Answers.{Answer, ok, refused, ◌>>=◌, require, inContract}
+use Rattle.paper.specs.Answers.{Answer, ok, refused, ◌>>=◌, require, in_contract}
 use Rattle.paper.specs.Pact.{Comparator, Conjunction, Assertion, Clause, alone, linked, Opcode, compares, conjoins, wrong, opcode_of, left_index, right_index, indices_of}
 
 -- What stands before a byte ("interpretation requires zero look-ahead"): the clauses that are closed, the one that may go on, a
@@ -18,7 +18,7 @@ abbrev pub at_start : Front
 at_start = record { closed = []; clause = none; conjunction = none; comparator = none }
 
 abbrev pub fault : {A : Type 0} → ℕ → Answer A
-fault at = refused 24 inContract at
+fault at = refused 24 in_contract at
 
 -- the clauses so far, of which none goes on
 abbrev pub closed_all : List Clause → Option Clause → List Clause
@@ -58,7 +58,7 @@ module _ (names users : ℕ) where
 
   abbrev pub with_index : ℕ → Front → Comparator → ℕ → Answer Front
   with_index at f o b =
-      require (index_fits o b) 24 inContract at
+      require (index_fits o b) 24 in_contract at
       >>= λ _. ok (continued f.closed f.clause f.conjunction (record { comparator = o; left = left_index b; right = right_index b }))
 
   abbrev pub with_byte : ℕ → Front → Option Comparator → ℕ → Answer Front

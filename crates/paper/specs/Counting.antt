@@ -7,7 +7,7 @@ use Rattle.std.specs.Prelude.{ℕ, zero, suc, ◌+◌, ◌*◌, ◌/◌, ◌%◌
 use Prim.Native.String as S
 use Rattle.paper.specs.declared.Counting.{Counting}
 use Rattle.paper.specs.declared.Counting.TheVariants as C
-use Rattle.paper.specs.Answers.{Answer, ok, refused, ◌>>=◌, require, inEntry, input_of, offset_of}
+use Rattle.paper.specs.Answers.{Answer, ok, refused, ◌>>=◌, require, in_entry, input_of, offset_of}
 use Rattle.paper.specs.Tokens.{bytes}
 use Rattle.paper.specs.Keys.{Key}
 use Rattle.paper.specs.Entry.{head_size, match_size, entry_of}
@@ -90,7 +90,7 @@ most_entries = 1000000
 
 -- 25: "Beyond 1,000,000 whole entries". 02 gives it no place; ours is the first byte of the next one
 abbrev pub few_entries : List Key → List ℕ → Answer (Unit {0})
-few_entries ks s = require (leb (whole_in ks s) most_entries) 25 inEntry (most_entries * entry_size ks)
+few_entries ks s = require (leb (whole_in ks s) most_entries) 25 in_entry (most_entries * entry_size ks)
 
 -- "a refused list or text comes before that"
 unfoldable pub counted : List ℕ → List ℕ → List ℕ → Answer Counts

@@ -3,7 +3,7 @@
 -- 65,535; and changes of several words that leave both sums, such as 1 more, 2 less and 1 more in three words in a row.
 use Rattle.std.specs.Prelude.{ℕ, ◌*◌, ◌^◌, ◌≤◌, ◌<◌, ◌≢◌, ◌≡◌, List, length, take, set}
 use Rattle.std.specs.Int.Bits.{bit_xor}
-use Rattle.paper.specs.Answers.{ok, refused, inBlocks}
+use Rattle.paper.specs.Answers.{ok, refused, in_blocks}
 use Rattle.paper.specs.Numbers.{byte_at}
 use Rattle.paper.specs.Blocks.{block_size}
 use Rattle.paper.specs.Calls.{load_answer}
@@ -13,12 +13,12 @@ use Rattle.paper.specs.Calls.{load_answer}
 abbrev pub CutRefused : Type 0
 CutRefused =
     (list blocks : List ℕ) (n : ℕ) → load_answer list blocks ≡ ok n → (m : ℕ) → 1 ≤ m → m * block_size < length blocks
-    → load_answer list (take (m * block_size) blocks) ≡ refused 17 inBlocks 0
+    → load_answer list (take (m * block_size) blocks) ≡ refused 17 in_blocks 0
 
 -- a refusal at a block's first byte, the changed byte's or an earlier one
 pub record Seen (list blocks : List ℕ) (i : ℕ) : Type 0 where
   pub block : ℕ
-  pub refuses : load_answer list blocks ≡ refused 17 inBlocks (block * block_size)
+  pub refuses : load_answer list blocks ≡ refused 17 in_blocks (block * block_size)
   pub before : block * block_size ≤ i
 
 -- one byte turned into another

@@ -35,7 +35,7 @@ use Rattle.paper.specs.declared.Summarizing.{Summarizing}
 use Rattle.paper.specs.declared.Summarizing.TheVariants as S
 use Rattle.paper.specs.declared.Rechecking.{Rechecking}
 use Rattle.paper.specs.declared.Rechecking.TheVariants as K
-use Rattle.paper.specs.Answers.{Input, InText, InList, inEntry, inBlocks, inBuffer, inContract, in_table, Answer, ok, refused, reading_says, checking_says, judgement_says, translation_says, loading_says, running_says, printing_says}
+use Rattle.paper.specs.Answers.{Input, in_text, in_list, in_entry, in_blocks, in_buffer, in_contract, in_table, Answer, ok, refused, reading_says, checking_says, judgement_says, translation_says, loading_says, running_says, printing_says}
 use Rattle.paper.specs.Tokens.{Token, most_text, most_tokens}
 use Rattle.paper.specs.Keys.{Key, keys}
 use Rattle.paper.specs.Entry.{Match, Entry, entry_of}
@@ -97,14 +97,14 @@ pub record Answered {A : Type 0} (inputs : List Lent) (stages : List Stage) (a :
 -- for the inputs of each call, and what it answers for them
 
 abbrev pub ReadAnswered : List ℕ → Reading → Type 0
-ReadAnswered text r = Answered (lent InText text ∷ []) (read_stages text) (reading_says r)
+ReadAnswered text r = Answered (lent in_text text ∷ []) (read_stages text) (reading_says r)
 
 abbrev pub CheckAnswered : List ℕ → List ℕ → Checking → Type 0
-CheckAnswered text list r = Answered (lent InText text ∷ lent InList list ∷ []) (check_stages text list) (checking_says r)
+CheckAnswered text list r = Answered (lent in_text text ∷ lent in_list list ∷ []) (check_stages text list) (checking_says r)
 
 -- by judging, or by explaining
 abbrev pub EntryAnswered : List ℕ → List ℕ → List ℕ → Answer Bool → Type 0
-EntryAnswered text list entry a = Answered (lent InText text ∷ lent InList list ∷ lent inEntry entry ∷ []) (judge_stages text list entry) a
+EntryAnswered text list entry a = Answered (lent in_text text ∷ lent in_list list ∷ lent in_entry entry ∷ []) (judge_stages text list entry) a
 
 abbrev pub JudgeAnswered : List ℕ → List ℕ → List ℕ → Judgement → Type 0
 JudgeAnswered text list entry r = EntryAnswered text list entry (judgement_says r)
@@ -114,47 +114,47 @@ ExplainAnswered text list entry r = EntryAnswered text list entry (judgement_of 
 
 -- and the buffer, which a refusal leaves as it is
 pub record TranslateAnswered (text list buffer : List ℕ) (r : TranslateResult) : Type 0 where
-  pub says : Answered (lent InText text ∷ lent InList list ∷ lent inBuffer buffer ∷ []) (translate_stages text list buffer)
+  pub says : Answered (lent in_text text ∷ lent in_list list ∷ lent in_buffer buffer ∷ []) (translate_stages text list buffer)
       (translation_says r.answer)
   pub unchanged : (n : ℕ) (at : Place) → r.answer ≡ T.Refused n at → r.buffer ≡ buffer
 
 abbrev pub LoadAnswered : List ℕ → List ℕ → Loading → Type 0
-LoadAnswered list blocks r = Answered (lent InList list ∷ lent inBlocks blocks ∷ []) (load_stages list blocks) (loading_says r)
+LoadAnswered list blocks r = Answered (lent in_list list ∷ lent in_blocks blocks ∷ []) (load_stages list blocks) (loading_says r)
 
 abbrev pub RunAnswered : List ℕ → List ℕ → List ℕ → Running → Type 0
 RunAnswered list blocks entry r =
-    Answered (lent InList list ∷ lent inBlocks blocks ∷ lent inEntry entry ∷ []) (run_stages list blocks entry) (running_says r)
+    Answered (lent in_list list ∷ lent in_blocks blocks ∷ lent in_entry entry ∷ []) (run_stages list blocks entry) (running_says r)
 
 pub record PrintAnswered (text buffer : List ℕ) (r : PrintResult) : Type 0 where
-  pub says : Answered (lent InText text ∷ lent inBuffer buffer ∷ []) (print_stages text buffer) (printing_says r.answer)
+  pub says : Answered (lent in_text text ∷ lent in_buffer buffer ∷ []) (print_stages text buffer) (printing_says r.answer)
   pub unchanged : (n : ℕ) (at : Place) → r.answer ≡ W.Refused n at → r.buffer ≡ buffer
 
 pub record FixAnswered (text buffer : List ℕ) (r : FixResult) : Type 0 where
-  pub says : Answered (lent InText text ∷ lent inBuffer buffer ∷ []) (fix_stages text buffer) (fixing_says r.answer)
+  pub says : Answered (lent in_text text ∷ lent in_buffer buffer ∷ []) (fix_stages text buffer) (fixing_says r.answer)
   pub unchanged : (n : ℕ) (at : Place) → r.answer ≡ F.Refused n at → r.buffer ≡ buffer
 
 -- the offset in a table counts its numbers
 pub record DraftAnswered (contract table list buffer : List ℕ) (r : DraftResult) : Type 0 where
-  pub says : Answered (lent inContract contract ∷ lent in_table table ∷ lent InList list ∷ lent inBuffer buffer ∷ [])
+  pub says : Answered (lent in_contract contract ∷ lent in_table table ∷ lent in_list list ∷ lent in_buffer buffer ∷ [])
       (draft_stages contract table list buffer) (drafting_says r.answer)
   pub unchanged : (n : ℕ) (at : Place) → r.answer ≡ D.Refused n at → r.buffer ≡ buffer
 
 abbrev pub CompareAnswered : List ℕ → List ℕ → List ℕ → Agreement → Type 0
 CompareAnswered text list blocks r =
-    Answered (lent InText text ∷ lent InList list ∷ lent inBlocks blocks ∷ []) (compare_stages text list blocks) (agreement_says r)
+    Answered (lent in_text text ∷ lent in_list list ∷ lent in_blocks blocks ∷ []) (compare_stages text list blocks) (agreement_says r)
 
 pub record CountAnswered (text list entries numbers : List ℕ) (r : CountResult) : Type 0 where
-  pub says : Answered (lent InText text ∷ lent InList list ∷ lent inEntry entries ∷ []) (count_stages text list entries)
+  pub says : Answered (lent in_text text ∷ lent in_list list ∷ lent in_entry entries ∷ []) (count_stages text list entries)
       (counting_says r.answer)
   pub unchanged : (n : ℕ) (at : Place) → r.answer ≡ E.Refused n at → r.numbers ≡ numbers
 
 pub record RunAllAnswered (list blocks entries answers : List ℕ) (r : RunAllResult) : Type 0 where
-  pub says : Answered (lent InList list ∷ lent inBlocks blocks ∷ lent inEntry entries ∷ lent inBuffer answers ∷ [])
+  pub says : Answered (lent in_list list ∷ lent in_blocks blocks ∷ lent in_entry entries ∷ lent in_buffer answers ∷ [])
       (run_all_stages list blocks entries answers) (running_all_says r.answer)
   pub unchanged : (n : ℕ) (at : Place) → r.answer ≡ U.Refused n at → r.bytes ≡ answers
 
 abbrev pub SummarizeAnswered : List ℕ → List ℕ → Summarizing → Type 0
-SummarizeAnswered text list r = Answered (lent InText text ∷ lent InList list ∷ []) (check_stages text list) (summarizing_says r)
+SummarizeAnswered text list r = Answered (lent in_text text ∷ lent in_list list ∷ []) (check_stages text list) (summarizing_says r)
 
 abbrev pub RecheckAnswered : List ℕ → List ℕ → Judgement → List ℕ → Rechecking → Type 0
 RecheckAnswered text list earlier new (K.Reused j) = (j ≡ earlier) × Clear (judge_stages text list new)

@@ -4,9 +4,9 @@
 use Rattle.std.specs.Prelude.{ℕ, Bool, true, false, ◌&&◌, List, [], ◌∷◌, map, length, get_or, eqb, ltb, leb}
 use Rattle.paper.specs.declared.Drafting.{Drafting}
 use Rattle.paper.specs.declared.Drafting.TheVariants as D
-use Rattle.paper.specs.Answers.{Answer, ok, refused, ◌>>=◌, require, in_table, inBuffer, input_of, offset_of}
+use Rattle.paper.specs.Answers.{Answer, ok, refused, ◌>>=◌, require, in_table, in_buffer, input_of, offset_of}
 use Rattle.paper.specs.Numbers.{byte_at}
-use Rattle.paper.specs.Tokens.{decimal, literal_in, notSign, sequel, or_else, andAlso, Comparison, equal, unequal, greater, at_least, most_tokens}
+use Rattle.paper.specs.Tokens.{decimal, literal_in, not_sign, sequel, or_else, and_also, Comparison, equal, unequal, greater, at_least, most_tokens}
 use Rattle.paper.specs.Keys.{Key, record_ok, RecordRule, keys_by}
 use Rattle.paper.specs.Grammar.{Tree, truth, number, key, prefixed, joined, compared, most_levels}
 use Rattle.paper.specs.Print.{print}
@@ -19,7 +19,7 @@ use Rattle.paper.specs.Contract.{clauses}
 
 -- "NOT becomes "!" over its comparison or join."
 abbrev pub inversion : Bool → Tree → Tree
-inversion true t = prefixed 0 notSign t
+inversion true t = prefixed 0 not_sign t
 inversion false t = t
 
 abbrev pub comparison_of : Relation → Comparison
@@ -29,7 +29,7 @@ comparison_of gte = at_least
 
 -- "Exclusive or becomes "!=" of two bools."
 abbrev pub link_of : Linking → Tree → Tree → Tree
-link_of and l r = joined 0 andAlso l r
+link_of and l r = joined 0 and_also l r
 link_of or l r = joined 0 or_else l r
 link_of xor l r = compared 0 unequal l r
 
@@ -83,7 +83,7 @@ drafted contract table list =
 -- "A text over a limit of 01, or over the lent buffer, is 21.": its tokens and levels; and its bytes, as for a print
 abbrev pub lends_text : Tree → List ℕ → Answer (List ℕ)
 lends_text t buffer =
-    require (leb (count t) most_tokens && leb (levels t) most_levels) 21 inBuffer (length buffer)
+    require (leb (count t) most_tokens && leb (levels t) most_levels) 21 in_buffer (length buffer)
     >>= λ _. lends (print t) buffer
 
 unfoldable pub draftable : List ℕ → List ℕ → List ℕ → List ℕ → Answer (List ℕ)

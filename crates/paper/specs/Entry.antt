@@ -7,7 +7,7 @@ use Rattle.std.specs.Prelude.{ℕ, suc, ◌+◌, ◌*◌, ◌-◌, ◌%◌, ◌^
 use Rattle.std.proofs.Math.Option.{Option, none, some}
 use Rattle.std.proofs.Math.ListN.{get_elem?}
 use Rattle.std.specs.Int.Bits.{bit_and}
-use Rattle.paper.specs.Answers.{Answer, ok, ◌>>=◌, require, in_turn, inEntry}
+use Rattle.paper.specs.Answers.{Answer, ok, ◌>>=◌, require, in_turn, in_entry}
 use Rattle.paper.specs.Numbers.{byte_at, bytes_at, number_at, big_endian}
 use Rattle.paper.specs.Keys.{Kind, exact, ternary, lpm, range, optional, Key, all_zero}
 
@@ -101,12 +101,12 @@ asked (some key) rule = rule key
 -- 20: "priority or a key's entry record breaks its rule". Of the record of key k
 abbrev pub rule_test : List Key → List ℕ → ℕ → Answer (Unit {0})
 rule_test keys entry k =
-    require (asked (get_elem? keys k) (λ key. match_ok key (match_at entry k))) 20 inEntry (head_size + k * match_size)
+    require (asked (get_elem? keys k) (λ key. match_ok key (match_at entry k))) 20 in_entry (head_size + k * match_size)
 
 -- 19: "entry length wrong"; then 20
 unfoldable pub entry_of : List Key → List ℕ → Answer Entry
 entry_of keys entry =
-    require (eqb (length entry) (head_size + match_size * length keys)) 19 inEntry (length entry)
-    >>= λ _. require (ltb (priority_of entry) (2 ^ 31)) 20 inEntry 0
+    require (eqb (length entry) (head_size + match_size * length keys)) 19 in_entry (length entry)
+    >>= λ _. require (ltb (priority_of entry) (2 ^ 31)) 20 in_entry 0
     >>= λ _. in_turn (rule_test keys entry) 0 (length keys)
     >>= λ _. ok (record { priority = priority_of entry; matches = matches_from entry 0 keys })

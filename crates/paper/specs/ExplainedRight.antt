@@ -3,7 +3,7 @@
 use Rattle.std.specs.Prelude.{ℕ, suc, ◌+◌, ◌*◌, ◌-◌, ◌≤◌, ◌<◌, ◌≡◌, ◌↔◌, Bool, true, false, List, ◌∷◌, ◌++◌, length}
 use Rattle.std.proofs.Math.Option.{some}
 use Rattle.std.proofs.Math.ListN.{get_elem?}
-use Rattle.paper.specs.Answers.{Input, inEntry, Answer, ok, refused}
+use Rattle.paper.specs.Answers.{Input, in_entry, Answer, ok, refused}
 use Rattle.paper.specs.Numbers.{bytes_at}
 use Rattle.paper.specs.Keys.{Key, keys}
 use Rattle.paper.specs.Entry.{Entry, head_size, match_size, entry_of}
@@ -41,7 +41,7 @@ pub data NothingToShow : Answer Bool → Type 0 where
 pub data Explains (text list entry : List ℕ) : Reason → Type 0 where
   names_part : judge_answer text list entry ≡ ok false → (f : FirstFalse text list entry)
       → Explains text list entry (in_part (suc (length f.before)) (place_of f.part.root) f.part.stretch)
-  names_key : (k : ℕ) → judge_answer text list entry ≡ refused 20 inEntry (record_place k)
+  names_key : (k : ℕ) → judge_answer text list entry ≡ refused 20 in_entry (record_place k)
       → Explains text list entry (at_key (record_place k) k (name_stretch list k))
   shows_nothing : (a : Answer Bool) → judge_answer text list entry ≡ a → NothingToShow a → Explains text list entry (nothing_to_show a)
 
@@ -55,7 +55,7 @@ ExplainedIsRight = (text list entry : List ℕ) (r : Reason) → (explain_answer
 
 abbrev pub judgement_of : Reason → Answer Bool
 judgement_of (in_part number place s) = ok false
-judgement_of (at_key place k s) = refused 20 inEntry place
+judgement_of (at_key place k s) = refused 20 in_entry place
 judgement_of (nothing_to_show a) = a
 
 abbrev pub ExplainedAsJudged : Type 0

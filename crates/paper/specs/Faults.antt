@@ -4,7 +4,7 @@ use Rattle.std.proofs.Math.Option.{Option, none, some}
 use Rattle.std.proofs.Math.ListN.{get_elem?}
 use Rattle.paper.specs.Answers.{ok}
 use Rattle.paper.specs.Numbers.{byte_at}
-use Rattle.paper.specs.Tokens.{bytes, Prefix, Join, Comparison, Tok, Token, Scan, blank, token, octal_numeral, no_token, tooLarge, Scanner, scan, most_tokens, most_text}
+use Rattle.paper.specs.Tokens.{bytes, Prefix, Join, Comparison, Tok, Token, Scan, blank, token, octal_numeral, no_token, too_large, Scanner, scan, most_tokens, most_text}
 use Rattle.paper.specs.Keys.{Key, record_size, most_keys, records_in, record_at, name_of, RecordRule, find}
 use Rattle.paper.specs.Entry.{head_size, match_size, match_at, match_ok, priority_of}
 use Rattle.paper.specs.Grammar.{Tree, key, field, attribute, prefixed, joined, compared, place_of, most_levels}
@@ -66,7 +66,7 @@ CutsBy look text ts = (end : ℕ) × CutBy look text end ts × (length text ≤ 
 pub data TokenFaults (look : Scanner) (text : List ℕ) : ℕ → ℕ → Type 0 where
   no_token_lem : {at : ℕ} {ts : List Token} → CutBy look text at ts → at < length text → look_at look text at ≡ no_token
       → TokenFaults look text 5 at
-  numeral_large : {at : ℕ} {ts : List Token} → CutBy look text at ts → at < length text → look_at look text at ≡ tooLarge
+  numeral_large : {at : ℕ} {ts : List Token} → CutBy look text at ts → at < length text → look_at look text at ≡ too_large
       → TokenFaults look text 6 at
   one_more_token : {at : ℕ} {ts : List Token} (k : Tok) (n : ℕ) → CutBy look text at ts → length ts ≡ most_tokens → at < length text
       → look_at look text at ≡ token k n → TokenFaults look text 7 at

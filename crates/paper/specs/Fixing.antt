@@ -5,7 +5,7 @@ use Rattle.std.specs.Prelude.{ℕ, zero, suc, List, [], ◌∷◌, ◌++◌, len
 use Rattle.paper.specs.declared.Fixing.{Fixing}
 use Rattle.paper.specs.declared.Fixing.TheVariants as F
 use Rattle.paper.specs.Answers.{Answer, ok, refused, ◌>>=◌, input_of, offset_of}
-use Rattle.paper.specs.Tokens.{bytes, hex, Token, Scan, blank, token, octal_numeral, no_token, tooLarge, taken, literal_scan, scan, Scanner, tokens_by, most_tokens}
+use Rattle.paper.specs.Tokens.{bytes, hex, Token, Scan, blank, token, octal_numeral, no_token, too_large, taken, literal_scan, scan, Scanner, tokens_by, most_tokens}
 use Rattle.paper.specs.Grammar.{Tree, parsed}
 use Rattle.paper.specs.Print.{numeral_in}
 use Rattle.paper.specs.Calls.{sized, lends, laid}
@@ -17,7 +17,7 @@ by_old_rules (blank n) = blank n
 by_old_rules (token t n) = token t n
 by_old_rules (octal_numeral v n) = literal_scan hex v n
 by_old_rules no_token = no_token
-by_old_rules tooLarge = tooLarge
+by_old_rules too_large = too_large
 
 abbrev pub old_scan : Scanner
 old_scan b s = by_old_rules (scan b s)
@@ -38,7 +38,7 @@ piece_for (octal_numeral v n) b s = bytes "0x" ++ numeral_in 16 v
 piece_for (blank n) b s = b ∷ take n s
 piece_for (token t n) b s = b ∷ take n s
 piece_for no_token b s = b ∷ []
-piece_for tooLarge b s = b ∷ []
+piece_for too_large b s = b ∷ []
 
 -- the text from a byte on, of which so many bytes are taken already
 unfoldable pub fixed_from : ℕ → List ℕ → List ℕ

@@ -9,8 +9,8 @@
 -- `ParsedIsRight` says that this stage answers what the grammar says and nothing else, refusals and their places included.
 use Rattle.std.specs.Prelude.{ℕ, zero, suc, ◌+◌, Bool, true, false, cond, List, [], ◌∷◌, length, eqb}
 use Rattle.std.proofs.Math.Option.{Option, none, some}
-use Rattle.paper.specs.Answers.{Answer, ok, refused, InText}
-use Rattle.paper.specs.Tokens.{bytes, same_bytes, undotted, Literal, plain, Prefix, Join, sequel, implies, or_else, andAlso, Comparison, Sign, join, comparison, prefix, opening, closing, colons, Tok, word, numeral, string, sign, Token}
+use Rattle.paper.specs.Answers.{Answer, ok, refused, in_text}
+use Rattle.paper.specs.Tokens.{bytes, same_bytes, undotted, Literal, plain, Prefix, Join, sequel, implies, or_else, and_also, Comparison, Sign, join, comparison, prefix, opening, closing, colons, Tok, word, numeral, string, sign, Token}
 use Rattle.paper.specs.Addresses.{Scheme, scheme_of, address}
 
 -- "Parentheses make no node; a node's place is its operator ("::" counts as none here and in a print), else its first token":
@@ -75,7 +75,7 @@ abbrev pub join_no : Join → ℕ
 join_no sequel = 0
 join_no implies = 1
 join_no or_else = 2
-join_no andAlso = 3
+join_no and_also = 3
 
 abbrev pub sign_joins : Join → ℕ → Sign → Option Make
 sign_joins o at (join j) = cond (eqb (join_no j) (join_no o)) (some (joined at j)) none
@@ -144,7 +144,7 @@ chain last op p ts = p ts >>> λ t us. more last op p (length us) t us
 
 unfoldable pub implication : Parser → Parser
 unfolding once chain
-implication p = once (joins implies) (chain false (joins or_else) (chain false (joins andAlso) (once compares p)))
+implication p = once (joins implies) (chain false (joins or_else) (chain false (joins and_also) (once compares p)))
 
 unfoldable pub sequence : Bool → Parser → Parser
 unfolding chain implication
@@ -262,10 +262,10 @@ most_levels = 64
 -- 8: "first token that no sentence could continue with, or text ends too soon": the token, or the text's length
 abbrev pub outcome : ℕ → Out → Answer Tree
 outcome size (ends (got t) us) = ok t
-outcome size (ends stuck []) = refused 8 InText size
-outcome size (ends stuck (u ∷ us)) = refused 8 InText u.at
-outcome size (deep at) = refused 9 InText at
-outcome size (bad at) = refused 10 InText at
+outcome size (ends stuck []) = refused 8 in_text size
+outcome size (ends stuck (u ∷ us)) = refused 8 in_text u.at
+outcome size (deep at) = refused 9 in_text at
+outcome size (bad at) = refused 10 in_text at
 
 -- of a text of a given length
 unfoldable pub parsed : ℕ → List Token → Answer Tree

@@ -6,7 +6,7 @@
 -- number 3." Bytes 4 to 15 stay zero. What the flag changes stands in Required.
 use Rattle.std.specs.Prelude.{ℕ, zero, suc, ◌+◌, ◌*◌, ◌-◌, ◌/◌, ◌%◌, Bool, true, false, not, cond, ◌&&◌, List, [], ◌∷◌, ◌++◌, length, drop, replicate, eqb, leb}
 use Rattle.std.proofs.Math.Option.{Option, none, some}
-use Rattle.paper.specs.Answers.{Answer, ok, ◌>>=◌, require, in_turn, InList}
+use Rattle.paper.specs.Answers.{Answer, ok, ◌>>=◌, require, in_turn, in_list}
 use Rattle.paper.specs.Numbers.{byte_at, bytes_at}
 use Rattle.paper.specs.Tokens.{bytes, same_bytes, is_key}
 
@@ -108,13 +108,13 @@ RecordRule = ℕ → List ℕ → Bool
 -- 3: "a key record breaks its layout"; 4: "a name repeats an earlier one". Of record k
 abbrev pub record_test : RecordRule → List ℕ → ℕ → Answer (Unit {0})
 record_test rule list k =
-    require (rule k (record_at list k)) 3 InList (k * record_size)
-    >>= λ _. require (is_new list k) 4 InList (k * record_size)
+    require (rule k (record_at list k)) 3 in_list (k * record_size)
+    >>= λ _. require (is_new list k) 4 in_list (k * record_size)
 
 -- 2: "key list length not a multiple of 80, or over 2,560"; then 3 and 4
 abbrev pub keys_by : RecordRule → List ℕ → Answer (List Key)
 keys_by rule list =
-    require (eqb (length list % record_size) 0 && leb (length list) (most_keys * record_size)) 2 InList (length list)
+    require (eqb (length list % record_size) 0 && leb (length list) (most_keys * record_size)) 2 in_list (length list)
     >>= λ _. in_turn (record_test rule list) 0 (records_in list)
     >>= λ _. ok (keys_from list 0 (records_in list))
 

@@ -4,7 +4,7 @@
 use Rattle.std.specs.Prelude.{ℕ, zero, suc, ◌+◌, ◌*◌, ◌/◌, ◌%◌, Bool, true, false, cond, ◌&&◌, List, [], ◌∷◌, map, length, take}
 use Rattle.std.specs.Bool.{beq}
 use Rattle.std.proofs.Math.Option.{Option, none, some}
-use Rattle.paper.specs.Answers.{Answer, ok, refused, ◌>>=◌, inBlocks}
+use Rattle.paper.specs.Answers.{Answer, ok, refused, ◌>>=◌, in_blocks}
 use Rattle.paper.specs.Keys.{Key}
 use Rattle.paper.specs.Entry.{Entry}
 use Rattle.paper.specs.Types.{Ty, bool, int, of, same_ty}
@@ -54,14 +54,14 @@ types_along ks code = check_from ks 0 code []
 
 -- 18: "an instruction fails the load check", its first byte, or the blocks' length at the end
 abbrev pub end_ok : ℕ → List Ty → Answer (Unit {0})
-end_ok size [] = refused 18 inBlocks size
+end_ok size [] = refused 18 in_blocks size
 end_ok size (bool ∷ []) = ok tt
-end_ok size (int ∷ []) = refused 18 inBlocks size
-end_ok size (of k w ∷ []) = refused 18 inBlocks size
-end_ok size (a ∷ b ∷ held) = refused 18 inBlocks size
+end_ok size (int ∷ []) = refused 18 in_blocks size
+end_ok size (of k w ∷ []) = refused 18 in_blocks size
+end_ok size (a ∷ b ∷ held) = refused 18 in_blocks size
 
 abbrev pub load_check : ℕ → Walk Ty → Answer (Unit {0})
-load_check size (fails i) = refused 18 inBlocks (instruction_at i)
+load_check size (fails i) = refused 18 in_blocks (instruction_at i)
 load_check size (ends held) = end_ok size held
 
 -- "A load that passes returns that number too", the number of instructions

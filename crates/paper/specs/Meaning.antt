@@ -4,12 +4,12 @@ use Rattle.std.specs.Bool.{beq}
 use Rattle.std.proofs.Math.Option.{Option, none, some}
 use Rattle.std.proofs.Math.ListN.{get_elem?}
 use Rattle.paper.specs.Numbers.{modulo, same_whole, less_whole}
-use Rattle.paper.specs.Tokens.{bytes, same_bytes, Prefix, notSign, minusSign, Join, sequel, implies, or_else, andAlso, Comparison, equal, unequal, greater, at_least, less, at_most}
+use Rattle.paper.specs.Tokens.{bytes, same_bytes, Prefix, not_sign, minus_sign, Join, sequel, implies, or_else, and_also, Comparison, equal, unequal, greater, at_least, less, at_most}
 use Rattle.paper.specs.Keys.{Kind, exact, ternary, lpm, range, optional, kind_no, Key, find}
 use Rattle.paper.specs.Entry.{Match, Entry, is_exact}
 use Rattle.paper.specs.Grammar as G
 use Rattle.paper.specs.Grammar.{Tree}
-use Rattle.paper.specs.Types.{Ty, bool, int, of, same_ty, when, and_then, Field, value, mask, prefixLength, low, high, field_named, has, meet, compares, takes, suits, keeps_bits}
+use Rattle.paper.specs.Types.{Ty, bool, int, of, same_ty, when, and_then, Field, value, mask, prefix_length, low, high, field_named, has, meet, compares, takes, suits, keeps_bits}
 
 -- a number of bit<W> is the exact match of that number
 pub data Value : Type 0 where
@@ -41,7 +41,7 @@ bare_value ks e k = and_then (get_elem? ks k) (λ x. and_then (get_elem? e.match
 abbrev pub field_in : ℕ → Field → Match → Value
 field_in w value m = bits_value w m.first
 field_in w mask m = bits_value w m.second
-field_in w prefixLength m = whole (pos m.length)
+field_in w prefix_length m = whole (pos m.length)
 field_in w low m = bits_value w m.first
 field_in w high m = bits_value w m.second
 
@@ -62,23 +62,23 @@ negate_value (whole z) = some (whole (neg_ℤ z))
 negate_value (matched k w m) = when (is_exact k) (matched k w (one_value k w (modulo (neg_ℤ (pos m.first)) (2 ^ w))))
 
 abbrev pub prefix_value : Prefix → Value → Option Value
-prefix_value notSign a = not_value a
-prefix_value minusSign a = negate_value a
+prefix_value not_sign a = not_value a
+prefix_value minus_sign a = negate_value a
 
 -- ";" and "&&" mean the same
 pub data Connective : Type 0 where
-  both either ifThen : Connective
+  both either if_then : Connective
 
 abbrev pub connective : Join → Connective
 connective sequel = both
-connective implies = ifThen
+connective implies = if_then
 connective or_else = either
-connective andAlso = both
+connective and_also = both
 
 abbrev pub connect : Connective → Bool → Bool → Bool
 connect both a b = a && b
 connect either a b = a || b
-connect ifThen a b = not a || b
+connect if_then a b = not a || b
 
 abbrev pub join_value : Connective → Value → Value → Option Value
 join_value o (truth a) (truth b) = some (truth (connect o a b))

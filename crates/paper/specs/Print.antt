@@ -2,7 +2,7 @@
 -- parentheses that the grammar needs, no trailing ";", and ";" kept distinct from "&&". An address counts, in tree and print, as
 -- the decimal numeral of its number." 02 e: "The print then uses that base".
 use Rattle.std.specs.Prelude.{ℕ, zero, suc, ◌+◌, ◌/◌, ◌%◌, Bool, true, false, cond, List, [], ◌∷◌, ◌++◌, map, ltb}
-use Rattle.paper.specs.Tokens.{bytes, Base, decimal, binary, hex, radix, Literal, Prefix, notSign, minusSign, Join, sequel, implies, or_else, andAlso, Comparison, equal, unequal, greater, at_least, less, at_most}
+use Rattle.paper.specs.Tokens.{bytes, Base, decimal, binary, hex, radix, Literal, Prefix, not_sign, minus_sign, Join, sequel, implies, or_else, and_also, Comparison, equal, unequal, greater, at_least, less, at_most}
 use Rattle.paper.specs.Grammar.{Tree, truth, number, key, field, attribute, prefixed, joined, compared}
 
 -- "the same tree, places aside": two trees are that where these are equal. 02 e: "Trees that differ only in a base are now different"
@@ -48,14 +48,14 @@ literal_bytes n = base_prefix n.base ++ numeral_in (radix n.base) n.value
 -- operators
 
 abbrev pub prefix_bytes : Prefix → List ℕ
-prefix_bytes notSign = bytes "!"
-prefix_bytes minusSign = bytes "-"
+prefix_bytes not_sign = bytes "!"
+prefix_bytes minus_sign = bytes "-"
 
 abbrev pub join_bytes : Join → List ℕ
 join_bytes sequel = bytes ";"
 join_bytes implies = bytes "->"
 join_bytes or_else = bytes "||"
-join_bytes andAlso = bytes "&&"
+join_bytes and_also = bytes "&&"
 
 abbrev pub comparison_bytes : Comparison → List ℕ
 comparison_bytes equal = bytes "=="
@@ -82,7 +82,7 @@ abbrev pub rung_of : Join → ℕ
 rung_of sequel = 0
 rung_of implies = 1
 rung_of or_else = 2
-rung_of andAlso = 3
+rung_of and_also = 3
 
 -- "";" left, "->" at most once, "||" left, "&&" left"
 
@@ -90,13 +90,13 @@ abbrev pub left_of : Join → ℕ
 left_of sequel = 0
 left_of implies = 2
 left_of or_else = 2
-left_of andAlso = 3
+left_of and_also = 3
 
 abbrev pub right_of : Join → ℕ
 right_of sequel = 1
 right_of implies = 2
 right_of or_else = 3
-right_of andAlso = 4
+right_of and_also = 4
 
 abbrev pub rung : Tree → ℕ
 rung (truth at b) = tightest

@@ -4,7 +4,7 @@
 use Rattle.std.specs.Prelude.{ℕ, ◌+◌, ◌*◌, ◌^◌, ◌<◌, ◌≡◌, Bool, true, not, cond, ◌&&◌, List, ◌∷◌, ◌++◌, length, take, drop, eqb, ltb, leb}
 use Rattle.std.proofs.Math.Option.{some}
 use Rattle.std.proofs.Math.ListN.{get_elem?}
-use Rattle.paper.specs.Answers.{Answer, ok, ◌>>=◌, require, in_turn, Ran, inEntry}
+use Rattle.paper.specs.Answers.{Answer, ok, ◌>>=◌, require, in_turn, Ran, in_entry}
 use Rattle.paper.specs.Numbers.{byte_at, bytes_at}
 use Rattle.paper.specs.Tokens.{bytes, same_bytes, is_key}
 use Rattle.paper.specs.Keys.{Key, all_zero, record_size, records_in, record_at, name_of, record_ok, RecordRule, keys_by, keys}
@@ -42,12 +42,12 @@ match_before k r = cond (eqb (byte_at r 0) 0) (absent_before k r) (eqb (byte_at 
 
 abbrev pub test_before : List Key → List ℕ → ℕ → Answer (Unit {0})
 test_before ks entry k =
-    require (asked (get_elem? ks k) (λ key. match_before key (match_at entry k))) 20 inEntry (head_size + k * match_size)
+    require (asked (get_elem? ks k) (λ key. match_before key (match_at entry k))) 20 in_entry (head_size + k * match_size)
 
 unfoldable pub entry_before : List Key → List ℕ → Answer Entry
 entry_before ks entry =
-    require (eqb (length entry) (head_size + match_size * length ks)) 19 inEntry (length entry)
-    >>= λ _. require (ltb (priority_of entry) (2 ^ 31)) 20 inEntry 0
+    require (eqb (length entry) (head_size + match_size * length ks)) 19 in_entry (length entry)
+    >>= λ _. require (ltb (priority_of entry) (2 ^ 31)) 20 in_entry 0
     >>= λ _. in_turn (test_before ks entry) 0 (length ks)
     >>= λ _. ok (record { priority = priority_of entry; matches = matches_from entry 0 ks })
 

@@ -4,7 +4,7 @@
 use Rattle.std.specs.Prelude.{ℕ, ◌+◌, ◌%◌, ◌^◌, cond, List, [], ◌∷◌, map, length, eqb, leb}
 use Rattle.paper.specs.declared.RunningAll.{RunningAll}
 use Rattle.paper.specs.declared.RunningAll.TheVariants as A
-use Rattle.paper.specs.Answers.{Answer, ok, refused, ◌>>=◌, require, inEntry, inBuffer, input_of, offset_of, Ran}
+use Rattle.paper.specs.Answers.{Answer, ok, refused, ◌>>=◌, require, in_entry, in_buffer, input_of, offset_of, Ran}
 use Rattle.paper.specs.Keys.{Key, keys}
 use Rattle.paper.specs.Entry.{entry_of}
 use Rattle.paper.specs.Loading.{program, loaded, run_along}
@@ -45,11 +45,11 @@ verdicts_on ks blocks entries =
 
 -- "a wrong length is 19 at its length": no last entry is cut
 abbrev pub whole_only : List Key → List ℕ → Answer (Unit {0})
-whole_only ks entries = require (eqb (cut_in ks entries) 0) 19 inEntry (length entries)
+whole_only ks entries = require (eqb (cut_in ks entries) 0) 19 in_entry (length entries)
 
 -- "too few answer bytes 15", at their number. How many are wanted is known once no entry is cut, so it comes last
 abbrev pub answers_fit : List Key → List ℕ → List ℕ → Answer (Unit {0})
-answers_fit ks entries answers = require (leb (whole_in ks entries) (length answers)) 15 inBuffer (length answers)
+answers_fit ks entries answers = require (leb (whole_in ks entries) (length answers)) 15 in_buffer (length answers)
 
 -- "loads once, then"
 unfoldable pub ran_all : List ℕ → List ℕ → List ℕ → List ℕ → Answer Verdicts

@@ -5,7 +5,7 @@ use Rattle.paper.specs.declared.Judgement.{Judgement}
 use Rattle.paper.specs.declared.Judgement.TheVariants as J
 use Rattle.paper.specs.declared.Translation.TheVariants as T
 use Rattle.paper.specs.declared.RunningAll.TheVariants as U
-use Rattle.paper.specs.Answers.{Answer, ok, refused, inEntry, Ran, running_says}
+use Rattle.paper.specs.Answers.{Answer, ok, refused, in_entry, Ran, running_says}
 use Rattle.paper.specs.Keys.{Key, keys}
 use Rattle.paper.specs.Calls.{run_answer}
 use Rattle.paper.specs.Counting.{entry_size, whole_in, cut_in, entries_in}
@@ -29,7 +29,7 @@ ByteIsRun =
 pub record Tells (size : ℕ) (ran : Answer Ran) (byte : ℕ) : Type 0 where
   pub accepts : (byte ≡ 1) ↔ ((n : ℕ) × (ran ≡ ok (record { accepted = true; steps = n })))
   pub violates : (byte ≡ 2) ↔ ((n : ℕ) × (ran ≡ ok (record { accepted = false; steps = n })))
-  pub refuses : (byte ≡ 0) ↔ ((at : ℕ) × (at < size) × (ran ≡ refused 20 inEntry at))
+  pub refuses : (byte ≡ 0) ↔ ((at : ℕ) × (at < size) × (ran ≡ refused 20 in_entry at))
 
 abbrev pub ByteTells : Type 0
 ByteTells =

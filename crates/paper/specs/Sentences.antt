@@ -4,8 +4,8 @@
 -- wins; at one place the lower number wins".
 use Rattle.std.specs.Prelude.{ℕ, zero, suc, ◌≡◌, ◌≢◌, ◌↔◌, true, false, List, [], ◌∷◌, ◌++◌}
 use Rattle.std.proofs.Math.Option.{Option, none, some}
-use Rattle.paper.specs.Answers.{Input, InText, Answer, ok, refused}
-use Rattle.paper.specs.Tokens.{Literal, plain, bytes, undotted, Prefix, Join, sequel, implies, or_else, andAlso, Comparison, Sign, join, comparison, prefix, opening, closing, colons, Tok, word, numeral, string, sign, Token}
+use Rattle.paper.specs.Answers.{Input, in_text, Answer, ok, refused}
+use Rattle.paper.specs.Tokens.{Literal, plain, bytes, undotted, Prefix, Join, sequel, implies, or_else, and_also, Comparison, Sign, join, comparison, prefix, opening, closing, colons, Tok, word, numeral, string, sign, Token}
 use Rattle.paper.specs.Addresses.{Scheme, scheme_of, address}
 use Rattle.paper.specs.Grammar.{Tree, truth, number, key, field, attribute, prefixed, joined, compared, Make, stuck, ends, Reader, whole, most_levels, parsed}
 
@@ -45,7 +45,7 @@ pub data Chain (op : Operator) (S : Phrases) : Tree → List Token → Type 0 wh
 -- "";" left, "->" at most once, "||" left, "&&" left, one comparison at most", over what S holds
 
 abbrev pub Implication : Phrases → Phrases
-Implication S = Once (Joining implies) (Chain (Joining or_else) (Chain (Joining andAlso) (Once Comparing S)))
+Implication S = Once (Joining implies) (Chain (Joining or_else) (Chain (Joining and_also) (Once Comparing S)))
 
 abbrev pub Sequence : Phrases → Phrases
 Sequence S = Chain (Joining sequel) (Implication S)
@@ -163,7 +163,7 @@ place_from size (u ∷ us) = u.at
 -- what the stage of refusals 8 to 10 is to answer on the tokens of a text of a given length
 abbrev pub Right : ℕ → List Token → Answer Tree → Type 0
 Right size ts (ok t) = Valid t ts
-Right size ts (refused n i at) = (us : List Token) × Stops ts us n × (i ≡ InText) × (at ≡ place_from size us)
+Right size ts (refused n i at) = (us : List Token) × Stops ts us n × (i ≡ in_text) × (at ≡ place_from size us)
 
 -- the claims
 
@@ -188,10 +188,10 @@ abbrev pub StuckIsFirstBad : Type 0
 StuckIsFirstBad = (levels : ℕ) (ts us : List Token) → whole address levels ts ≡ ends stuck us → FirstBad ts us
 
 abbrev pub EightIsFirstBad : Type 0
-EightIsFirstBad = (size : ℕ) (ts : List Token) (at : ℕ) → parsed size ts ≡ refused 8 InText at
+EightIsFirstBad = (size : ℕ) (ts : List Token) (at : ℕ) → parsed size ts ≡ refused 8 in_text at
     → (us : List Token) × FirstBad ts us × (at ≡ place_from size us)
 
 -- and it is given there, where neither 9 nor 10 is given
 abbrev pub FirstBadIsEight : Type 0
 FirstBadIsEight = (size : ℕ) (ts us : List Token) → FirstBad ts us → ((i : Input) (at : ℕ) → parsed size ts ≢ refused 9 i at)
-    → ((i : Input) (at : ℕ) → parsed size ts ≢ refused 10 i at) → parsed size ts ≡ refused 8 InText (place_from size us)
+    → ((i : Input) (at : ℕ) → parsed size ts ≢ refused 10 i at) → parsed size ts ≡ refused 8 in_text (place_from size us)

@@ -1,7 +1,7 @@
 -- 01, "Refusal numbers": "Stages run in the order below, those that a call has. In a stage the earliest place wins; at one place the
 -- lower number wins." For each call: it refuses exactly so, and passes exactly when no stage has a fault.
 use Rattle.std.specs.Prelude.{ℕ, ◌≤◌, ◌<◌, ◌≡◌, ◌↔◌, ◌⊎◌, List, [], ◌∷◌, ◌++◌, length}
-use Rattle.paper.specs.Answers.{Input, InText, InList, inEntry, inBlocks, inBuffer, inContract, in_table, Answer, ok, refused}
+use Rattle.paper.specs.Answers.{Input, in_text, in_list, in_entry, in_blocks, in_buffer, in_contract, in_table, Answer, ok, refused}
 use Rattle.paper.specs.Tokens.{Token, tokens}
 use Rattle.paper.specs.Keys.{RecordRule, layout_rule, keys}
 use Rattle.paper.specs.Print.{print}
@@ -59,72 +59,72 @@ Given {A} x F n at = (v : A) × (x ≡ ok v) × F v n at
 
 -- 1
 abbrev pub size_stages : List ℕ → List Stage
-size_stages text = stage InText (TextSize text) ∷ []
+size_stages text = stage in_text (TextSize text) ∷ []
 
 -- 2; 3 and 4
 abbrev pub list_stages_by : RecordRule → List ℕ → List Stage
-list_stages_by rule list = stage InList (ListSize list) ∷ stage InList (ListRecords rule list) ∷ []
+list_stages_by rule list = stage in_list (ListSize list) ∷ stage in_list (ListRecords rule list) ∷ []
 
 abbrev pub list_stages : List ℕ → List Stage
 list_stages list = list_stages_by layout_rule list
 
 -- 5 to 7 and 22; 8 to 10
 abbrev pub tree_stages : List ℕ → List Stage
-tree_stages text = stage InText (TextTokens text) ∷ stage InText (Given (tokens text) (TextGrammar (length text))) ∷ []
+tree_stages text = stage in_text (TextTokens text) ∷ stage in_text (Given (tokens text) (TextGrammar (length text))) ∷ []
 
 -- 11 to 13 and 23; 14
 abbrev pub type_stages : List ℕ → List ℕ → List Stage
 type_stages text list =
-    stage InText (Given (keys list) (λ ks. Given (tree text) (TreeTypes ks)))
-    ∷ stage InText (Given (keys list) (λ ks. Given (tree text) (RootType ks)))
+    stage in_text (Given (keys list) (λ ks. Given (tree text) (TreeTypes ks)))
+    ∷ stage in_text (Given (keys list) (λ ks. Given (tree text) (RootType ks)))
     ∷ []
 
 -- 15
 abbrev pub buffer_stages : List ℕ → List ℕ → List ℕ → List Stage
-buffer_stages text list buffer = stage inBuffer (Given (restriction text list) (λ r. BufferSize r buffer)) ∷ []
+buffer_stages text list buffer = stage in_buffer (Given (restriction text list) (λ r. BufferSize r buffer)) ∷ []
 
 -- 16; 17; 18
 abbrev pub block_stages : List ℕ → List ℕ → List Stage
 block_stages list blocks =
-    stage inBlocks (BlocksSize blocks)
-    ∷ stage inBlocks (Given (keys list) (λ ks. BlocksLayout (length ks) blocks))
-    ∷ stage inBlocks (Given (keys list) (λ ks. BlocksCode ks blocks))
+    stage in_blocks (BlocksSize blocks)
+    ∷ stage in_blocks (Given (keys list) (λ ks. BlocksLayout (length ks) blocks))
+    ∷ stage in_blocks (Given (keys list) (λ ks. BlocksCode ks blocks))
     ∷ []
 
 -- 19; 20
 abbrev pub entry_stages : List ℕ → List ℕ → List Stage
 entry_stages list entry =
-    stage inEntry (Given (keys list) (λ ks. EntrySize ks entry))
-    ∷ stage inEntry (Given (keys list) (λ ks. EntryRules ks entry))
+    stage in_entry (Given (keys list) (λ ks. EntrySize ks entry))
+    ∷ stage in_entry (Given (keys list) (λ ks. EntryRules ks entry))
     ∷ []
 
 -- 25; no entry of many has a wrong length, and one that breaks its rule is counted
 abbrev pub entries_stages : List ℕ → List ℕ → List Stage
-entries_stages list entries = stage inEntry (Given (keys list) (λ ks. EntriesMany ks entries)) ∷ []
+entries_stages list entries = stage in_entry (Given (keys list) (λ ks. EntriesMany ks entries)) ∷ []
 
 -- 19, and then 15. In 01's order 15 comes before every number of blocks and entries: `translate` knows what it needs from the text. How many
 -- answers are wanted is known once no entry is cut, so that here it comes last
 abbrev pub table_stages : List ℕ → List ℕ → List ℕ → List Stage
 table_stages list entries answers =
-    stage inEntry (Given (keys list) (λ ks. EntriesSize ks entries))
-    ∷ stage inBuffer (Given (keys list) (λ ks. AnswersSize ks entries answers))
+    stage in_entry (Given (keys list) (λ ks. EntriesSize ks entries))
+    ∷ stage in_buffer (Given (keys list) (λ ks. AnswersSize ks entries answers))
     ∷ []
 
 -- 21
 abbrev pub printing_stages : List ℕ → List ℕ → List Stage
-printing_stages text buffer = stage inBuffer (Given (tree text) (λ t. LendingSize (print t) buffer)) ∷ []
+printing_stages text buffer = stage in_buffer (Given (tree text) (λ t. LendingSize (print t) buffer)) ∷ []
 
 -- 5 to 7 by the old rules, and 21 of what 02 h's pass makes
 abbrev pub fixing_stages : List ℕ → List ℕ → List Stage
-fixing_stages text buffer = stage InText (TokenFaults old_scan text) ∷ stage inBuffer (LendingSize (fixed text) buffer) ∷ []
+fixing_stages text buffer = stage in_text (TokenFaults old_scan text) ∷ stage in_buffer (LendingSize (fixed text) buffer) ∷ []
 
 -- 24 of the table; 24 of the contract; 21 of the text that 02 k makes of it
 abbrev pub drafting_stages : List ℕ → List ℕ → List ℕ → List ℕ → List Stage
 drafting_stages contract table list buffer =
     stage in_table (TableSize table)
-    ∷ stage inContract (Given (names_of list) (λ ks. ContractFaults (length ks) (length table) contract))
-    ∷ stage inBuffer (Given (drafted contract table list) (λ t. TextLimits t buffer))
-    ∷ stage inBuffer (Given (drafted contract table list) (λ t. LendingSize (print t) buffer))
+    ∷ stage in_contract (Given (names_of list) (λ ks. ContractFaults (length ks) (length table) contract))
+    ∷ stage in_buffer (Given (drafted contract table list) (λ t. TextLimits t buffer))
+    ∷ stage in_buffer (Given (drafted contract table list) (λ t. LendingSize (print t) buffer))
     ∷ []
 
 -- those that each call has

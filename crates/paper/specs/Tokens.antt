@@ -7,7 +7,7 @@ use Rattle.std.specs.Prelude.{ℕ, zero, suc, ◌-◌, ◌^◌, Bool, true, fals
 use Rattle.std.proofs.Math.Option.{Option, none, some}
 use Prim.Native.Char.{code}
 use Prim.Native.String as S
-use Rattle.paper.specs.Answers.{Answer, ok, refused, ◌>>=◌, InText}
+use Rattle.paper.specs.Answers.{Answer, ok, refused, ◌>>=◌, in_text}
 use Rattle.paper.specs.Numbers.{in_base}
 
 -- bytes
@@ -149,10 +149,10 @@ plain n = literal_in decimal n
 -- signs
 
 pub data Prefix : Type 0 where
-  notSign minusSign : Prefix
+  not_sign minus_sign : Prefix
 
 pub data Join : Type 0 where
-  sequel implies or_else andAlso : Join
+  sequel implies or_else and_also : Join
 
 pub data Comparison : Type 0 where
   equal unequal greater at_least less at_most : Comparison
@@ -167,7 +167,7 @@ abbrev pub two_bytes : ℕ → ℕ → Option Sign
 two_bytes b c =
     cond (are "->" b c) (some (join implies))
     (cond (are "||" b c) (some (join or_else))
-    (cond (are "&&" b c) (some (join andAlso))
+    (cond (are "&&" b c) (some (join and_also))
     (cond (are "==" b c) (some (comparison equal))
     (cond (are "!=" b c) (some (comparison unequal))
     (cond (are ">=" b c) (some (comparison at_least))
@@ -179,8 +179,8 @@ one_byte b =
     cond (is ";" b) (some (join sequel))
     (cond (is ">" b) (some (comparison greater))
     (cond (is "<" b) (some (comparison less))
-    (cond (is "!" b) (some (prefix notSign))
-    (cond (is "-" b) (some (prefix minusSign))
+    (cond (is "!" b) (some (prefix not_sign))
+    (cond (is "-" b) (some (prefix minus_sign))
     (cond (is "(" b) (some opening)
     (cond (is ")" b) (some closing) none))))))
 
@@ -203,7 +203,7 @@ pub data Scan : Type 0 where
   blank : ℕ → Scan
   token : Tok → ℕ → Scan
   octal_numeral : ℕ → ℕ → Scan
-  no_token tooLarge : Scan
+  no_token too_large : Scan
 
 -- how many bytes more; none where there is nothing to take
 abbrev pub taken : Scan → ℕ
@@ -211,7 +211,7 @@ taken (blank n) = n
 taken (token t n) = n
 taken (octal_numeral v n) = n
 taken no_token = 0
-taken tooLarge = 0
+taken too_large = 0
 
 abbrev pub scan_comment : List ℕ → Scan
 scan_comment [] = no_token
@@ -228,7 +228,7 @@ scan_word b s = token (word (b ∷ take (word_more s) s)) (word_more s)
 
 -- 6: "a numeral above 2^128 − 1"
 abbrev pub literal_scan : Base → ℕ → ℕ → Scan
-literal_scan base v more = cond (ltb v (2 ^ 128)) (token (numeral (literal_in base v)) more) tooLarge
+literal_scan base v more = cond (ltb v (2 ^ 128)) (token (numeral (literal_in base v)) more) too_large
 
 abbrev pub numeral_scan : Notation → ℕ → ℕ → Scan
 numeral_scan (based base) v more = literal_scan base v more
@@ -255,35 +255,35 @@ scan_sign b [] = scan_one (one_byte b)
 scan_sign b (c ∷ s) = scan_two (two_bytes b c) b
 
 pub data Class : Type 0 where
-  isSpace isSlash isQuote isLetter isFigure isOther : Class
+  is_space is_slash is_quote is_letter is_figure is_other : Class
 
 abbrev pub class_of : ℕ → Class
 class_of b =
-    cond (is_blank b) isSpace
-    (cond (is "/" b) isSlash
-    (cond (is "'" b) isQuote
-    (cond (is_id_start b) isLetter
-    (cond (is_digit b) isFigure isOther))))
+    cond (is_blank b) is_space
+    (cond (is "/" b) is_slash
+    (cond (is "'" b) is_quote
+    (cond (is_id_start b) is_letter
+    (cond (is_digit b) is_figure is_other))))
 
 abbrev pub scan_class : Class → ℕ → List ℕ → Scan
-scan_class isSpace b s = blank 0
-scan_class isSlash b s = scan_comment s
-scan_class isQuote b s = scan_string s
-scan_class isLetter b s = scan_word b s
-scan_class isFigure b s = scan_numeral b s
-scan_class isOther b s = scan_sign b s
+scan_class is_space b s = blank 0
+scan_class is_slash b s = scan_comment s
+scan_class is_quote b s = scan_string s
+scan_class is_letter b s = scan_word b s
+scan_class is_figure b s = scan_numeral b s
+scan_class is_other b s = scan_sign b s
 
 unfoldable pub scan : ℕ → List ℕ → Scan
 scan b s = scan_class (class_of b) b s
 
 abbrev pub onward : Scan → ℕ → ℕ → (ℕ → ℕ → Answer (List Token)) → Answer (List Token)
 onward (blank n) at room go = go n room
-onward (token t n) at zero go = refused 7 InText at
+onward (token t n) at zero go = refused 7 in_text at
 onward (token t n) at (suc room) go = go n room >>= λ ts. ok (record { at = at; tok = t } ∷ ts)
-onward (octal_numeral v n) at zero go = refused 7 InText at
-onward (octal_numeral v n) at (suc room) go = refused 22 InText at
-onward no_token at room go = refused 5 InText at
-onward tooLarge at room go = refused 6 InText at
+onward (octal_numeral v n) at zero go = refused 7 in_text at
+onward (octal_numeral v n) at (suc room) go = refused 22 in_text at
+onward no_token at room go = refused 5 in_text at
+onward too_large at room go = refused 6 in_text at
 
 -- what stands at a byte, of it and those after it
 abbrev pub Scanner : Type 0

@@ -8,12 +8,12 @@ use Rattle.std.specs.Prelude.{ℕ, ◌+◌, Bool, true, false, cond, List, [], �
 use Rattle.std.specs.Bool.{beq}
 use Rattle.std.proofs.Math.Option.{Option, none, some}
 use Rattle.paper.specs.Answers.{Answer, ok, refused}
-use Rattle.paper.specs.Tokens.{Prefix, notSign, minusSign}
+use Rattle.paper.specs.Tokens.{Prefix, not_sign, minus_sign}
 use Rattle.paper.specs.Keys.{Key, find}
 use Rattle.paper.specs.Entry.{Entry}
 use Rattle.paper.specs.Grammar.{Tree, truth, number, key, field, attribute, prefixed, joined, compared}
 use Rattle.paper.specs.Types.{Ty, bool, int, of, same_ty, and_then, field_named, meet, type_of}
-use Rattle.paper.specs.Meaning.{Connective, both, either, ifThen, connective, is_true, value_of}
+use Rattle.paper.specs.Meaning.{Connective, both, either, if_then, connective, is_true, value_of}
 use Rattle.paper.specs.Code.{Skip, Instruction, push_bool, push_int, push_key, push_field, push_priority, invert, negate, convert, compare, connects, skip}
 
 abbrev pub has_type : Answer Ty → Option Ty
@@ -40,8 +40,8 @@ abbrev pub conversion : List Key → Tree → Option Ty → List Instruction
 conversion ks t m = changed (has_type (type_of ks t)) m
 
 abbrev pub operation : Prefix → Instruction
-operation notSign = invert
-operation minusSign = negate
+operation not_sign = invert
+operation minus_sign = negate
 
 abbrev pub pushing : Option Instruction → List Instruction
 pushing none = []
@@ -51,13 +51,13 @@ pushing (some i) = i ∷ []
 abbrev pub settled_by : Connective → Bool
 settled_by both = false
 settled_by either = true
-settled_by ifThen = false
+settled_by if_then = false
 
 -- what a join is worth that its left operand settles
 abbrev pub settled_to : Connective → Bool
 settled_to both = false
 settled_to either = true
-settled_to ifThen = true
+settled_to if_then = true
 
 -- over the right operand, of so many instructions, and the join after it
 abbrev pub skip_for : Connective → ℕ → Skip

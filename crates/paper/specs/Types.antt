@@ -4,8 +4,8 @@
 use Rattle.std.specs.Prelude.{ℕ, ◌-◌, ◌^◌, Bool, true, false, not, cond, ◌&&◌, ◌||◌, List, eqb, ltb, ℤ, pos, negsuc, neg_ℤ}
 use Rattle.std.proofs.Math.Option.{Option, none, some, map}
 use Rattle.std.proofs.Math.ListN.{get_elem?}
-use Rattle.paper.specs.Answers.{Answer, ok, refused, ◌>>=◌, require, InText}
-use Rattle.paper.specs.Tokens.{bytes, same_bytes, Prefix, notSign, minusSign, Comparison, equal, unequal, greater, at_least, less, at_most}
+use Rattle.paper.specs.Answers.{Answer, ok, refused, ◌>>=◌, require, in_text}
+use Rattle.paper.specs.Tokens.{bytes, same_bytes, Prefix, not_sign, minus_sign, Comparison, equal, unequal, greater, at_least, less, at_most}
 use Rattle.paper.specs.Keys.{Kind, exact, ternary, lpm, range, optional, kind_no, Key, is_none, find}
 use Rattle.paper.specs.Entry.{is_exact}
 use Rattle.paper.specs.Grammar.{Tree, truth, number, key, field, attribute, prefixed, joined, compared, place_of}
@@ -39,47 +39,47 @@ and_then (some a) f = f a
 -- fields: "Fields are those of 004's table."
 
 pub data Field : Type 0 where
-  value mask prefixLength low high : Field
+  value mask prefix_length low high : Field
 
 abbrev pub field_named : List ℕ → Option Field
 field_named w =
     cond (same_bytes w (bytes "value")) (some value)
     (cond (same_bytes w (bytes "mask")) (some mask)
-    (cond (same_bytes w (bytes "prefix_length")) (some prefixLength)
+    (cond (same_bytes w (bytes "prefix_length")) (some prefix_length)
     (cond (same_bytes w (bytes "low")) (some low)
     (cond (same_bytes w (bytes "high")) (some high) none))))
 
 abbrev pub has : Kind → Field → Bool
 has exact value = true
 has exact mask = false
-has exact prefixLength = false
+has exact prefix_length = false
 has exact low = false
 has exact high = false
 has ternary value = true
 has ternary mask = true
-has ternary prefixLength = false
+has ternary prefix_length = false
 has ternary low = false
 has ternary high = false
 has lpm value = true
 has lpm mask = false
-has lpm prefixLength = true
+has lpm prefix_length = true
 has lpm low = false
 has lpm high = false
 has range value = false
 has range mask = false
-has range prefixLength = false
+has range prefix_length = false
 has range low = true
 has range high = true
 has optional value = true
 has optional mask = true
-has optional prefixLength = false
+has optional prefix_length = false
 has optional low = false
 has optional high = false
 
 abbrev pub field_ty : ℕ → Field → Ty
 field_ty w value = bits w
 field_ty w mask = bits w
-field_ty w prefixLength = int
+field_ty w prefix_length = int
 field_ty w low = bits w
 field_ty w high = bits w
 
@@ -106,8 +106,8 @@ abbrev pub negate_type : Ty → Option Ty
 negate_type a = when (is_number a) a
 
 abbrev pub prefix_type : Prefix → Ty → Option Ty
-prefix_type notSign a = not_type a
-prefix_type minusSign a = negate_type a
+prefix_type not_sign a = not_type a
+prefix_type minus_sign a = negate_type a
 
 -- "The joins take bools."
 abbrev pub join_type : Ty → Ty → Option Ty
@@ -179,8 +179,8 @@ spelled (number at n) = some (pos n.value)
 spelled (key at w) = none
 spelled (field at w to f) = none
 spelled (attribute at to f) = none
-spelled (prefixed at notSign t) = none
-spelled (prefixed at minusSign t) = map neg_ℤ (spelled t)
+spelled (prefixed at not_sign t) = none
+spelled (prefixed at minus_sign t) = map neg_ℤ (spelled t)
 spelled (joined at o l r) = none
 spelled (compared at c l r) = none
 
@@ -202,13 +202,13 @@ keeps_bits t (of k w) = holds_all w (spelled t)
 
 -- "Otherwise give new number 23, at the operand's place"
 abbrev pub bits_kept : Tree → Ty → Answer (Unit {0})
-bits_kept t other = require (keeps_bits t other) 23 InText (place_of t)
+bits_kept t other = require (keeps_bits t other) 23 in_text (place_of t)
 
 -- trees
 
 -- 13: "operator with wrong operand types", at the operator
 abbrev pub operator_type : ℕ → Option Ty → Answer Ty
-operator_type at none = refused 13 InText at
+operator_type at none = refused 13 in_text at
 operator_type at (some a) = ok a
 
 -- "in the type stage, once both operands have types that suit the operator; such a comparison has no type"
@@ -217,12 +217,12 @@ compared_type at c l r a b = operator_type at (comparison_type c a b) >>= λ t. 
 
 -- 11: "unknown key", at its token
 abbrev pub known : {A : Type 0} → ℕ → Option A → Answer A
-known at none = refused 11 InText at
+known at none = refused 11 in_text at
 known at (some a) = ok a
 
 -- 12: "unknown field for that kind, or unknown attribute", at its name
 abbrev pub named_type : ℕ → Option Ty → Answer Ty
-named_type at none = refused 12 InText at
+named_type at none = refused 12 in_text at
 named_type at (some a) = ok a
 
 -- "Operands are typed left, right, then the operator. An operator is judged only when its operands have types."
@@ -239,8 +239,8 @@ type_of ks (compared at c l r) = type_of ks l >>= λ a. type_of ks r >>= λ b. c
 -- 14: "whole text not bool", at the root's place
 abbrev pub root_type : Tree → Ty → Answer (Unit {0})
 root_type t bool = ok tt
-root_type t int = refused 14 InText (place_of t)
-root_type t (of k w) = refused 14 InText (place_of t)
+root_type t int = refused 14 in_text (place_of t)
+root_type t (of k w) = refused 14 in_text (place_of t)
 
 unfoldable pub typed : List Key → Tree → Answer (Unit {0})
 unfolding type_of

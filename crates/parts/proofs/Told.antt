@@ -6,7 +6,7 @@ use mathlib.Core.Path.{◌≡◌, refl, sym}
 use mathlib.Core.Bool.{false}
 use lib.Dec.{eqb}
 use borrow.Author.Tests.{ne_eqb}
-use Rattle.paper.specs.Tokens.{Sign, join, comparison, prefix, opening, closing, colons, sequel, implies, or_else, andAlso, Token, sign}
+use Rattle.paper.specs.Tokens.{Sign, join, comparison, prefix, opening, closing, colons, sequel, implies, or_else, and_also, Token, sign}
 use Rattle.paper.specs.Grammar.{is_sign}
 use Rattle.paper.specs.Parts.{is_sequel, outside, divides, one_less, open_after}
 use Rattle.tokens.specs.Tape.{Tape, kind_at, start_at, token_on, sign_no}
@@ -49,7 +49,7 @@ module _ (T : Tape) (i : ℕ) where
   told_sign closing e = rw e (record { divides = λ depth. refl; opens = one_less_is })
   told_sign (join implies) e = other kind _ refl refl refl (λ a. omega arith) (λ b. omega arith) (λ c. omega arith)
   told_sign (join or_else) e = other kind _ refl refl refl (λ a. omega arith) (λ b. omega arith) (λ c. omega arith)
-  told_sign (join andAlso) e = other kind _ refl refl refl (λ a. omega arith) (λ b. omega arith) (λ c. omega arith)
+  told_sign (join and_also) e = other kind _ refl refl refl (λ a. omega arith) (λ b. omega arith) (λ c. omega arith)
   told_sign (comparison d) e =
       let h = comparison_no_lem d in
       other kind _ refl refl refl (λ a. omega arith) (λ b. omega arith) (λ c. omega arith)

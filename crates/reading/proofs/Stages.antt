@@ -10,7 +10,7 @@ use Rattle.paper.specs.declared.Counted.{Counted}
 use Rattle.paper.specs.declared.Counted.TheVariants.{Count, Refused}
 use Rattle.paper.specs.declared.Checking.{Checking}
 use Rattle.paper.specs.declared.Checking.TheVariants as C
-use Rattle.paper.specs.Answers.{Answer, ok, refused, ◌>>=◌, Input, InText, input_of, offset_of, counted_says, checking_says}
+use Rattle.paper.specs.Answers.{Answer, ok, refused, ◌>>=◌, Input, in_text, input_of, offset_of, counted_says, checking_says}
 use Rattle.paper.specs.Tokens.{most_text}
 use Rattle.paper.specs.Keys.{keys}
 use Rattle.paper.specs.Grammar as G
@@ -86,7 +86,7 @@ module _ (text list nodes : List ℕ) (m : ℕ) (p : Planted text nodes m) (c : 
 -- 1; 2; 3 and 4; then these
 
 module _ (text list : List ℕ) where
-  pub too_long : most_text < length text → restriction text list ≡ refused 1 InText most_text
+  pub too_long : most_text < length text → restriction text list ≡ refused 1 in_text most_text
   unfolding restriction
   too_long h = rw (lt-leb (length text) most_text h)
 

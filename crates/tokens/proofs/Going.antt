@@ -8,7 +8,7 @@ use lib.ListN.{length, get_or, drop}
 use lib.Seq.{sets, length-sets}
 use lib.Dec.{eqb}
 use borrow.Author.Tests.{eqb-true, eqb-false, ne_eqb}
-use Rattle.paper.specs.Answers.{Answer, ok, refused, InText}
+use Rattle.paper.specs.Answers.{Answer, ok, refused, in_text}
 use Rattle.paper.specs.Tokens.{is_blank, Literal, plain, Token, Scan, octal_numeral, taken, scan, tokens_from, tokens, most_tokens}
 use Rattle.paper.specs.Parts.{token_end}
 use Rattle.number.specs.Bases.{literal_meant}
@@ -110,10 +110,10 @@ module _ (text rows : List ℕ) (n at : ℕ) (g : Going (tape_of text rows) n at
       }
 
   pub going_full : (v : Literal) (kind end : ℕ) → n ≡ most_tokens → Here text at v (F.Token kind end)
-      → refused 7 InText at ≡ tokens text
+      → refused 7 in_text at ≡ tokens text
   going_full v kind end full w =
       let e : most_tokens - n ≡ 0 = omega arith in
-      from_here (refused 7 InText at) (rw e (full_step scan text at 0 h _ _ (sym w.says)))
+      from_here (refused 7 in_text at) (rw e (full_step scan text at 0 h _ _ (sym w.says)))
 
   -- a token for which there is no row
   pub going_no_row : (v : Literal) (kind end : ℕ) → RoomFor (length rows) n → Here text at v (F.Token kind end)
@@ -140,21 +140,21 @@ module _ (text rows : List ℕ) (n at : ℕ) (g : Going (tape_of text rows) n at
       → CutSays (tape_of text rows) (octal_refusal n at)
   going_octal v m e = go (eqb n most_tokens) refl
     where
-      go : (full : Bool) → eqb n most_tokens ≡ full → refused (cond full 7 22) InText at ≡ tokens text
+      go : (full : Bool) → eqb n most_tokens ≡ full → refused (cond full 7 22) in_text at ≡ tokens text
       go true f =
           let none : most_tokens - n ≡ 0 = omega (arith, eqb-true n most_tokens f) in
-          from_here (refused 7 InText at) (rw none (octal_full_step scan text at 0 h v m (sym e)))
+          from_here (refused 7 in_text at) (rw none (octal_full_step scan text at 0 h v m (sym e)))
       go false f =
           let some : most_tokens - n ≡ suc (most_tokens - (n + 1)) = omega (arith, g.few, eqb-false n most_tokens f) in
-          from_here (refused 22 InText at) (rw some (octal_step scan text at (most_tokens - (n + 1)) h v m (sym e)))
+          from_here (refused 22 in_text at) (rw some (octal_step scan text at (most_tokens - (n + 1)) h v m (sym e)))
 
   pub going_none : (v : Literal) → Here text at v F.NoToken
-      → refused 5 InText at ≡ tokens text
-  going_none v w = from_here (refused 5 InText at) (no_step scan text at (most_tokens - n) h (sym w.says))
+      → refused 5 in_text at ≡ tokens text
+  going_none v w = from_here (refused 5 in_text at) (no_step scan text at (most_tokens - n) h (sym w.says))
 
   pub going_large : (v : Literal) → Here text at v F.TooLarge
-      → refused 6 InText at ≡ tokens text
-  going_large v w = from_here (refused 6 InText at) (large_step scan text at (most_tokens - n) h (sym w.says))
+      → refused 6 in_text at ≡ tokens text
+  going_large v w = from_here (refused 6 in_text at) (large_step scan text at (most_tokens - n) h (sym w.says))
 
 module _ (T : Tape) (n at : ℕ) (g : Going T n at) where
   pub going_end : length T.text ≤ at → ok (tokens_on T 0 n) ≡ tokens T.text

@@ -10,8 +10,8 @@ use lib.ListN.{length, get_or, take, drop, length-append, length-take, drop_of_l
 use lib.Seq.{sets, sets-eq, take_at, length-take-le, drop-drop}
 use lib.Dec.{eqb}
 use borrow.Author.Tests.{eqb-true, eqb-false}
-use Rattle.paper.specs.Answers.{Answer, ok, refused, ◌>>=◌, InText}
-use Rattle.paper.specs.Tokens.{hex, Literal, literal_in, Tok, numeral, Token, Scan, token, tooLarge, taken, scan, tokens_by, most_tokens}
+use Rattle.paper.specs.Answers.{Answer, ok, refused, ◌>>=◌, in_text}
+use Rattle.paper.specs.Tokens.{hex, Literal, literal_in, Tok, numeral, Token, Scan, token, too_large, taken, scan, tokens_by, most_tokens}
 use Rattle.paper.specs.Fixing.{by_old_rules, old_scan, old_tokens, piece_for, fixed_from, fixed}
 use Rattle.paper.proofs.OctalNumerals.{IfOctal, if_octal}
 use Rattle.spelling.proofs.Spans.{cut}
@@ -76,7 +76,7 @@ pub record Onward (text : List ℕ) (n at : ℕ) (p : List ℕ) (end m : ℕ) : 
 abbrev pub Right : List ℕ → ℕ → ℕ → ℕ → Step → Type 0
 Right text n at v (S.Copied end m) = Onward text n at (take (end - at) (drop at text)) end m
 Right text n at v (S.InHex end m) = Onward text n at (hex_numeral v) end m
-Right text n at v (S.Refused number) = (k : ℕ) → refused number InText at ≡ telling k (old_from text n at)
+Right text n at v (S.Refused number) = (k : ℕ) → refused number in_text at ≡ telling k (old_from text n at)
 
 module _ (text : List ℕ) (n at : ℕ) (few : n ≤ most_tokens) (h : at < length text) where
   -- the byte at the offset, those after it, and what the paper scans there
@@ -124,9 +124,9 @@ module _ (text : List ℕ) (n at : ℕ) (few : n ≤ most_tokens) (h : at < leng
       sym (ap (telling k) step ∙ telling_one k _ (old_from text (n + 1) end))
 
   token_full : {t : Tok} {m : ℕ} → old_scan byte after ≡ token t m → n ≡ most_tokens
-      → (k : ℕ) → refused 7 InText at ≡ telling k (old_from text n at)
+      → (k : ℕ) → refused 7 in_text at ≡ telling k (old_from text n at)
   token_full e none k =
-      let step : old_from text n at ≡ refused 7 InText at = rw (full none) (full_step old_scan text at 0 h _ _ e) in
+      let step : old_from text n at ≡ refused 7 in_text at = rw (full none) (full_step old_scan text at 0 h _ _ e) in
       ap (telling k) (sym step)
 
   module _ (l : Literal) where
@@ -191,7 +191,7 @@ module _ (text : List ℕ) (n at : ℕ) (few : n ≤ most_tokens) (h : at < leng
     step_right (F.Token kind end) w = a_token kind end w
     step_right (F.Octal end) w = an_octal end w
     step_right F.OctalTooLarge w =
-        let old : old_scan byte after ≡ tooLarge = ap by_old_rules (sym w.says.is) ∙ rw w.says.large in
+        let old : old_scan byte after ≡ too_large = ap by_old_rules (sym w.says.is) ∙ rw w.says.large in
         λ k. ap (telling k) (sym (large_step old_scan text at (most_tokens - n) h old))
     step_right F.NoToken w = λ k. ap (telling k) (sym (no_step old_scan text at (most_tokens - n) h (ap by_old_rules (sym w.says))))
     step_right F.TooLarge w = λ k. ap (telling k) (sym (large_step old_scan text at (most_tokens - n) h (ap by_old_rules (sym w.says))))
@@ -224,8 +224,8 @@ module _ {text out : List ℕ} {n at written : ℕ} (going : Passing text out n 
             (append_assoc (take written out) p (fixed_from 0 (drop end text)) ∙ ap (λ s. take written out ++ s) on.written ∙ going.stands);
       }
 
-  pub passing_refused : {number : ℕ} → ((k : ℕ) → refused number InText at ≡ telling k (old_from text n at))
-      → refused number InText at ≡ telling (length (fixed text)) (old_tokens text)
+  pub passing_refused : {number : ℕ} → ((k : ℕ) → refused number in_text at ≡ telling k (old_from text n at))
+      → refused number in_text at ≡ telling (length (fixed text)) (old_tokens text)
   passing_refused e = e (length (fixed text)) ∙ going.says (length (fixed text))
 
   module _ (end : length text ≤ at) where

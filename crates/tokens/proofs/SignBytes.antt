@@ -9,7 +9,7 @@ use native.Mathlib.Omega.{arith}
 use lib.Dec.{eqb, leb}
 use lib.ListN.{length, get_or, drop, drop_of_length-le, get_or-eq_default}
 use borrow.Author.Tests.{eqb-false, eq-eqb, ne_eqb, leb-true}
-use Rattle.paper.specs.Tokens.{is_blank, is_digit, is_id_start, Sign, one_byte, two_bytes, Scan, blank, octal_numeral, tooLarge, Tok, scan, scan_one, scan_two, scan_word, scan_sign, word_more, token, no_token, sign, Literal, plain}
+use Rattle.paper.specs.Tokens.{is_blank, is_digit, is_id_start, Sign, one_byte, two_bytes, Scan, blank, octal_numeral, too_large, Tok, scan, scan_one, scan_two, scan_word, scan_sign, word_more, token, no_token, sign, Literal, plain}
 use Rattle.spelling.proofs.Spans.{cut}
 use Rattle.spelling.proofs.Tests.{and_both}
 use Rattle.tokens.specs.Tape.{word_no, numeral_no, string_no, first_sign, sign_of, tok_of}
@@ -173,7 +173,7 @@ found (token t n) = true
 found (blank n) = false
 found (octal_numeral v n) = false
 found no_token = false
-found tooLarge = false
+found too_large = false
 
 -- what begins a word or a sign is of no other class
 module _ (b : ℕ) (s : List ℕ) (t : Tok) (m : ℕ) (is : token t m ≡ plain_scan b s) where

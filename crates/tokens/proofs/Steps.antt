@@ -6,8 +6,8 @@ use native.Mathlib.Nat.{add-zero}
 use native.Mathlib.Omega.{arith}
 use lib.ListN.{length, get_or, drop, drop_of_length-le}
 use lib.Seq.{drop-drop, append_snoc}
-use Rattle.paper.specs.Answers.{Answer, ok, refused, ◌>>=◌, InText}
-use Rattle.paper.specs.Tokens.{Token, Tok, Scanner, blank, token, octal_numeral, no_token, tooLarge, onward, tokens_by}
+use Rattle.paper.specs.Answers.{Answer, ok, refused, ◌>>=◌, in_text}
+use Rattle.paper.specs.Tokens.{Token, Tok, Scanner, blank, token, octal_numeral, no_token, too_large, onward, tokens_by}
 use Rattle.spelling.proofs.Spans.{cut}
 
 module _ (look : Scanner) where
@@ -52,21 +52,21 @@ module _ (look : Scanner) (s : List ℕ) (at room : ℕ) (h : at < length s) whe
   token_step t end l e = tokens_at look s at (suc room) h ∙ rw (e, onto end l)
 
   pub full_step : (t : Tok) (n : ℕ) → look (get_or s at 0) (drop (at + 1) s) ≡ token t n
-      → tokens_by look 0 at 0 (drop at s) ≡ refused 7 InText at
+      → tokens_by look 0 at 0 (drop at s) ≡ refused 7 in_text at
   full_step t n e = tokens_at look s at 0 h ∙ rw e
 
   pub octal_full_step : (v n : ℕ) → look (get_or s at 0) (drop (at + 1) s) ≡ octal_numeral v n
-      → tokens_by look 0 at 0 (drop at s) ≡ refused 7 InText at
+      → tokens_by look 0 at 0 (drop at s) ≡ refused 7 in_text at
   octal_full_step v n e = tokens_at look s at 0 h ∙ rw e
 
   pub octal_step : (v n : ℕ) → look (get_or s at 0) (drop (at + 1) s) ≡ octal_numeral v n
-      → tokens_by look 0 at (suc room) (drop at s) ≡ refused 22 InText at
+      → tokens_by look 0 at (suc room) (drop at s) ≡ refused 22 in_text at
   octal_step v n e = tokens_at look s at (suc room) h ∙ rw e
 
-  pub no_step : look (get_or s at 0) (drop (at + 1) s) ≡ no_token → tokens_by look 0 at room (drop at s) ≡ refused 5 InText at
+  pub no_step : look (get_or s at 0) (drop (at + 1) s) ≡ no_token → tokens_by look 0 at room (drop at s) ≡ refused 5 in_text at
   no_step e = tokens_at look s at room h ∙ rw e
 
-  pub large_step : look (get_or s at 0) (drop (at + 1) s) ≡ tooLarge → tokens_by look 0 at room (drop at s) ≡ refused 6 InText at
+  pub large_step : look (get_or s at 0) (drop (at + 1) s) ≡ too_large → tokens_by look 0 at room (drop at s) ≡ refused 6 in_text at
   large_step e = tokens_at look s at room h ∙ rw e
 
 -- tokens after others

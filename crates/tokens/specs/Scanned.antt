@@ -1,6 +1,6 @@
 -- What the crate's enums say, in the paper's words.
 use Rattle.std.specs.Prelude.{ℕ, ◌+◌, ◌-◌, ◌/◌, ◌%◌, ◌^◌, ◌≤◌, ◌<◌, ◌≡◌, true, false, cond, List, length, drop, eqb, ltb}
-use Rattle.paper.specs.Tokens.{hex, Notation, based, octal, Literal, literal_in, Scan, blank, token, sign, octal_numeral, no_token, tooLarge, is_id_start, word_more, two_bytes, scan_two, scan_word, scan_sign}
+use Rattle.paper.specs.Tokens.{hex, Notation, based, octal, Literal, literal_in, Scan, blank, token, sign, octal_numeral, no_token, too_large, is_id_start, word_more, two_bytes, scan_two, scan_word, scan_sign}
 use Rattle.spelling.specs.declared.numerals.Notation as N
 use Rattle.spelling.specs.declared.numerals.Notation.TheVariants as S
 use Rattle.tokens.specs.Tape.{word_no, numeral_no, string_no, first_sign, last_sign, sign_of, tok_of}
@@ -46,7 +46,7 @@ Says text at literal scanned (F.Token kind end) = token (tok_of text kind at end
 Says text at literal scanned (F.Octal end) = OctalFits literal (end - (at + 1)) scanned
 Says text at literal scanned F.OctalTooLarge = OctalLarge scanned
 Says text at literal scanned F.NoToken = no_token ≡ scanned
-Says text at literal scanned F.TooLarge = tooLarge ≡ scanned
+Says text at literal scanned F.TooLarge = too_large ≡ scanned
 
 abbrev pub Ends : List ℕ → ℕ → Lexeme → Type 0
 Ends text at (F.Blank end) = (at < end) × (end ≤ length text)

@@ -3,7 +3,7 @@
 use Rattle.std.specs.Prelude.{ℕ, zero, suc, ◌+◌, ◌*◌, ◌-◌, ◌≤◌, ◌<◌, ◌≡◌, cond, List, [], ◌∷◌, length, get_or, eqb}
 use Rattle.std.proofs.Math.Seq.{slice}
 use Rattle.std.proofs.lemmas.List.Edits.{sets}
-use Rattle.paper.specs.Tokens.{Sign, join, comparison, prefix, opening, closing, colons, sequel, implies, or_else, andAlso, equal, unequal, greater, at_least, less, at_most, notSign, minusSign, Tok, word, numeral, string, sign, Token, radix, Literal, literal_in, plain, most_tokens}
+use Rattle.paper.specs.Tokens.{Sign, join, comparison, prefix, opening, closing, colons, sequel, implies, or_else, and_also, equal, unequal, greater, at_least, less, at_most, not_sign, minus_sign, Tok, word, numeral, string, sign, Token, radix, Literal, literal_in, plain, most_tokens}
 use Rattle.number.specs.Values.{nested, limb}
 use Rattle.number.specs.Bases.{base_meant, of_radix, literal_meant}
 use Rattle.number.specs.declared.base.Literal as N
@@ -84,15 +84,15 @@ abbrev pub sign_no : Sign → ℕ
 sign_no (join sequel) = 3
 sign_no (join implies) = 4
 sign_no (join or_else) = 5
-sign_no (join andAlso) = 6
+sign_no (join and_also) = 6
 sign_no (comparison equal) = 7
 sign_no (comparison unequal) = 8
 sign_no (comparison greater) = 9
 sign_no (comparison at_least) = 10
 sign_no (comparison less) = 11
 sign_no (comparison at_most) = 12
-sign_no (prefix notSign) = 13
-sign_no (prefix minusSign) = 14
+sign_no (prefix not_sign) = 13
+sign_no (prefix minus_sign) = 14
 sign_no opening = 15
 sign_no closing = 16
 sign_no colons = 17
@@ -109,7 +109,7 @@ abbrev pub first_join : ℕ
 first_join = sign_no (join sequel)
 
 abbrev pub last_join : ℕ
-last_join = sign_no (join andAlso)
+last_join = sign_no (join and_also)
 
 abbrev pub first_comparison : ℕ
 first_comparison = sign_no (comparison equal)
@@ -118,10 +118,10 @@ abbrev pub last_comparison : ℕ
 last_comparison = sign_no (comparison at_most)
 
 abbrev pub first_prefix : ℕ
-first_prefix = sign_no (prefix notSign)
+first_prefix = sign_no (prefix not_sign)
 
 abbrev pub last_prefix : ℕ
-last_prefix = sign_no (prefix minusSign)
+last_prefix = sign_no (prefix minus_sign)
 
 -- of a number from the first sign's to the last's
 abbrev pub sign_of : ℕ → Sign
@@ -129,15 +129,15 @@ sign_of n =
     cond (eqb n 3) (join sequel)
     (cond (eqb n 4) (join implies)
     (cond (eqb n 5) (join or_else)
-    (cond (eqb n 6) (join andAlso)
+    (cond (eqb n 6) (join and_also)
     (cond (eqb n 7) (comparison equal)
     (cond (eqb n 8) (comparison unequal)
     (cond (eqb n 9) (comparison greater)
     (cond (eqb n 10) (comparison at_least)
     (cond (eqb n 11) (comparison less)
     (cond (eqb n 12) (comparison at_most)
-    (cond (eqb n 13) (prefix notSign)
-    (cond (eqb n 14) (prefix minusSign)
+    (cond (eqb n 13) (prefix not_sign)
+    (cond (eqb n 14) (prefix minus_sign)
     (cond (eqb n 15) opening
     (cond (eqb n 16) closing colons)))))))))))))
 

@@ -9,7 +9,7 @@ use lib.ListN.{length}
 use Rattle.paper.specs.Answers.{ok}
 use Rattle.paper.specs.Keys.{Key, find}
 use Rattle.paper.specs.Grammar.{Tree}
-use Rattle.paper.specs.Types.{Ty, bool, same_ty, meet, operator_type, Field, value, mask, prefixLength, low, high, and_then, field_named, type_of}
+use Rattle.paper.specs.Types.{Ty, bool, same_ty, meet, operator_type, Field, value, mask, prefix_length, low, high, and_then, field_named, type_of}
 use Rattle.paper.specs.Code.{Instruction, push_key, push_field}
 use Rattle.paper.specs.Translating.{changed, pushing, code_of}
 use Rattle.paper.proofs.MeetingTypes.{same_types_lem}
@@ -46,7 +46,7 @@ module _ (ks : List Key) where
   field_code (some k) none = refl
   field_code (some k) (some value) = refl
   field_code (some k) (some mask) = refl
-  field_code (some k) (some prefixLength) = refl
+  field_code (some k) (some prefix_length) = refl
   field_code (some k) (some low) = refl
   field_code (some k) (some high) = refl
 

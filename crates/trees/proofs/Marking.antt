@@ -41,7 +41,7 @@ field_back none f = refl
 field_back (some k) none = rw (some_key k)
 field_back (some k) (some T.value) = rw (some_key k, one_less k)
 field_back (some k) (some T.mask) = rw (some_key k, one_less k)
-field_back (some k) (some T.prefixLength) = rw (some_key k, one_less k)
+field_back (some k) (some T.prefix_length) = rw (some_key k, one_less k)
 field_back (some k) (some T.low) = rw (some_key k, one_less k)
 field_back (some k) (some T.high) = rw (some_key k, one_less k)
 

@@ -1,7 +1,7 @@
 -- The words of a tree, node after node, and when a tree is one of a text.
 use Rattle.std.specs.Prelude.{ℕ, ◌+◌, ◌*◌, ◌-◌, ◌/◌, ◌%◌, ◌^◌, ◌≡◌, List, [], ◌∷◌, ◌++◌, length, take, drop}
 use Rattle.std.proofs.Math.Seq.{slice}
-use Rattle.paper.specs.Tokens.{radix, Prefix, notSign, minusSign, Join, sequel, implies, or_else, andAlso, Comparison, equal, unequal, greater, at_least, less, at_most}
+use Rattle.paper.specs.Tokens.{radix, Prefix, not_sign, minus_sign, Join, sequel, implies, or_else, and_also, Comparison, equal, unequal, greater, at_least, less, at_most}
 use Rattle.paper.specs.Grammar.{Tree, truth, number, key, field, attribute, prefixed, joined, compared, nodes}
 use Rattle.paper.specs.Code.{bit}
 use Rattle.trees.specs.declared.node.Operator.{Operator}
@@ -10,14 +10,14 @@ use Rattle.trees.specs.Standing.{join_meant, comparison_meant}
 
 -- the number of a node's kind: 0 truth, 1 number, 2 key, 3 field, 4 attribute, then the operators
 abbrev pub prefix_no : Prefix → ℕ
-prefix_no notSign = 5
-prefix_no minusSign = 6
+prefix_no not_sign = 5
+prefix_no minus_sign = 6
 
 abbrev pub join_no : Join → ℕ
 join_no sequel = 7
 join_no implies = 8
 join_no or_else = 9
-join_no andAlso = 10
+join_no and_also = 10
 
 abbrev pub comparison_no : Comparison → ℕ
 comparison_no equal = 11

@@ -9,7 +9,7 @@ use mathlib.Core.Option.{some}
 use lib.ListN.{length}
 use lib.Dec.{eqb, lit<, lit≤}
 use native.Mathlib.Omega.{arith}
-use Rattle.paper.specs.Tokens.{bytes, word, notSign, sequel, less, scan}
+use Rattle.paper.specs.Tokens.{bytes, word, not_sign, sequel, less, scan}
 use Rattle.paper.specs.Keys.{exact}
 use Rattle.paper.specs.Types.{Ty, bool, int, of, type_of}
 use Rattle.paper.specs.Meaning.{both}
@@ -58,10 +58,10 @@ rows =
       row_11_of_a_field = F.key_of_field_unknown 5 8 refl;
       row_12 = F.field_unknown 5 8 0 refl refl;
       row_12_of_an_attribute = F.attribute_unknown 5 7 (apart (λ w. eqb (length w) 4) refl refl);
-      row_13_of_a_prefix = F.prefix_wrong 1 notSign int refl refl;
+      row_13_of_a_prefix = F.prefix_wrong 1 not_sign int refl refl;
       row_13_of_a_join = F.join_wrong 4 sequel bool int refl refl refl;
       row_13_of_a_comparison = F.comparison_wrong 4 less bool int refl refl refl;
-      in_an_operand = F.in_operand 1 notSign (F.key_unknown 5 refl);
+      in_an_operand = F.in_operand 1 not_sign (F.key_unknown 5 refl);
       on_the_left_of_a_join = F.join_left 7 sequel (F.key_unknown 5 refl);
       on_the_right_of_a_join = F.join_right 3 sequel (F.key_unknown 5 refl);
       on_the_left_of_a_comparison = F.comparison_left 7 less (F.key_unknown 5 refl);

@@ -6,7 +6,7 @@ use mathlib.Core.Bool.{false, true≢false}
 use mathlib.Core.List.{List, [], ◌∷◌}
 use lib.ListN.{length}
 use lib.Dec.{eqb}
-use Rattle.paper.specs.Tokens.{plain, bytes, Token, word, or_else, andAlso, less, notSign, minusSign, tokens}
+use Rattle.paper.specs.Tokens.{plain, bytes, Token, word, or_else, and_also, less, not_sign, minus_sign, tokens}
 use Rattle.paper.specs.Addresses.{mac, address}
 use Rattle.paper.specs.Grammar.{Tree, key}
 use Rattle.paper.specs.Sentences.{Phrases, token_at, Joining, joining, Comparing, comparing, Once, none_of, one_of, Chain, first, further, Implication, Name, Prefixed, Whole, without, lenient, by_prefix, by_parenthesis, a_string}
@@ -20,10 +20,10 @@ name w p q =
 
 -- an operand as a phrase of each step of the ladder: a chain of "&&" that is one comparison, a chain of "||", "->" at most once, all
 
-and : {S : Phrases} {t : Tree} {ts : List Token} → S t ts → Chain (Joining andAlso) (Once Comparing S) t ts
+and : {S : Phrases} {t : Tree} {ts : List Token} → S t ts → Chain (Joining and_also) (Once Comparing S) t ts
 and s = first (none_of s)
 
-or : {S : Phrases} {t : Tree} {ts : List Token} → S t ts → Chain (Joining or_else) (Chain (Joining andAlso) (Once Comparing S)) t ts
+or : {S : Phrases} {t : Tree} {ts : List Token} → S t ts → Chain (Joining or_else) (Chain (Joining and_also) (Once Comparing S)) t ts
 or s = first (and s)
 
 up : {S : Phrases} {t : Tree} {ts : List Token} → S t ts → Implication S t ts
@@ -59,8 +59,8 @@ derived =
       a_key = (0, alone (a_key 0 "a.b" refl refl));
       a_field = (0, alone (G.a_field 0 (bytes "a") 1 3 (bytes "true") (name (bytes "a") refl refl) refl));
       an_attribute = (0, alone (G.an_attribute 0 2 (bytes "b") refl));
-      a_not = (1, alone (G.a_prefixed 0 notSign (a 1)));
-      a_minus = (1, alone (G.a_prefixed 0 minusSign (a 1)));
+      a_not = (1, alone (G.a_prefixed 0 not_sign (a 1)));
+      a_minus = (1, alone (G.a_prefixed 0 minus_sign (a 1)));
       a_parenthesis = (1, alone (G.a_parenthesis 0 4 (further (first (up (a 1))) (joining 2) (up (b 3)))));
       a_comparison = (0, without (first (none_of (first (first (one_of (a 0) (comparing 1 less) (b 2)))))));
       ands =
@@ -81,8 +81,8 @@ sentence_examples =
       derived = derived;
       good_string_read = refl;
       bad_string_read = refl;
-      not_opens = by_prefix 3 notSign;
-      minus_opens = by_prefix 3 minusSign;
+      not_opens = by_prefix 3 not_sign;
+      minus_opens = by_prefix 3 minus_sign;
       parenthesis_opens = by_parenthesis 3;
       string_is_one = a_string 3 (bytes "x");
       at_a_token = refl;

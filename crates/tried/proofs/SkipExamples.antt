@@ -27,7 +27,7 @@ skip_examples =
       decoded = refl;
       last = refl;
       farthest = refl;
-      in_blocks = record { before_the_last = refl; as_the_last = refl };
+      in_blocks_lem = record { before_the_last = refl; as_the_last = refl };
       loaded = refl;
       full_loads = refl;
       runs_counted = refl;

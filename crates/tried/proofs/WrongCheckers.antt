@@ -5,7 +5,7 @@ use native.Mathlib.Omega.{arith}
 use mathlib.Core.Path.{◌≡◌, refl, sym, ap, ◌∙◌}
 use mathlib.Core.List.{List}
 use Rattle.paper.specs.declared.Checking.TheVariants as C
-use Rattle.paper.specs.Answers.{Answer, ok, refused, ◌>>=◌, InText, checking_says}
+use Rattle.paper.specs.Answers.{Answer, ok, refused, ◌>>=◌, in_text, checking_says}
 use Rattle.paper.specs.Tokens.{bytes}
 use Rattle.paper.specs.Calls.{check_answer}
 use Rattle.tried.specs.MarkedJudgements.{the_keys}
@@ -41,11 +41,11 @@ module _ (rule : ComparisonRule) (x : Checker) (types : TypesBy rule x) (good : 
 
 -- the three texts
 
-three_lost : right (bytes "v == 3") ≡ refused 23 InText 5
+three_lost : right (bytes "v == 3") ≡ refused 23 in_text 5
 unfolding check_answer
 three_lost = refl
 
-three_lost_left : right (bytes "3 == v") ≡ refused 23 InText 0
+three_lost_left : right (bytes "3 == v") ≡ refused 23 in_text 0
 unfolding check_answer
 three_lost_left = refl
 
@@ -63,11 +63,11 @@ left_passes : says right_alone (bytes "3 == v") ≡ ok tt
 unfolding restriction_by
 left_passes = refl
 
-operator_refuses : says at_operator (bytes "v == 3") ≡ refused 23 InText 2
+operator_refuses : says at_operator (bytes "v == 3") ≡ refused 23 in_text 2
 unfolding restriction_by
 operator_refuses = refl
 
-below_refuses : says above_zero (bytes "v == -1") ≡ refused 23 InText 5
+below_refuses : says above_zero (bytes "v == -1") ≡ refused 23 in_text 5
 unfolding restriction_by
 below_refuses = refl
 

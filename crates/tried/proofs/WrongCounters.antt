@@ -9,7 +9,7 @@ use mathlib.Core.List.{List, [], ◌∷◌, ◌++◌, append_assoc}
 use lib.ListN.{length, replicate, length-replicate, length-map}
 use lib.Dec.{lit<, leb}
 use borrow.Author.Tests.{leb-true, le-leb}
-use Rattle.paper.specs.Answers.{Answer, ok, refused, ◌>>=◌, inEntry}
+use Rattle.paper.specs.Answers.{Answer, ok, refused, ◌>>=◌, in_entry}
 use Rattle.paper.specs.Numbers.{big_endian}
 use Rattle.paper.specs.Tokens.{bytes}
 use Rattle.paper.specs.Entry.{entry_of}
@@ -140,7 +140,7 @@ abbrev too_long : ℕ
 too_long = suc most_entries * entry_size []
 
 module _ (s : List ℕ) (long : length s ≡ too_long) where
-  too_many : counted (bytes "true") [] s ≡ refused 25 inEntry (most_entries * entry_size [])
+  too_many : counted (bytes "true") [] s ≡ refused 25 in_entry (most_entries * entry_size [])
   unfolding counted
   too_many = rw long
 

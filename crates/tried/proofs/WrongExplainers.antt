@@ -4,7 +4,7 @@ use native.Mathlib.Omega.{arith}
 use mathlib.Core.Path.{◌≡◌, refl, sym, ◌∙◌}
 use mathlib.Core.Bool.{true, false}
 use mathlib.Core.List.{List, [], ◌∷◌}
-use Rattle.paper.specs.Answers.{inEntry, ok, refused}
+use Rattle.paper.specs.Answers.{in_entry, ok, refused}
 use Rattle.paper.specs.Numbers.{big_endian}
 use Rattle.paper.specs.Tokens.{bytes, sequel}
 use Rattle.paper.specs.Keys.{keys}
@@ -40,7 +40,7 @@ nested_shown : explain_answer nested [] low ≡ in_part 1 5 (record { from = 0; 
 unfolding explain_answer
 nested_shown = refl
 
-high_shown : explain_answer (bytes "true") [] high ≡ nothing_to_show (refused 20 inEntry 0)
+high_shown : explain_answer (bytes "true") [] high ≡ nothing_to_show (refused 20 in_entry 0)
 unfolding explain_answer
 high_shown = refl
 
@@ -120,7 +120,7 @@ second_in_spine : (x : Explainer) → FollowsSpine x → Names 2 (x nested [] lo
 unfolding value_of nested_violated
 second_in_spine x follows = follows nested [] low nested_violated (truth 1 true ∷ []) (truth 13 true ∷ []) (truth 6 false) refl (refl, tt) refl
 
-high_refused : judge_answer (bytes "true") [] high ≡ refused 20 inEntry 0
+high_refused : judge_answer (bytes "true") [] high ≡ refused 20 in_entry 0
 unfolding judge_answer
 high_refused = refl
 

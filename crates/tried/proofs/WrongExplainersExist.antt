@@ -10,8 +10,8 @@ use mathlib.Core.List.{List, [], ◌∷◌, ◌++◌}
 use lib.ListN.{length}
 use lib.Dec.{eqb, leb}
 use borrow.Author.Tests.{eqb-true, le-leb}
-use Rattle.paper.specs.Answers.{Input, inEntry, Answer, ok, refused, ◌>>=◌}
-use Rattle.paper.specs.Tokens.{sequel, implies, or_else, andAlso}
+use Rattle.paper.specs.Answers.{Input, in_entry, Answer, ok, refused, ◌>>=◌}
+use Rattle.paper.specs.Tokens.{sequel, implies, or_else, and_also}
 use Rattle.paper.specs.Keys.{Key}
 use Rattle.paper.specs.Entry.{Entry, head_size, entry_of}
 use Rattle.paper.specs.Grammar.{Tree, truth, number, key, field, attribute, prefixed, joined, compared, place_of}
@@ -151,7 +151,7 @@ spine_joined (prefixed at o t) = alone (prefixed at o t)
 spine_joined (joined at sequel l r) = then (spine_joined l) at r
 spine_joined (joined at implies l r) = alone (joined at implies l r)
 spine_joined (joined at or_else l r) = alone (joined at or_else l r)
-spine_joined (joined at andAlso l r) = alone (joined at andAlso l r)
+spine_joined (joined at and_also l r) = alone (joined at and_also l r)
 spine_joined (compared at c l r) = alone (compared at c l r)
 
 module _ (ks : List Key) (e : Entry) where
@@ -197,7 +197,7 @@ module _ (text list entry : List ℕ) where
   abbrev KeyShown : Type 0
   KeyShown = (place k : ℕ) × (s : Stretch) × (for_priority text list entry ≡ at_key place k s)
 
-  priority_key : judge_answer text list entry ≡ refused 20 inEntry 0 → Entered text list entry → KeyShown
+  priority_key : judge_answer text list entry ≡ refused 20 in_entry 0 → Entered text list entry → KeyShown
   priority_key judged (passes r on passed e) = absurd (never_ok (sym judged ∙ judge_passes text list entry r on passed e))
   priority_key judged (refuses n i at stops) =
       let twenty : n ≡ 20 = cc (sym (judge_stops text list entry n i at stops) ∙ judged) in
@@ -206,22 +206,22 @@ module _ (text list entry : List ℕ) where
 
   -- elsewhere its test is the right one
   same_test : (n : ℕ) (i : Input) (at : ℕ) → judge_answer text list entry ≡ refused n i at
-      → ¬ (judge_answer text list entry ≡ refused 20 inEntry 0) → (b : Bool) → eqb n 20 ≡ b → any_twenty n at ≡ is_record n at
+      → ¬ (judge_answer text list entry ≡ refused 20 in_entry 0) → (b : Bool) → eqb n 20 ≡ b → any_twenty n at ≡ is_record n at
   same_test n i at judged unless false e = rw e
   same_test n i at judged unless true e =
       let given : judge_answer text list entry ≡ refused 20 i at = judged ∙ ap (λ (m : ℕ). refused m i at) (eqb-true n 20 e) in
       let (input, place) = records_refused text list entry i at given in
       rw e (go (given ∙ ap (λ (j : Input). refused 20 j at) input) place)
     where
-      go : judge_answer text list entry ≡ refused 20 inEntry at → (at ≡ 0) ⊎ KeyRecord list at → true ≡ leb head_size at
-      go given (inl zeroth) = absurd (unless (given ∙ ap (refused 20 inEntry) zeroth))
+      go : judge_answer text list entry ≡ refused 20 in_entry at → (at ≡ 0) ⊎ KeyRecord list at → true ≡ leb head_size at
+      go given (inl zeroth) = absurd (unless (given ∙ ap (refused 20 in_entry) zeroth))
       go given (inr k) = sym (le-leb head_size at (omega (arith, k.place)))
 
   same_choice : (o : Option Part) → reason_with is_record list (ok o) ≡ reason_with any_twenty list (ok o)
   same_choice none = refl
   same_choice (some p) = refl
 
-  elsewhere_right : ¬ (judge_answer text list entry ≡ refused 20 inEntry 0) → Entered text list entry
+  elsewhere_right : ¬ (judge_answer text list entry ≡ refused 20 in_entry 0) → Entered text list entry
       → Explains text list entry (for_priority text list entry)
   elsewhere_right unless (passes r on passed e) =
       let (ps, have, joins) = text_is_its_parts text r.root (passing text list r passed).read in

@@ -5,7 +5,7 @@ use mathlib.Core.Path.{◌≡◌, refl, sym, ap, ◌∙◌}
 use mathlib.Core.List.{List, [], ◌∷◌}
 use lib.ListN.{length}
 use Rattle.paper.specs.Answers.{ok}
-use Rattle.paper.specs.Tokens.{bytes, hex, radix, literal_in, notSign, sequel, andAlso, equal, closing, opening, join, word, Token, tokens}
+use Rattle.paper.specs.Tokens.{bytes, hex, radix, literal_in, not_sign, sequel, and_also, equal, closing, opening, join, word, Token, tokens}
 use Rattle.paper.specs.Tokens as T
 use Rattle.paper.specs.Grammar.{Tree, truth, number, key, field, attribute, prefixed, joined, compared}
 use Rattle.paper.specs.Sentences.{token_at, sign_at}
@@ -38,13 +38,13 @@ abbrev apart : Tree
 apart = joined 2 sequel a (key 4 (bytes "b"))
 
 abbrev both : Tree
-both = joined 2 andAlso a (key 5 (bytes "b"))
+both = joined 2 and_also a (key 5 (bytes "b"))
 
 abbrev pub negated : Tree
-negated = prefixed 0 notSign (compared 3 equal (key 2 (bytes "a")) (key 5 (bytes "b")))
+negated = prefixed 0 not_sign (compared 3 equal (key 2 (bytes "a")) (key 5 (bytes "b")))
 
 abbrev negated_left : Tree
-negated_left = compared 3 equal (prefixed 0 notSign (key 1 (bytes "a"))) (key 6 (bytes "b"))
+negated_left = compared 3 equal (prefixed 0 not_sign (key 1 (bytes "a"))) (key 6 (bytes "b"))
 
 pub reads_close : tree (bytes "a;b") ≡ ok close
 unfolding tree

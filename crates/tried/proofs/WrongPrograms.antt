@@ -16,7 +16,7 @@ use Rattle.paper.specs.declared.Checking.TheVariants as C
 use Rattle.paper.specs.declared.Judgement.TheVariants as J
 use Rattle.paper.specs.declared.Loading.TheVariants as L
 use Rattle.paper.specs.declared.Translation.TheVariants as T
-use Rattle.paper.specs.Answers.{ok, refused, inBlocks, judgement_says, translation_says, loading_says, printing_says}
+use Rattle.paper.specs.Answers.{ok, refused, in_blocks, judgement_says, translation_says, loading_says, printing_says}
 use Rattle.paper.specs.Named.{Summary, summarizing_says}
 use Rattle.paper.specs.Numbers.{byte_at}
 use Rattle.paper.specs.Tokens.{bytes, most_text}
@@ -226,7 +226,7 @@ no_keys : keys [] ≡ ok []
 unfolding keys
 no_keys = refl
 
-lone_refused : load_answer [] lone ≡ refused 18 inBlocks 4
+lone_refused : load_answer [] lone ≡ refused 18 in_blocks 4
 unfolding load_answer blocks_of
 lone_refused = refl
 

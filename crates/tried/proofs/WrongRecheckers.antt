@@ -8,7 +8,7 @@ use mathlib.Core.Bool.{Bool, true, false, not, true≢false}
 use mathlib.Core.List.{List, [], ◌∷◌, ◌++◌}
 use lib.Dec.{lit<}
 use Rattle.paper.specs.declared.Judgement.TheVariants as J
-use Rattle.paper.specs.Answers.{Answer, ok, refused, inEntry, judgement_says}
+use Rattle.paper.specs.Answers.{Answer, ok, refused, in_entry, judgement_says}
 use Rattle.paper.specs.Numbers.{big_endian}
 use Rattle.paper.specs.Tokens.{bytes, plain, equal, less}
 use Rattle.paper.specs.Keys.{ternary, key_record}
@@ -75,7 +75,7 @@ unmarked_reused : recheck_answer plain_text [] (low 0) (ok true) (low 1) ≡ reu
 unfolding recheck_answer
 unmarked_reused = refl
 
-high_judged : recheck_answer plain_text [] (low 0) (ok true) (low (2 ^ 31)) ≡ judged (refused 20 inEntry 0)
+high_judged : recheck_answer plain_text [] (low 0) (ok true) (low (2 ^ 31)) ≡ judged (refused 20 in_entry 0)
 unfolding recheck_answer
 high_judged = refl
 
@@ -199,7 +199,7 @@ wrong_recheckers_fail =
       never = λ x never right.
           not_judged x right plain_text [] (low 0) (low 0) equal same_reused (never plain_text [] (low 0) (low 0) equal);
       always = λ x always right.
-          not_reused x right plain_text [] (low 0) (low (2 ^ 31)) raised (refused 20 inEntry 0) high_judged
+          not_reused x right plain_text [] (low 0) (low (2 ^ 31)) raised (refused 20 in_entry 0) high_judged
           (always plain_text [] (low 0) (low (2 ^ 31)) raised);
       equal_entries = λ x wants right.
           not_judged x right plain_text [] (low 0) (low 1) changed unmarked_reused

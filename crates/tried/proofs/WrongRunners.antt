@@ -7,11 +7,11 @@ use mathlib.Core.Bool.{Bool, true, false, true≢false}
 use mathlib.Core.List.{List, [], ◌∷◌}
 use lib.ListN.{length, replicate}
 use Rattle.paper.specs.declared.Running.TheVariants as N
-use Rattle.paper.specs.Answers.{ok, refused, inBlocks, loading_says, Ran, running_says}
+use Rattle.paper.specs.Answers.{ok, refused, in_blocks, loading_says, Ran, running_says}
 use Rattle.paper.specs.Tokens.{equal}
 use Rattle.paper.specs.Keys.{keys}
 use Rattle.paper.specs.Entry.{entry_of}
-use Rattle.paper.specs.Meaning.{truth, both, ifThen}
+use Rattle.paper.specs.Meaning.{truth, both, if_then}
 use Rattle.paper.specs.Code.{Instruction, push_bool, push_int, compare, connects, skip}
 use Rattle.paper.specs.Blocks.{blocks_of, layout}
 use Rattle.paper.specs.Loading.{program, load_check, loaded, Step, done, run_along}
@@ -40,7 +40,7 @@ abbrev and_code : List Instruction
 and_code = settled (skip (skip_for both 1)) (connects both)
 
 abbrev implies_code : List Instruction
-implies_code = settled (skip (skip_for ifThen 1)) (connects ifThen)
+implies_code = settled (skip (skip_for if_then 1)) (connects if_then)
 
 and_runs : Runnable [] (blocks_of 0 and_code) bare
 unfolding keys loaded blocks_of entry_of
@@ -132,7 +132,7 @@ leveled_high : load_check (length (blocks_of 0 leveled)) (heights_from [] 0 (pro
 unfolding heights_from blocks_of
 leveled_high = refl
 
-leveled_refused : load_answer [] (blocks_of 0 leveled) ≡ refused 18 inBlocks 44
+leveled_refused : load_answer [] (blocks_of 0 leveled) ≡ refused 18 in_blocks 44
 unfolding load_answer blocks_of
 leveled_refused = refl
 

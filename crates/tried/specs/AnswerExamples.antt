@@ -11,7 +11,7 @@ use Rattle.paper.specs.declared.Running.TheVariants as N
 use Rattle.paper.specs.declared.Explanation.TheVariants as X
 use Rattle.paper.specs.declared.Summarizing.TheVariants as S
 use Rattle.paper.specs.declared.Rechecking.TheVariants as K
-use Rattle.paper.specs.Answers.{refused, InText, InList, inEntry, inBlocks}
+use Rattle.paper.specs.Answers.{refused, in_text, in_list, in_entry, in_blocks}
 use Rattle.paper.specs.Numbers.{big_endian}
 use Rattle.paper.specs.Tokens.{bytes}
 use Rattle.paper.specs.Calls.{read_answer, check_answer, judge_answer, translate_answer, load_answer, run_answer}
@@ -131,29 +131,29 @@ pub record PieceAnswers : Type 0 where
 -- "Stages: 1; 2; 3 and 4; 5 to 7; 8 to 10; 11 to 13; 14; 15; 16; 17; 18; 19; 20." Each field has a fault of two stages that follow one
 -- another in a call
 pub record InOrder : Type 0 where
-  pub read_1_5 : read_answer long_text ≡ refused 1 InText 4096
-  pub read_5_8 : read_answer (bytes "true true @") ≡ refused 5 InText 10
-  pub check_1_2 : check_answer long_text short_list ≡ refused 1 InText 4096
-  pub check_2_5 : check_answer (bytes "@") short_list ≡ refused 2 InList 79
-  pub check_3_5 : check_answer (bytes "@") broken_list ≡ refused 3 InList 0
-  pub check_4_5 : check_answer (bytes "@") repeating_list ≡ refused 4 InList 80
-  pub check_5_8 : check_answer (bytes "true true @") the_keys ≡ refused 5 InText 10
-  pub check_8_11 : check_answer (bytes "z z") the_keys ≡ refused 8 InText 2
-  pub check_10_11 : check_answer (bytes "z == ipv4('x')") the_keys ≡ refused 10 InText 10
-  pub check_11_14 : check_answer (bytes "-z") the_keys ≡ refused 11 InText 1
-  pub check_13_14 : check_answer (bytes "--d") the_keys ≡ refused 13 InText 1
-  pub judge_14_19 : judge_answer (bytes "1") the_keys [] ≡ refused 14 InText 0
-  pub judge_19_20 : judge_answer (bytes "true") the_keys (broken_entry ++ (0 ∷ [])) ≡ refused 19 inEntry 185
-  pub judge_20 : judge_answer (bytes "true") the_keys broken_entry ≡ refused 20 inEntry 0
-  pub translate_14_15 : translate_answer (bytes "1") the_keys [] ≡ refused 14 InText 0
-  pub load_2_16 : load_answer short_list [] ≡ refused 2 InList 79
-  pub load_3_16 : load_answer broken_list [] ≡ refused 3 InList 0
-  pub load_4_16 : load_answer repeating_list [] ≡ refused 4 InList 80
-  pub load_16_17 : load_answer the_keys (take 511 bad_block) ≡ refused 16 inBlocks 511
-  pub load_17_18 : load_answer the_keys bad_block ≡ refused 17 inBlocks 0
-  pub run_2_16 : run_answer short_list [] [] ≡ refused 2 InList 79
-  pub run_16_19 : run_answer the_keys [] [] ≡ refused 16 inBlocks 0
-  pub run_18_19 : run_answer the_keys bad_code [] ≡ refused 18 inBlocks 4
+  pub read_1_5 : read_answer long_text ≡ refused 1 in_text 4096
+  pub read_5_8 : read_answer (bytes "true true @") ≡ refused 5 in_text 10
+  pub check_1_2 : check_answer long_text short_list ≡ refused 1 in_text 4096
+  pub check_2_5 : check_answer (bytes "@") short_list ≡ refused 2 in_list 79
+  pub check_3_5 : check_answer (bytes "@") broken_list ≡ refused 3 in_list 0
+  pub check_4_5 : check_answer (bytes "@") repeating_list ≡ refused 4 in_list 80
+  pub check_5_8 : check_answer (bytes "true true @") the_keys ≡ refused 5 in_text 10
+  pub check_8_11 : check_answer (bytes "z z") the_keys ≡ refused 8 in_text 2
+  pub check_10_11 : check_answer (bytes "z == ipv4('x')") the_keys ≡ refused 10 in_text 10
+  pub check_11_14 : check_answer (bytes "-z") the_keys ≡ refused 11 in_text 1
+  pub check_13_14 : check_answer (bytes "--d") the_keys ≡ refused 13 in_text 1
+  pub judge_14_19 : judge_answer (bytes "1") the_keys [] ≡ refused 14 in_text 0
+  pub judge_19_20 : judge_answer (bytes "true") the_keys (broken_entry ++ (0 ∷ [])) ≡ refused 19 in_entry 185
+  pub judge_20 : judge_answer (bytes "true") the_keys broken_entry ≡ refused 20 in_entry 0
+  pub translate_14_15 : translate_answer (bytes "1") the_keys [] ≡ refused 14 in_text 0
+  pub load_2_16 : load_answer short_list [] ≡ refused 2 in_list 79
+  pub load_3_16 : load_answer broken_list [] ≡ refused 3 in_list 0
+  pub load_4_16 : load_answer repeating_list [] ≡ refused 4 in_list 80
+  pub load_16_17 : load_answer the_keys (take 511 bad_block) ≡ refused 16 in_blocks 511
+  pub load_17_18 : load_answer the_keys bad_block ≡ refused 17 in_blocks 0
+  pub run_2_16 : run_answer short_list [] [] ≡ refused 2 in_list 79
+  pub run_16_19 : run_answer the_keys [] [] ≡ refused 16 in_blocks 0
+  pub run_18_19 : run_answer the_keys bad_code [] ≡ refused 18 in_blocks 4
 
 pub record AnswerExamples : Type 0 where
   pub answers : Answers

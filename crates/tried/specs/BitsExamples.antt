@@ -2,7 +2,7 @@
 -- the places, what comes before it and what is not judged after it, and the numbers that are still reduced.
 use Rattle.std.specs.Prelude.{ℕ, ◌≡◌, true, List, [], ◌∷◌, ◌++◌, map, replicate}
 use Prim.Native.String as S
-use Rattle.paper.specs.Answers.{Answer, ok, refused, InText, InList}
+use Rattle.paper.specs.Answers.{Answer, ok, refused, in_text, in_list}
 use Rattle.paper.specs.Tokens.{bytes, equal}
 use Rattle.paper.specs.Keys.{key_record, exact}
 use Rattle.paper.specs.Types.{mask}
@@ -287,15 +287,15 @@ lossy = bytes "d::mask == 0x1f0"
 
 pub record ByCalls : Type 0 where
   pub reads : read_answer lossy ≡ ok 3
-  pub checks : check_answer lossy the_keys ≡ refused 23 InText 11
-  pub judges : judge_answer lossy the_keys [] ≡ refused 23 InText 11
-  pub translates : translate_answer lossy the_keys [] ≡ refused 23 InText 11
+  pub checks : check_answer lossy the_keys ≡ refused 23 in_text 11
+  pub judges : judge_answer lossy the_keys [] ≡ refused 23 in_text 11
+  pub translates : translate_answer lossy the_keys [] ≡ refused 23 in_text 11
   pub unchanged : translate_buffer lossy the_keys (replicate 512 0xAA) ≡ replicate 512 0xAA
-  pub explains : explain_answer lossy the_keys the_entry ≡ nothing_to_show (refused 23 InText 11)
-  pub summarizes : summary_answer lossy the_keys ≡ refused 23 InText 11
-  pub rechecks : recheck_answer lossy the_keys the_entry (ok true) the_entry ≡ judged (refused 23 InText 11)
+  pub explains : explain_answer lossy the_keys the_entry ≡ nothing_to_show (refused 23 in_text 11)
+  pub summarizes : summary_answer lossy the_keys ≡ refused 23 in_text 11
+  pub rechecks : recheck_answer lossy the_keys the_entry (ok true) the_entry ≡ judged (refused 23 in_text 11)
   -- a fault of the list comes first
-  pub listed : check_answer lossy (bytes "d") ≡ refused 2 InList 1
+  pub listed : check_answer lossy (bytes "d") ≡ refused 2 in_list 1
 
 -- "Old blocks keep their meaning": the block that this text had, which says that the mask is 0xF0
 

@@ -1,6 +1,6 @@
 -- 01, "Blocks", the 512 bytes, by example: numbers in bytes, the check, and blocks that keep or break their layout.
 use Rattle.std.specs.Prelude.{ℕ, ◌≡◌, List, [], ◌∷◌, ◌++◌, set, replicate}
-use Rattle.paper.specs.Answers.{ok, refused, inBlocks}
+use Rattle.paper.specs.Answers.{ok, refused, in_blocks}
 use Rattle.paper.specs.Numbers.{number_at, big_endian}
 use Rattle.paper.specs.Blocks.{check_of, sealed, blocks_needed, layout}
 use Rattle.tried.specs.Examples.{Example, on, Agree, On, repeat, numbers_from}
@@ -74,25 +74,25 @@ abbrev pub one_block : List (On (Unit {0}))
 one_block =
     on single (ok tt)
     -- "its number from 0"
-    ∷ on (block 1 1 (alone push_true) 1 0) (refused 17 inBlocks 0)
-    ∷ on (block 256 1 (alone push_true) 1 0) (refused 17 inBlocks 0)
+    ∷ on (block 1 1 (alone push_true) 1 0) (refused 17 in_blocks 0)
+    ∷ on (block 256 1 (alone push_true) 1 0) (refused 17 in_blocks 0)
     -- "its instruction count, .. 1 to 25"
-    ∷ on (block 0 0 (replicate 500 0) 0 0) (refused 17 inBlocks 0)
+    ∷ on (block 0 0 (replicate 500 0) 0 0) (refused 17 in_blocks 0)
     ∷ on (block_with (0x4A ∷ 0xC3 ∷ 0x85 ∷ 0x3F ∷ []) 0 25 full 25 0) (ok tt)
-    ∷ on (block 0 26 full 26 0) (refused 17 inBlocks 0)
+    ∷ on (block 0 26 full 26 0) (refused 17 in_blocks 0)
     -- "instructions, then zeros": the first and the last byte of these
-    ∷ on (block 0 1 (push_true ++ (1 ∷ replicate 479 0)) 1 0) (refused 17 inBlocks 0)
-    ∷ on (block 0 1 (push_true ++ replicate 479 0 ++ (1 ∷ [])) 1 0) (refused 17 inBlocks 0)
+    ∷ on (block 0 1 (push_true ++ (1 ∷ replicate 479 0)) 1 0) (refused 17 in_blocks 0)
+    ∷ on (block 0 1 (push_true ++ replicate 479 0 ++ (1 ∷ [])) 1 0) (refused 17 in_blocks 0)
     -- "the total count, which is the sum of the counts in all the blocks given"
-    ∷ on (block 0 1 (alone push_true) 0 0) (refused 17 inBlocks 0)
-    ∷ on (block 0 1 (alone push_true) 2 0) (refused 17 inBlocks 0)
+    ∷ on (block 0 1 (alone push_true) 0 0) (refused 17 in_blocks 0)
+    ∷ on (block 0 1 (alone push_true) 2 0) (refused 17 in_blocks 0)
     -- "the number of keys, as in the list given"
-    ∷ on (block 0 1 (alone push_true) 1 1) (refused 17 inBlocks 0)
+    ∷ on (block 0 1 (alone push_true) 1 1) (refused 17 in_blocks 0)
     -- "the check": each of its bytes
-    ∷ on (set single 508 0xAA) (refused 17 inBlocks 0)
-    ∷ on (set single 509 0xAA) (refused 17 inBlocks 0)
-    ∷ on (set single 510 0xAA) (refused 17 inBlocks 0)
-    ∷ on (set single 511 0xAA) (refused 17 inBlocks 0)
+    ∷ on (set single 508 0xAA) (refused 17 in_blocks 0)
+    ∷ on (set single 509 0xAA) (refused 17 in_blocks 0)
+    ∷ on (set single 510 0xAA) (refused 17 in_blocks 0)
+    ∷ on (set single 511 0xAA) (refused 17 in_blocks 0)
     ∷ []
 
 -- two blocks
@@ -107,17 +107,17 @@ abbrev pub two_blocks : List (On (Unit {0}))
 two_blocks =
     on (first_block ++ last_block) (ok tt)
     -- "Blocks cut at a block's end that still load because the shorter program also ends in a bool: the total count forbids it."
-    ∷ on first_block (refused 17 inBlocks 0)
-    ∷ on (last_block ++ first_block) (refused 17 inBlocks 0)
+    ∷ on first_block (refused 17 in_blocks 0)
+    ∷ on (last_block ++ first_block) (refused 17 in_blocks 0)
     -- "25 except in the last block", though all else is right
-    ∷ on (block 0 24 (repeat 24 push_true ++ replicate 20 0) 25 0 ++ block 1 1 (alone invert) 25 0) (refused 17 inBlocks 0)
+    ∷ on (block 0 24 (repeat 24 push_true ++ replicate 20 0) 25 0 ++ block 1 1 (alone invert) 25 0) (refused 17 in_blocks 0)
     -- the second block's number, total, number of keys and check
-    ∷ on (first_block ++ block 0 1 (alone invert) 26 0) (refused 17 inBlocks 512)
-    ∷ on (first_block ++ block 1 1 (alone invert) 1 0) (refused 17 inBlocks 512)
-    ∷ on (first_block ++ block 1 1 (alone invert) 26 1) (refused 17 inBlocks 512)
-    ∷ on (first_block ++ set last_block 511 0xAA) (refused 17 inBlocks 512)
+    ∷ on (first_block ++ block 0 1 (alone invert) 26 0) (refused 17 in_blocks 512)
+    ∷ on (first_block ++ block 1 1 (alone invert) 1 0) (refused 17 in_blocks 512)
+    ∷ on (first_block ++ block 1 1 (alone invert) 26 1) (refused 17 in_blocks 512)
+    ∷ on (first_block ++ set last_block 511 0xAA) (refused 17 in_blocks 512)
     -- "the earliest place wins"
-    ∷ on (set first_block 1 1 ++ set last_block 1 2) (refused 17 inBlocks 0)
+    ∷ on (set first_block 1 1 ++ set last_block 1 2) (refused 17 in_blocks 0)
     ∷ []
 
 pub record BlockExamples : Type 0 where
@@ -125,5 +125,5 @@ pub record BlockExamples : Type 0 where
   pub sums : Agree check_of checks
   pub as_many_as_needed : Agree blocks_needed needs
   pub one_block_lem : Agree (layout 0) one_block
-  pub fewer_keys_than_listed : layout 1 single ≡ refused 17 inBlocks 0
+  pub fewer_keys_than_listed : layout 1 single ≡ refused 17 in_blocks 0
   pub two_blocks_lem : Agree (layout 0) two_blocks

@@ -2,7 +2,7 @@
 -- joined otherwise; blocks without skips; and what is refused before blocks are compared.
 use Rattle.std.specs.Prelude.{ℕ, ◌-◌, ◌≡◌, Bool, true, false, List, [], ◌∷◌, map, length}
 use Prim.Native.String as S
-use Rattle.paper.specs.Answers.{Answer, ok, refused, ◌>>=◌, InText, InList, inBlocks}
+use Rattle.paper.specs.Answers.{Answer, ok, refused, ◌>>=◌, in_text, in_list, in_blocks}
 use Rattle.paper.specs.Tokens.{bytes}
 use Rattle.paper.specs.Meaning.{both}
 use Rattle.paper.specs.Code.{Instruction, push_bool, connects}
@@ -135,20 +135,20 @@ codes =
     ∷ on (push_bool true ∷ skips true false 2 ∷ push_bool false ∷ connects both ∷ []) (ok false)
     ∷ on (push_bool true ∷ skips false true 2 ∷ push_bool false ∷ connects both ∷ []) (ok false)
     ∷ on (push_bool true ∷ skips true true 2 ∷ push_bool false ∷ connects both ∷ []) (ok false)
-    ∷ on (push_bool true ∷ skips false false 2 ∷ push_bool false ∷ skips false false 1 ∷ connects both ∷ []) (refused 18 inBlocks 24)
+    ∷ on (push_bool true ∷ skips false false 2 ∷ push_bool false ∷ skips false false 1 ∷ connects both ∷ []) (refused 18 in_blocks 24)
     ∷ []
 
 -- text and list first, then the blocks: 16; 17; 18
 pub record Refusals : Type 0 where
-  pub text_first : compare_answer (bytes "") the_keys [] ≡ refused 8 InText 0
-  pub list_before_text : compare_answer (bytes "") short_list [] ≡ refused 2 InList 79
-  pub types_before_blocks : compare_answer (bytes "d > 3") the_keys [] ≡ refused 13 InText 2
-  pub other_list : compare_answer (bytes "true") repeating_list bad_code ≡ refused 4 InList 80
-  pub octal : compare_answer (bytes "v == 0o1") the_keys [] ≡ refused 22 InText 5
-  pub bits_lost : compare_answer (bytes "v == 2") the_keys [] ≡ refused 23 InText 5
-  pub no_blocks : compare_answer (bytes "true") the_keys [] ≡ refused 16 inBlocks 0
-  pub bad_block_lem : compare_answer (bytes "true") the_keys bad_block ≡ refused 17 inBlocks 0
-  pub bad_code_lem : compare_answer (bytes "true") the_keys bad_code ≡ refused 18 inBlocks 4
+  pub text_first : compare_answer (bytes "") the_keys [] ≡ refused 8 in_text 0
+  pub list_before_text : compare_answer (bytes "") short_list [] ≡ refused 2 in_list 79
+  pub types_before_blocks : compare_answer (bytes "d > 3") the_keys [] ≡ refused 13 in_text 2
+  pub other_list : compare_answer (bytes "true") repeating_list bad_code ≡ refused 4 in_list 80
+  pub octal : compare_answer (bytes "v == 0o1") the_keys [] ≡ refused 22 in_text 5
+  pub bits_lost : compare_answer (bytes "v == 2") the_keys [] ≡ refused 23 in_text 5
+  pub no_blocks : compare_answer (bytes "true") the_keys [] ≡ refused 16 in_blocks 0
+  pub bad_block_lem : compare_answer (bytes "true") the_keys bad_block ≡ refused 17 in_blocks 0
+  pub bad_code_lem : compare_answer (bytes "true") the_keys bad_code ≡ refused 18 in_blocks 4
 
 pub record CompareExamples : Type 0 where
   pub orders : Orders

@@ -4,7 +4,7 @@ use Rattle.std.specs.Prelude.{ℕ, ◌*◌, ◌≡◌, List, [], ◌∷◌, ◌+
 use Prim.Native.String as S
 use Rattle.paper.specs.declared.Place.TheVariants as P
 use Rattle.paper.specs.declared.Counting.TheVariants as C
-use Rattle.paper.specs.Answers.{ok, refused, InText, InList, inEntry}
+use Rattle.paper.specs.Answers.{ok, refused, in_text, in_list, in_entry}
 use Rattle.paper.specs.Numbers.{big_endian}
 use Rattle.paper.specs.Tokens.{bytes}
 use Rattle.paper.specs.Keys.{Key}
@@ -98,22 +98,22 @@ pub record Apart : Type 0 where
       ≡ as_lines ("part 1 0" ∷ "part 2 1" ∷ "part 3 0" ∷ "accepted 0" ∷ "violated 1" ∷ "refused 2" ∷ "cut 4" ∷ [])
   -- and of the answer of the call
   pub told : counting_says (C.Counted 3 0 1 2 4) ≡ ok mixed_totals
-  pub refusal_told : counting_says (C.Refused 25 (P.Entry 4000000)) ≡ refused 25 inEntry 4000000
+  pub refusal_told : counting_says (C.Refused 25 (P.Entry 4000000)) ≡ refused 25 in_entry 4000000
 
 -- the list and the text first, then 25; nothing else is written, and no number that is lent is changed
 pub record Refusals : Type 0 where
-  pub text : counted (bytes "") the_keys the_file ≡ refused 8 InText 0
-  pub list_before_text : counted (bytes "") short_list [] ≡ refused 2 InList 79
-  pub types : counted (bytes "d > 3") the_keys [] ≡ refused 13 InText 2
-  pub octal : counted (bytes "v == 0o1") the_keys [] ≡ refused 22 InText 5
-  pub bits_lost : counted (bytes "v == 2") the_keys [] ≡ refused 23 InText 5
+  pub text : counted (bytes "") the_keys the_file ≡ refused 8 in_text 0
+  pub list_before_text : counted (bytes "") short_list [] ≡ refused 2 in_list 79
+  pub types : counted (bytes "d > 3") the_keys [] ≡ refused 13 in_text 2
+  pub octal : counted (bytes "v == 0o1") the_keys [] ≡ refused 22 in_text 5
+  pub bits_lost : counted (bytes "v == 2") the_keys [] ≡ refused 23 in_text 5
   pub text_line : count_output (bytes "") the_keys the_file ≡ as_lines ("refusal 8 0" ∷ [])
   pub list_line : count_output (bytes "true") short_list the_file ≡ as_lines ("refusal 2 79" ∷ [])
   pub unchanged : count_numbers (bytes "") the_keys the_file (7 ∷ 8 ∷ 9 ∷ []) ≡ 7 ∷ 8 ∷ 9 ∷ []
   -- 1,000,000 are counted, and one more is not
   pub most : (ks : List Key) (s : List ℕ) → whole_in ks s ≡ 1000000 → few_entries ks s ≡ ok tt
-  pub one_more : (ks : List Key) (s : List ℕ) → whole_in ks s ≡ 1000001 → few_entries ks s ≡ refused 25 inEntry (1000000 * entry_size ks)
-  pub one_more_line : (at : ℕ) → output_for (refused 25 inEntry at) ≡ as_lines ("refusal 25" ∷ [])
+  pub one_more : (ks : List Key) (s : List ℕ) → whole_in ks s ≡ 1000001 → few_entries ks s ≡ refused 25 in_entry (1000000 * entry_size ks)
+  pub one_more_line : (at : ℕ) → output_for (refused 25 in_entry at) ≡ as_lines ("refusal 25" ∷ [])
 
 pub record CountExamples : Type 0 where
   pub own : OwnExample

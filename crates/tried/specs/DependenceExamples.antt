@@ -3,7 +3,7 @@
 -- And which operands of a text name keys, each compared with 0.
 use Rattle.std.specs.Prelude.{ℕ, ◌^◌, ◌≡◌, Bool, true, false, List, [], ◌∷◌, ◌++◌, map, drop, replicate}
 use Prim.Native.String as S
-use Rattle.paper.specs.Answers.{Answer, ok, refused, ◌>>=◌, inEntry}
+use Rattle.paper.specs.Answers.{Answer, ok, refused, ◌>>=◌, in_entry}
 use Rattle.paper.specs.Numbers.{big_endian}
 use Rattle.paper.specs.Tokens.{bytes}
 use Rattle.paper.specs.Keys.{Kind, ternary, lpm, range, optional}
@@ -113,7 +113,7 @@ spelled_out =
 
 -- "Refused entries are not covered.": a record that the text does not name, broken, refuses the entry
 abbrev pub unnamed_broken : List (On Bool)
-unnamed_broken = on the_entry (ok true) ∷ on (with_record the_entry 4 (match_record 1 0 5 7)) (refused 20 inEntry 148) ∷ []
+unnamed_broken = on the_entry (ok true) ∷ on (with_record the_entry 4 (match_record 1 0 5 7)) (refused 20 in_entry 148) ∷ []
 
 pub record DependenceExamples : Type 0 where
   pub each_sways : EachSways

@@ -1,7 +1,7 @@
 -- 02 k by example: 000's own contracts with the texts that are made of them, every opcode, each fault at its place, both sides of every limit,
 -- and what contracts say of numbers.
 use Rattle.std.specs.Prelude.{ℕ, zero, suc, ◌-◌, ◌^◌, ◌≡◌, Bool, true, false, List, [], ◌∷◌, ◌++◌, replicate, take}
-use Rattle.paper.specs.Answers.{Answer, ok, refused, ◌>>=◌, InList, inBuffer, inContract, in_table}
+use Rattle.paper.specs.Answers.{Answer, ok, refused, ◌>>=◌, in_list, in_buffer, in_contract, in_table}
 use Rattle.paper.specs.Tokens.{bytes}
 use Rattle.paper.specs.Keys.{key_record, required_key}
 use Rattle.paper.specs.Pact.{Clause, contract_holds}
@@ -98,34 +98,34 @@ joins =
 abbrev pub contract_faults : List (On (List ℕ))
 contract_faults =
     -- "IN", with either load and NOT
-    on (0x0C ∷ 0x00 ∷ []) (refused 24 inContract 0)
-    ∷ on (0x2C ∷ 0x00 ∷ []) (refused 24 inContract 0)
-    ∷ on (0x4C ∷ 0x00 ∷ []) (refused 24 inContract 0)
+    on (0x0C ∷ 0x00 ∷ []) (refused 24 in_contract 0)
+    ∷ on (0x2C ∷ 0x00 ∷ []) (refused 24 in_contract 0)
+    ∷ on (0x4C ∷ 0x00 ∷ []) (refused 24 in_contract 0)
     -- "a nonzero reserved bit"
-    ∷ on (0x01 ∷ 0x00 ∷ []) (refused 24 inContract 0)
-    ∷ on (0x02 ∷ 0x00 ∷ []) (refused 24 inContract 0)
-    ∷ on (0x00 ∷ 0x00 ∷ 0x81 ∷ 0x00 ∷ 0x00 ∷ []) (refused 24 inContract 2)
+    ∷ on (0x01 ∷ 0x00 ∷ []) (refused 24 in_contract 0)
+    ∷ on (0x02 ∷ 0x00 ∷ []) (refused 24 in_contract 0)
+    ∷ on (0x00 ∷ 0x00 ∷ 0x81 ∷ 0x00 ∷ 0x00 ∷ []) (refused 24 in_contract 2)
     -- "an unused operation number"
-    ∷ on (0x10 ∷ 0x00 ∷ []) (refused 24 inContract 0)
-    ∷ on (0x00 ∷ 0x00 ∷ 0x8C ∷ 0x00 ∷ 0x00 ∷ []) (refused 24 inContract 2)
-    ∷ on (0x00 ∷ 0x00 ∷ 0xBC ∷ 0x00 ∷ 0x00 ∷ []) (refused 24 inContract 2)
+    ∷ on (0x10 ∷ 0x00 ∷ []) (refused 24 in_contract 0)
+    ∷ on (0x00 ∷ 0x00 ∷ 0x8C ∷ 0x00 ∷ 0x00 ∷ []) (refused 24 in_contract 2)
+    ∷ on (0x00 ∷ 0x00 ∷ 0xBC ∷ 0x00 ∷ 0x00 ∷ []) (refused 24 in_contract 2)
     -- "an index without a user number or name", at the index
     ∷ on (0x00 ∷ 0x33 ∷ []) (ok (bytes "i3 == 40"))
-    ∷ on (0x00 ∷ 0x43 ∷ []) (refused 24 inContract 1)
-    ∷ on (0x00 ∷ 0x34 ∷ []) (refused 24 inContract 1)
-    ∷ on (0x20 ∷ 0x34 ∷ []) (refused 24 inContract 1)
-    ∷ on (0x00 ∷ 0xFF ∷ []) (refused 24 inContract 1)
+    ∷ on (0x00 ∷ 0x43 ∷ []) (refused 24 in_contract 1)
+    ∷ on (0x00 ∷ 0x34 ∷ []) (refused 24 in_contract 1)
+    ∷ on (0x20 ∷ 0x34 ∷ []) (refused 24 in_contract 1)
+    ∷ on (0x00 ∷ 0xFF ∷ []) (refused 24 in_contract 1)
     -- "a conjunction with no assertion directly before it"
-    ∷ on (0x80 ∷ []) (refused 24 inContract 0)
-    ∷ on (0x80 ∷ 0x00 ∷ 0x00 ∷ []) (refused 24 inContract 0)
-    ∷ on (0x00 ∷ 0x00 ∷ 0x80 ∷ 0x84 ∷ 0x00 ∷ 0x00 ∷ []) (refused 24 inContract 3)
+    ∷ on (0x80 ∷ []) (refused 24 in_contract 0)
+    ∷ on (0x80 ∷ 0x00 ∷ 0x00 ∷ []) (refused 24 in_contract 0)
+    ∷ on (0x00 ∷ 0x00 ∷ 0x80 ∷ 0x84 ∷ 0x00 ∷ 0x00 ∷ []) (refused 24 in_contract 3)
     -- "a cut contract"
-    ∷ on (0x00 ∷ []) (refused 24 inContract 1)
-    ∷ on (0x00 ∷ 0x00 ∷ 0x04 ∷ []) (refused 24 inContract 3)
-    ∷ on (0x00 ∷ 0x00 ∷ 0x80 ∷ []) (refused 24 inContract 3)
-    ∷ on (0x00 ∷ 0x00 ∷ 0x80 ∷ 0x04 ∷ []) (refused 24 inContract 4)
+    ∷ on (0x00 ∷ []) (refused 24 in_contract 1)
+    ∷ on (0x00 ∷ 0x00 ∷ 0x04 ∷ []) (refused 24 in_contract 3)
+    ∷ on (0x00 ∷ 0x00 ∷ 0x80 ∷ []) (refused 24 in_contract 3)
+    ∷ on (0x00 ∷ 0x00 ∷ 0x80 ∷ 0x04 ∷ []) (refused 24 in_contract 4)
     -- an opcode that is wrong comes before the index that it lacks
-    ∷ on (0x0C ∷ []) (refused 24 inContract 0)
+    ∷ on (0x0C ∷ []) (refused 24 in_contract 0)
     ∷ []
 
 -- "The names come as a key list: 2 to 4 as before, and a record of another kind or width, or a 17th, is number 3 at it."
@@ -139,28 +139,28 @@ name_lists =
     ∷ on (required_key (bytes "a") 0 64) (ok (bytes "a == 10"))
     ∷ on (key_record (bytes "true.x") 0 64) (ok (bytes "true.x == 10"))
     ∷ on (key_record (bytes "mac") 0 64) (ok (bytes "mac == 10"))
-    ∷ on [] (refused 24 inContract 1)
-    ∷ on (take 79 (letters 1)) (refused 2 InList 79)
-    ∷ on (letters 33) (refused 2 InList 2640)
+    ∷ on [] (refused 24 in_contract 1)
+    ∷ on (take 79 (letters 1)) (refused 2 in_list 79)
+    ∷ on (letters 33) (refused 2 in_list 2640)
     ∷ on (letters 16) (ok (bytes "a == 10"))
-    ∷ on (letters 17) (refused 3 InList 1280)
-    ∷ on (letters 1 ++ key_record (bytes "b") 1 64) (refused 3 InList 80)
-    ∷ on (letters 1 ++ key_record (bytes "b") 4 64) (refused 3 InList 80)
-    ∷ on (letters 1 ++ key_record (bytes "b") 0 63) (refused 3 InList 80)
-    ∷ on (letters 1 ++ key_record (bytes "b") 0 65) (refused 3 InList 80)
-    ∷ on (letters 1 ++ key_record (bytes "true") 0 64) (refused 3 InList 80)
-    ∷ on (letters 2 ++ letters 1) (refused 4 InList 160)
+    ∷ on (letters 17) (refused 3 in_list 1280)
+    ∷ on (letters 1 ++ key_record (bytes "b") 1 64) (refused 3 in_list 80)
+    ∷ on (letters 1 ++ key_record (bytes "b") 4 64) (refused 3 in_list 80)
+    ∷ on (letters 1 ++ key_record (bytes "b") 0 63) (refused 3 in_list 80)
+    ∷ on (letters 1 ++ key_record (bytes "b") 0 65) (refused 3 in_list 80)
+    ∷ on (letters 1 ++ key_record (bytes "true") 0 64) (refused 3 in_list 80)
+    ∷ on (letters 2 ++ letters 1) (refused 4 in_list 160)
     -- 3 before 4 at one record; else the earlier record
-    ∷ on (letters 2 ++ key_record (bytes "a") 0 63) (refused 3 InList 160)
-    ∷ on (letters 1 ++ letters 1 ++ key_record (bytes "b") 0 63) (refused 4 InList 80)
-    ∷ on (letters 16 ++ letters 1) (refused 3 InList 1280)
+    ∷ on (letters 2 ++ key_record (bytes "a") 0 63) (refused 3 in_list 160)
+    ∷ on (letters 1 ++ letters 1 ++ key_record (bytes "b") 0 63) (refused 4 in_list 80)
+    ∷ on (letters 16 ++ letters 1) (refused 3 in_list 1280)
     ∷ []
 
 -- "Then a table over 16 numbers is number 24 at table 16.", used or not
 abbrev pub tables : List (On (List ℕ))
 tables =
     on (numbers_from 0 16) (ok (bytes "p == 15"))
-    ∷ on (numbers_from 0 15) (refused 24 inContract 1)
+    ∷ on (numbers_from 0 15) (refused 24 in_contract 1)
     ∷ on (numbers_from 0 17) (refused 24 in_table 16)
     ∷ on (replicate 16 (2 ^ 64 - 1)) (ok (bytes "p == 18446744073709551615"))
     ∷ on (replicate 16 0) (ok (bytes "p == 0"))
@@ -168,22 +168,22 @@ tables =
 
 -- of two faults the one whose stage runs first
 pub record InOrder : Type 0 where
-  pub length_first : draft_answer (0x01 ∷ []) (numbers_from 0 17) (take 79 (letters 1)) [] ≡ refused 2 InList 79
-  pub names_first : draft_answer (0x01 ∷ []) (numbers_from 0 17) (letters 17) [] ≡ refused 3 InList 1280
+  pub length_first : draft_answer (0x01 ∷ []) (numbers_from 0 17) (take 79 (letters 1)) [] ≡ refused 2 in_list 79
+  pub names_first : draft_answer (0x01 ∷ []) (numbers_from 0 17) (letters 17) [] ≡ refused 3 in_list 1280
   pub table_first : draft_answer (0x01 ∷ []) (numbers_from 0 17) (letters 1) [] ≡ refused 24 in_table 16
-  pub contract_first : draft_answer (repeat 300 (0x00 ∷ 0x00 ∷ []) ++ (0x01 ∷ [])) four_numbers (letters 1) [] ≡ refused 24 inContract 600
-  pub buffer_last : draft_answer (0x00 ∷ 0x00 ∷ []) four_numbers (letters 1) [] ≡ refused 21 inBuffer 0
+  pub contract_first : draft_answer (repeat 300 (0x00 ∷ 0x00 ∷ []) ++ (0x01 ∷ [])) four_numbers (letters 1) [] ≡ refused 24 in_contract 600
+  pub buffer_last : draft_answer (0x00 ∷ 0x00 ∷ []) four_numbers (letters 1) [] ≡ refused 21 in_buffer 0
 
 -- 21, "a text .. over the lent buffer": exactly as long, and one byte short; "An empty contract gives "true"."
 pub record Lent : Type 0 where
   pub exact : draft_answer (0x00 ∷ 0x00 ∷ []) four_numbers four_names (replicate 8 0xAA) ≡ ok 8
   pub exact_holds : draft_buffer (0x00 ∷ 0x00 ∷ []) four_numbers four_names (replicate 8 0xAA) ≡ bytes "i0 == 10"
-  pub short : draft_answer (0x00 ∷ 0x00 ∷ []) four_numbers four_names (replicate 7 0xAA) ≡ refused 21 inBuffer 7
+  pub short : draft_answer (0x00 ∷ 0x00 ∷ []) four_numbers four_names (replicate 7 0xAA) ≡ refused 21 in_buffer 7
   pub short_unchanged : draft_buffer (0x00 ∷ 0x00 ∷ []) four_numbers four_names (replicate 7 0xAA) ≡ replicate 7 0xAA
   pub later_stays : draft_buffer (0x00 ∷ 0x00 ∷ []) four_numbers four_names (replicate 10 0xAA) ≡ bytes "i0 == 10" ++ replicate 2 0xAA
   pub empty : draft_answer [] [] [] (replicate 4 0xAA) ≡ ok 4
   pub empty_holds : draft_buffer [] [] [] (replicate 4 0xAA) ≡ bytes "true"
-  pub empty_short : draft_answer [] [] [] (replicate 3 0xAA) ≡ refused 21 inBuffer 3
+  pub empty_short : draft_answer [] [] [] (replicate 3 0xAA) ≡ refused 21 in_buffer 3
   pub refused_unchanged : draft_buffer (0x01 ∷ []) four_numbers four_names (replicate 4 0xAA) ≡ replicate 4 0xAA
 
 -- 21, "A text over a limit of 01": its levels, tokens and bytes. An assertion, and then so many of them, each behind a conjunction or alone
@@ -201,16 +201,16 @@ size_with list contract = draft_answer contract four_numbers list (replicate 409
 abbrev pub limits : List (On ℕ)
 limits =
     on (chained 32 0xC0) (ok 455)
-    ∷ on (chained 33 0xC0) (refused 21 inBuffer 4096)
+    ∷ on (chained 33 0xC0) (refused 21 in_buffer 4096)
     ∷ on (chained 64 0x88) (ok 967)
-    ∷ on (chained 65 0x88) (refused 21 inBuffer 4096)
+    ∷ on (chained 65 0x88) (refused 21 in_buffer 4096)
     ∷ on (series 256) (ok 2557)
-    ∷ on (series 257) (refused 21 inBuffer 4096)
+    ∷ on (series 257) (refused 21 in_buffer 4096)
     ∷ []
 
 -- a name of 64 bytes: a clause is 70 bytes, and 3 join it
 abbrev pub long_limits : List (On ℕ)
-long_limits = on (series 56) (ok 4085) ∷ on (series 57) (refused 21 inBuffer 4096) ∷ []
+long_limits = on (series 56) (ok 4085) ∷ on (series 57) (refused 21 in_buffer 4096) ∷ []
 
 -- what a contract says of the numbers of its inputs, with those of the table
 

@@ -1,7 +1,7 @@
 -- 01, "Key list and entry", from "An entry for n keys", and keys that must be present (02 i), by example: entries with what they read
 -- as, and each rule of each kind, kept and broken.
 use Rattle.std.specs.Prelude.{ℕ, ◌-◌, ◌^◌, List, [], ◌∷◌, ◌++◌, replicate}
-use Rattle.paper.specs.Answers.{Answer, ok, refused, ◌>>=◌, inEntry}
+use Rattle.paper.specs.Answers.{Answer, ok, refused, ◌>>=◌, in_entry}
 use Rattle.paper.specs.Numbers.{big_endian}
 use Rattle.paper.specs.Tokens.{bytes}
 use Rattle.paper.specs.Keys.{key_record, required_key, keys}
@@ -59,19 +59,19 @@ abbrev pub places : List (On Entry)
 places =
     on (big_endian 4 3 ++ first ++ second) (reads 3 (match 5 0 0 ∷ match 5 7 0 ∷ []))
     -- "An entry for n keys has exactly 4 + 36n bytes"
-    ∷ on [] (refused 19 inEntry 0)
-    ∷ on (big_endian 4 3) (refused 19 inEntry 4)
-    ∷ on (big_endian 4 3 ++ first) (refused 19 inEntry 40)
-    ∷ on (big_endian 3 3 ++ first ++ second) (refused 19 inEntry 75)
-    ∷ on (big_endian 5 3 ++ first ++ second) (refused 19 inEntry 77)
-    ∷ on (big_endian 4 3 ++ first ++ second ++ second) (refused 19 inEntry 112)
+    ∷ on [] (refused 19 in_entry 0)
+    ∷ on (big_endian 4 3) (refused 19 in_entry 4)
+    ∷ on (big_endian 4 3 ++ first) (refused 19 in_entry 40)
+    ∷ on (big_endian 3 3 ++ first ++ second) (refused 19 in_entry 75)
+    ∷ on (big_endian 5 3 ++ first ++ second) (refused 19 in_entry 77)
+    ∷ on (big_endian 4 3 ++ first ++ second ++ second) (refused 19 in_entry 112)
     -- "priority, below 2^31", and the records in their order: "the earliest place wins"
     ∷ on (big_endian 4 (2 ^ 31 - 1) ++ first ++ second) (reads (2 ^ 31 - 1) (match 5 0 0 ∷ match 5 7 0 ∷ []))
-    ∷ on (big_endian 4 (2 ^ 31) ++ first ++ second) (refused 20 inEntry 0)
-    ∷ on (big_endian 4 (2 ^ 31) ++ bad_first ++ second) (refused 20 inEntry 0)
-    ∷ on (big_endian 4 3 ++ bad_first ++ second) (refused 20 inEntry 4)
-    ∷ on (big_endian 4 3 ++ bad_first ++ bad_second) (refused 20 inEntry 4)
-    ∷ on (big_endian 4 3 ++ first ++ bad_second) (refused 20 inEntry 40)
+    ∷ on (big_endian 4 (2 ^ 31) ++ first ++ second) (refused 20 in_entry 0)
+    ∷ on (big_endian 4 (2 ^ 31) ++ bad_first ++ second) (refused 20 in_entry 0)
+    ∷ on (big_endian 4 3 ++ bad_first ++ second) (refused 20 in_entry 4)
+    ∷ on (big_endian 4 3 ++ bad_first ++ bad_second) (refused 20 in_entry 4)
+    ∷ on (big_endian 4 3 ++ first ++ bad_second) (refused 20 in_entry 40)
     ∷ []
 
 -- 02 i: "with 1 the key must be present, and its absence is number 20": with a ternary key of 8 that must, one that may be absent, and a
@@ -87,14 +87,14 @@ abbrev pub absences : List (On Entry)
 absences =
     on (big_endian 4 3 ++ second ++ second ++ second) (reads 3 (match 5 7 0 ∷ match 5 7 0 ∷ match 5 7 0 ∷ []))
     ∷ on (big_endian 4 3 ++ second ++ no_record ++ second) (reads 3 (match 5 7 0 ∷ match 0 0 0 ∷ match 5 7 0 ∷ []))
-    ∷ on (big_endian 4 3 ++ no_record ++ second ++ second) (refused 20 inEntry 4)
-    ∷ on (big_endian 4 3 ++ second ++ second ++ no_record) (refused 20 inEntry 76)
-    ∷ on (big_endian 4 3 ++ no_record ++ no_record ++ no_record) (refused 20 inEntry 4)
+    ∷ on (big_endian 4 3 ++ no_record ++ second ++ second) (refused 20 in_entry 4)
+    ∷ on (big_endian 4 3 ++ second ++ second ++ no_record) (refused 20 in_entry 76)
+    ∷ on (big_endian 4 3 ++ no_record ++ no_record ++ no_record) (refused 20 in_entry 4)
     -- "the earliest place wins"
-    ∷ on (big_endian 4 3 ++ second ++ bad_second ++ no_record) (refused 20 inEntry 40)
-    ∷ on (big_endian 4 3 ++ no_record ++ bad_second ++ second) (refused 20 inEntry 4)
-    ∷ on (big_endian 4 (2 ^ 31) ++ no_record ++ second ++ no_record) (refused 20 inEntry 0)
-    ∷ on (big_endian 4 3 ++ no_record ++ second) (refused 19 inEntry 76)
+    ∷ on (big_endian 4 3 ++ second ++ bad_second ++ no_record) (refused 20 in_entry 40)
+    ∷ on (big_endian 4 3 ++ no_record ++ bad_second ++ second) (refused 20 in_entry 4)
+    ∷ on (big_endian 4 (2 ^ 31) ++ no_record ++ second ++ no_record) (refused 20 in_entry 0)
+    ∷ on (big_endian 4 3 ++ no_record ++ second) (refused 19 in_entry 76)
     ∷ []
 
 -- a record of one key, of a kind's number and a width: kept, with what it reads as, or broken
@@ -110,7 +110,7 @@ abbrev pub kept : List ℕ → Match → On Entry
 kept r m = on r (reads 0 (m ∷ []))
 
 abbrev pub broken : List ℕ → On Entry
-broken r = on r (refused 20 inEntry 4)
+broken r = on r (refused 20 in_entry 4)
 
 -- "byte 0 present (0 or 1)", "bytes 2, 3 zero", "Fields a kind lacks are zero. Numbers are below 2^W.", an absent key "may not be exact"
 abbrev pub exact_rules : List (On Entry)

@@ -1,9 +1,9 @@
 -- 01, "Refusal numbers", the table by example: for each row an input that has its fault, with the number and the place; which of two
 -- faults wins; and the stages of each call, in their order.
 use Rattle.std.specs.Prelude.{ℕ, ◌^◌, ◌≡◌, ◌⊎◌, true, List, [], ◌∷◌, ◌++◌, set, replicate}
-use Rattle.paper.specs.Answers.{Input, InText, InList, inEntry, inBlocks, inBuffer}
+use Rattle.paper.specs.Answers.{Input, in_text, in_list, in_entry, in_blocks, in_buffer}
 use Rattle.paper.specs.Numbers.{big_endian}
-use Rattle.paper.specs.Tokens.{plain, bytes, notSign, sequel, less}
+use Rattle.paper.specs.Tokens.{plain, bytes, not_sign, sequel, less}
 use Rattle.paper.specs.Keys.{key_record, exact, Key, layout_rule}
 use Rattle.paper.specs.Grammar.{Tree, truth, number, key, field, attribute, prefixed, joined, compared}
 use Rattle.paper.specs.Calls.{Restriction}
@@ -41,10 +41,10 @@ pub record Rows : Type 0 where
   pub row_11_of_a_field : TreeTypes e (field 5 (bytes "z") 8 (bytes "value")) 11 5
   pub row_12 : TreeTypes e (field 5 (bytes "e") 8 (bytes "mask")) 12 8
   pub row_12_of_an_attribute : TreeTypes e (attribute 5 7 (bytes "prio")) 12 7
-  pub row_13_of_a_prefix : TreeTypes e (prefixed 1 notSign one) 13 1
+  pub row_13_of_a_prefix : TreeTypes e (prefixed 1 not_sign one) 13 1
   pub row_13_of_a_join : TreeTypes e (joined 4 sequel (truth 0 true) one) 13 4
   pub row_13_of_a_comparison : TreeTypes e (compared 4 less (truth 0 true) one) 13 4
-  pub in_an_operand : TreeTypes e (prefixed 1 notSign z) 11 5
+  pub in_an_operand : TreeTypes e (prefixed 1 not_sign z) 11 5
   pub on_the_left_of_a_join : TreeTypes e (joined 7 sequel z one) 11 5
   pub on_the_right_of_a_join : TreeTypes e (joined 3 sequel one z) 11 5
   pub on_the_left_of_a_comparison : TreeTypes e (compared 7 less z one) 11 5
@@ -86,8 +86,8 @@ pub record Order : Type 0 where
   pub earliest_wins : Wins (two_of 3 80 4 0) 4 0
   pub lowest_wins : Wins (two_of 4 80 3 80) 3 80
   -- "Stages run in the order below": the first that has a fault decides, in its input
-  pub decided : Decided (stage InText none_of ∷ stage InList (one_of 4 80) ∷ stage inEntry (one_of 19 0) ∷ []) 4 InList 80
-  pub clear : Clear (stage InText none_of ∷ stage InList none_of ∷ [])
+  pub decided : Decided (stage in_text none_of ∷ stage in_list (one_of 4 80) ∷ stage in_entry (one_of 19 0) ∷ []) 4 in_list 80
+  pub clear : Clear (stage in_text none_of ∷ stage in_list none_of ∷ [])
 
 -- "Stages: 1; 2; 3 and 4; 5 to 7; 8 to 10; 11 to 13; 14; 15; 16; 17; 18; 19; 20", "those that a call has": the input of each. 22 is with 5
 -- to 7, and 23 with 11 to 13
@@ -98,23 +98,23 @@ inputs (s ∷ ss) = s.input ∷ inputs ss
 
 pub record InputsInOrder : Type 0 where
   -- 1; 5 to 7 and 22; 8 to 10
-  pub read : inputs (read_stages []) ≡ InText ∷ InText ∷ InText ∷ []
+  pub read : inputs (read_stages []) ≡ in_text ∷ in_text ∷ in_text ∷ []
   -- 1; 2; 3 and 4; 5 to 7 and 22; 8 to 10; 11 to 13 and 23; 14
-  pub check : inputs (check_stages [] []) ≡ InText ∷ InList ∷ InList ∷ InText ∷ InText ∷ InText ∷ InText ∷ []
+  pub check : inputs (check_stages [] []) ≡ in_text ∷ in_list ∷ in_list ∷ in_text ∷ in_text ∷ in_text ∷ in_text ∷ []
   -- and 19; 20
-  pub judge : inputs (judge_stages [] [] []) ≡ inputs (check_stages [] []) ++ (inEntry ∷ inEntry ∷ [])
+  pub judge : inputs (judge_stages [] [] []) ≡ inputs (check_stages [] []) ++ (in_entry ∷ in_entry ∷ [])
   -- and 15
-  pub translate : inputs (translate_stages [] [] []) ≡ inputs (check_stages [] []) ++ (inBuffer ∷ [])
+  pub translate : inputs (translate_stages [] [] []) ≡ inputs (check_stages [] []) ++ (in_buffer ∷ [])
   -- 2; 3 and 4; 16; 17; 18
-  pub load : inputs (load_stages [] []) ≡ InList ∷ InList ∷ inBlocks ∷ inBlocks ∷ inBlocks ∷ []
+  pub load : inputs (load_stages [] []) ≡ in_list ∷ in_list ∷ in_blocks ∷ in_blocks ∷ in_blocks ∷ []
   -- and 19; 20
-  pub run : inputs (run_stages [] [] []) ≡ inputs (load_stages [] []) ++ (inEntry ∷ inEntry ∷ [])
+  pub run : inputs (run_stages [] [] []) ≡ inputs (load_stages [] []) ++ (in_entry ∷ in_entry ∷ [])
   -- those of read, and 21
-  pub print : inputs (print_stages [] []) ≡ inputs (read_stages []) ++ (inBuffer ∷ [])
+  pub print : inputs (print_stages [] []) ≡ inputs (read_stages []) ++ (in_buffer ∷ [])
   -- those of check, and 25
-  pub count : inputs (count_stages [] [] []) ≡ inputs (check_stages [] []) ++ (inEntry ∷ [])
+  pub count : inputs (count_stages [] [] []) ≡ inputs (check_stages [] []) ++ (in_entry ∷ [])
   -- those of load, and 19; 15
-  pub run_all : inputs (run_all_stages [] [] [] []) ≡ inputs (load_stages [] []) ++ (inEntry ∷ inBuffer ∷ [])
+  pub run_all : inputs (run_all_stages [] [] [] []) ≡ inputs (load_stages [] []) ++ (in_entry ∷ in_buffer ∷ [])
 
 pub record FaultExamples : Type 0 where
   pub rows : Rows

@@ -1,12 +1,12 @@
 -- 01, "Blocks", the instructions, by example (for skips see SkipExamples): their bytes, what can be read as one, the load check of each, and what each leaves in a run.
 use Rattle.std.specs.Prelude.{ℕ, ◌-◌, ◌^◌, ◌≡◌, Bool, true, false, List, [], ◌∷◌, ◌++◌, length, replicate}
 use Rattle.std.proofs.Math.Option.{Option, none, some}
-use Rattle.paper.specs.Answers.{Answer, ok, refused, ◌>>=◌, inBlocks}
+use Rattle.paper.specs.Answers.{Answer, ok, refused, ◌>>=◌, in_blocks}
 use Rattle.paper.specs.Tokens.{equal, unequal, greater, at_least, less, at_most}
 use Rattle.paper.specs.Keys.{exact, ternary, lpm, range, optional, keys}
 use Rattle.paper.specs.Entry.{entry_of}
-use Rattle.paper.specs.Types.{value, mask, prefixLength, low, high}
-use Rattle.paper.specs.Meaning.{both, either, ifThen}
+use Rattle.paper.specs.Types.{value, mask, prefix_length, low, high}
+use Rattle.paper.specs.Meaning.{both, either, if_then}
 use Rattle.paper.specs.Code.{Instruction, push_bool, push_int, push_key, push_field, push_priority, invert, negate, convert, compare, connects, Parts, encode, parts_at, decode}
 use Rattle.paper.specs.Loading.{types_along, load_check, run_along, left_true}
 use Rattle.tried.specs.MarkedJudgements.{the_keys, the_entry}
@@ -27,7 +27,7 @@ in_bytes =
     ∷ on (push_key 0x0102) (3 ∷ 0 ∷ 1 ∷ 2 ∷ replicate 16 0)
     ∷ on (push_field value 1) (row 4 0 1)
     ∷ on (push_field mask 2) (row 4 1 2)
-    ∷ on (push_field prefixLength 3) (row 4 2 3)
+    ∷ on (push_field prefix_length 3) (row 4 2 3)
     ∷ on (push_field low 4) (row 4 3 4)
     ∷ on (push_field high 5) (row 4 4 5)
     ∷ on push_priority (row 5 0 0)
@@ -46,7 +46,7 @@ in_bytes =
     ∷ on (compare at_most) (row 9 5 0)
     ∷ on (connects both) (row 10 0 0)
     ∷ on (connects either) (row 11 0 0)
-    ∷ on (connects ifThen) (row 12 0 0)
+    ∷ on (connects if_then) (row 12 0 0)
     ∷ []
 
 abbrev pub PartsInBytes : Type 0
@@ -74,7 +74,7 @@ decodings =
     ∷ on (parts 3 0 0 1) none
     ∷ on (parts 4 0 0 0) (some (push_field value 0))
     ∷ on (parts 4 1 1 0) (some (push_field mask 1))
-    ∷ on (parts 4 2 2 0) (some (push_field prefixLength 2))
+    ∷ on (parts 4 2 2 0) (some (push_field prefix_length 2))
     ∷ on (parts 4 3 3 0) (some (push_field low 3))
     ∷ on (parts 4 4 31 0) (some (push_field high 31))
     ∷ on (parts 4 5 0 0) none
@@ -117,7 +117,7 @@ decodings =
     ∷ on (parts 11 1 0 0) none
     ∷ on (parts 11 0 1 0) none
     ∷ on (parts 11 0 0 1) none
-    ∷ on (parts 12 0 0 0) (some (connects ifThen))
+    ∷ on (parts 12 0 0 0) (some (connects if_then))
     ∷ on (parts 12 1 0 0) none
     ∷ on (parts 12 0 1 0) none
     ∷ on (parts 12 0 0 1) none
@@ -182,7 +182,7 @@ passed = ok tt
 
 -- at the first byte of the first three instructions, 4, 24 and 44; of the 26th and 27th, 516 and 536; or at the length
 abbrev pub fails : ℕ → Answer (Unit {0})
-fails place = refused 18 inBlocks place
+fails place = refused 18 in_blocks place
 
 abbrev pub loadable : List (Example (List Parts) (Answer (Unit {0})))
 loadable =

@@ -1,7 +1,7 @@
 -- 01, "Marked judgements", as they stand there: the keys, the entry, and the sixteen cases.
 use Rattle.std.specs.Prelude.{ℕ, ◌≡◌, Bool, true, false, List, [], ◌∷◌, ◌++◌, map}
 use Prim.Native.String as S
-use Rattle.paper.specs.Answers.{Answer, ok, refused, InText}
+use Rattle.paper.specs.Answers.{Answer, ok, refused, in_text}
 use Rattle.paper.specs.Numbers.{big_endian}
 use Rattle.paper.specs.Tokens.{bytes}
 use Rattle.paper.specs.Keys.{key_record}
@@ -38,7 +38,7 @@ abbrev pub violated : S.String → Case
 violated t = record { text = t; says = ok false }
 
 abbrev pub refused_at : S.String → ℕ → ℕ → Case
-refused_at t number at = record { text = t; says = refused number InText at }
+refused_at t number at = record { text = t; says = refused number in_text at }
 
 abbrev pub cases : List Case
 cases =

@@ -2,7 +2,7 @@
 -- meet a width.
 use Rattle.std.specs.Prelude.{ℕ, ◌+◌, ◌^◌, ◌≡◌, Bool, true, false, List, [], ◌∷◌, ◌++◌, drop}
 use Prim.Native.String as S
-use Rattle.paper.specs.Answers.{ok, refused, inEntry}
+use Rattle.paper.specs.Answers.{ok, refused, in_entry}
 use Rattle.paper.specs.Numbers.{big_endian}
 use Rattle.paper.specs.Tokens.{bytes}
 use Rattle.paper.specs.Keys.{key_record, exact, ternary, lpm, range, optional}
@@ -202,7 +202,7 @@ of_port443 =
     ∷ on (ports 1 443 444) (ok false)
     ∷ on (ports 1 442 443) (ok false)
     ∷ on (ports 1 444 444) (ok false)
-    ∷ on (ports 1 444 443) (refused 20 inEntry 4)
+    ∷ on (ports 1 444 443) (refused 20 in_entry 4)
     ∷ []
 
 abbrev pub of_port0 : List (On Bool)

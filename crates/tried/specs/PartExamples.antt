@@ -1,7 +1,7 @@
 -- 02 c by example: texts with their parts, both sides of each limit, and what is shown of an entry.
 use Rattle.std.specs.Prelude.{ℕ, ◌-◌, ◌^◌, true, List, [], ◌∷◌, ◌++◌, map, length, drop, replicate}
 use Prim.Native.String as S
-use Rattle.paper.specs.Answers.{Answer, ok, refused, ◌>>=◌, InText, InList, inEntry}
+use Rattle.paper.specs.Answers.{Answer, ok, refused, ◌>>=◌, in_text, in_list, in_entry}
 use Rattle.paper.specs.Numbers.{big_endian}
 use Rattle.paper.specs.Tokens.{bytes}
 use Rattle.paper.specs.Keys.{key_record}
@@ -81,10 +81,10 @@ judged =
     ∷ on "v == 1; ((false; true)) ; false;" (part 2 15 8 23)
     ∷ on "(true;false);true" (part 1 5 0 12)
     ∷ on "true;(false;false)" (part 2 11 5 18)
-    ∷ on "true;;" (nothing_to_show (refused 8 InText 5))
-    ∷ on "false; d > 3" (nothing_to_show (refused 13 InText 9))
-    ∷ on "false; 1" (nothing_to_show (refused 13 InText 5))
-    ∷ on "1" (nothing_to_show (refused 14 InText 0))
+    ∷ on "true;;" (nothing_to_show (refused 8 in_text 5))
+    ∷ on "false; d > 3" (nothing_to_show (refused 13 in_text 9))
+    ∷ on "false; 1" (nothing_to_show (refused 13 in_text 5))
+    ∷ on "1" (nothing_to_show (refused 14 in_text 0))
     ∷ []
 
 -- a print has no parentheses round a left ";", so that its parts are others
@@ -116,10 +116,10 @@ entries =
     ∷ on (entry_with 10 1 444 15) (key 112 3 256 257)
     ∷ on (entry_with 10 1 80 14) (key 148 4 336 337)
     ∷ on (entry_with 10 0 444 14) (key 4 0 16 17)
-    ∷ on (entry_with (2 ^ 31) 1 80 15) (nothing_to_show (refused 20 inEntry 0))
-    ∷ on (entry_with (2 ^ 31) 0 444 14) (nothing_to_show (refused 20 inEntry 0))
-    ∷ on (drop 1 the_entry) (nothing_to_show (refused 19 inEntry 183))
-    ∷ on (drop 164 the_entry) (nothing_to_show (refused 19 inEntry 20))
+    ∷ on (entry_with (2 ^ 31) 1 80 15) (nothing_to_show (refused 20 in_entry 0))
+    ∷ on (entry_with (2 ^ 31) 0 444 14) (nothing_to_show (refused 20 in_entry 0))
+    ∷ on (drop 1 the_entry) (nothing_to_show (refused 19 in_entry 183))
+    ∷ on (drop 164 the_entry) (nothing_to_show (refused 19 in_entry 20))
     ∷ []
 
 -- names of 64 bytes and of 12; and where 20 stands at the first and the last of 32 records
@@ -140,9 +140,9 @@ of_many_keys = on 4 (key 4 0 16 18) ∷ on 40 (key 40 1 96 98) ∷ on 1120 (key 
 -- a list is refused before an entry
 abbrev pub lists : List (Example (List ℕ) Reason)
 lists =
-    on (0 ∷ []) (nothing_to_show (refused 2 InList 1))
-    ∷ on (key_record (bytes "true") 0 1) (nothing_to_show (refused 3 InList 0))
-    ∷ on [] (nothing_to_show (refused 19 inEntry 184))
+    on (0 ∷ []) (nothing_to_show (refused 2 in_list 1))
+    ∷ on (key_record (bytes "true") 0 1) (nothing_to_show (refused 3 in_list 0))
+    ∷ on [] (nothing_to_show (refused 19 in_entry 184))
     ∷ []
 
 pub record PartExamples : Type 0 where
@@ -153,5 +153,5 @@ pub record PartExamples : Type 0 where
   pub of_prints : AgreeOnTexts print_explained prints
   pub of_entries : Agree (explain_answer (bytes "v == 1; false") the_keys) entries
   pub of_long_names_lem : Agree (explain_answer (bytes "true") long_names) of_long_names
-  pub of_many_keys_lem : Agree (λ at. reason_for (many_keys 32) (refused 20 inEntry at)) of_many_keys
+  pub of_many_keys_lem : Agree (λ at. reason_for (many_keys 32) (refused 20 in_entry at)) of_many_keys
   pub of_lists : Agree (λ list. explain_answer (bytes "true") list the_entry) lists

@@ -4,9 +4,9 @@ use Prim.Native.String as S
 use Rattle.paper.specs.declared.Place.TheVariants as P
 use Rattle.paper.specs.declared.Printing.{Printing}
 use Rattle.paper.specs.declared.Printing.TheVariants as W
-use Rattle.paper.specs.Answers.{Answer, ok, refused, ◌>>=◌, InText, inBuffer, printing_says}
+use Rattle.paper.specs.Answers.{Answer, ok, refused, ◌>>=◌, in_text, in_buffer, printing_says}
 use Rattle.paper.specs.Tokens as H
-use Rattle.paper.specs.Tokens.{plain, literal_in, bytes, is, starts, sequel, equal, notSign}
+use Rattle.paper.specs.Tokens.{plain, literal_in, bytes, is, starts, sequel, equal, not_sign}
 use Rattle.paper.specs.Grammar.{Tree, truth, number, key, field, attribute, prefixed, joined, compared}
 use Rattle.paper.specs.Print.{bare, digits_in, numeral_in, print}
 use Rattle.paper.specs.Sized.{levels, count}
@@ -153,7 +153,7 @@ bare_trees =
     ∷ on " a" (ok (key 0 (bytes "a")))
     ∷ on " a::b" (ok (field 0 (bytes "a") 0 (bytes "b")))
     ∷ on " ::b" (ok (attribute 0 0 (bytes "b")))
-    ∷ on " !a" (ok (prefixed 0 notSign (key 0 (bytes "a"))))
+    ∷ on " !a" (ok (prefixed 0 not_sign (key 0 (bytes "a"))))
     ∷ on "a;b" (ok (joined 0 sequel (key 0 (bytes "a")) (key 0 (bytes "b"))))
     ∷ on "a==b" (ok (compared 0 equal (key 0 (bytes "a")) (key 0 (bytes "b"))))
     ∷ []
@@ -217,19 +217,19 @@ abbrev pub answers : List (Example Lending (Answer ℕ))
 answers =
     on (lending "a;b" ".....") (ok 5)
     ∷ on (lending "a;b" ".......") (ok 5)
-    ∷ on (lending "a;b" "....") (refused 21 inBuffer 4)
-    ∷ on (lending "a" "") (refused 21 inBuffer 0)
-    ∷ on (lending "a b" "") (refused 8 InText 2)
-    ∷ on (lending "@" "") (refused 5 InText 0)
-    ∷ on (into (replicate 4097 64) 0) (refused 1 InText 4096)
+    ∷ on (lending "a;b" "....") (refused 21 in_buffer 4)
+    ∷ on (lending "a" "") (refused 21 in_buffer 0)
+    ∷ on (lending "a b" "") (refused 8 in_text 2)
+    ∷ on (lending "@" "") (refused 5 in_text 0)
+    ∷ on (into (replicate 4097 64) 0) (refused 1 in_text 4096)
     ∷ on (into (two_words 2046 2046) 4096) (ok 4096)
-    ∷ on (into (two_words 2046 2046) 4095) (refused 21 inBuffer 4095)
-    ∷ on (into (two_words 2047 2046) 5000) (refused 21 inBuffer 5000)
-    ∷ on (into (two_words 2047 2047) 4098) (refused 21 inBuffer 4098)
+    ∷ on (into (two_words 2046 2046) 4095) (refused 21 in_buffer 4095)
+    ∷ on (into (two_words 2047 2046) 5000) (refused 21 in_buffer 5000)
+    ∷ on (into (two_words 2047 2047) 4098) (refused 21 in_buffer 4098)
     ∷ on (into longest 130) (ok 130)
-    ∷ on (into longest 129) (refused 21 inBuffer 129)
+    ∷ on (into longest 129) (refused 21 in_buffer 129)
     ∷ on (into (longest_then 106) 4096) (ok 4096)
-    ∷ on (into (longest_then 107) 4097) (refused 21 inBuffer 4097)
+    ∷ on (into (longest_then 107) 4097) (refused 21 in_buffer 4097)
     ∷ []
 
 -- "Bytes after a print .. stay", and a refusal changes none
@@ -243,7 +243,7 @@ buffers =
 
 -- the cases of the public answer
 abbrev pub told : List (Example Printing (Answer ℕ))
-told = on (W.Printed 5) (ok 5) ∷ on (W.Refused 21 (P.Buffer 4)) (refused 21 inBuffer 4) ∷ []
+told = on (W.Printed 5) (ok 5) ∷ on (W.Refused 21 (P.Buffer 4)) (refused 21 in_buffer 4) ∷ []
 
 pub record PrintExamples : Type 0 where
   pub of_leaves : AgreeOnTexts printed leaves

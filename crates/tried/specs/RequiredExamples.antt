@@ -1,7 +1,7 @@
 -- 02 i, "Every part that reads key records, loader and summary included, uses the new one", by example: the marked keys, all of which must
 -- be present, with the marked entry, in which o is absent, and with one that spells o out.
 use Rattle.std.specs.Prelude.{ℕ, Bool, true, false, List, [], ◌∷◌, ◌++◌, replicate, take, drop}
-use Rattle.paper.specs.Answers.{ok, refused, Ran, InList, inEntry}
+use Rattle.paper.specs.Answers.{ok, refused, Ran, in_list, in_entry}
 use Rattle.paper.specs.Tokens.{bytes}
 use Rattle.paper.specs.Keys.{required_key}
 use Rattle.paper.specs.Entry.{match_record}
@@ -35,10 +35,10 @@ case_four = bytes "v == 1"
 -- "its absence is number 20", for every call that has an entry; the lists differ, the text and the entries do not
 
 abbrev pub judgements : List (On Bool)
-judgements = on the_entry (refused 20 inEntry 148) ∷ on spelled (ok true) ∷ []
+judgements = on the_entry (refused 20 in_entry 148) ∷ on spelled (ok true) ∷ []
 
 abbrev pub runs : List (On Ran)
-runs = on the_entry (refused 20 inEntry 148) ∷ on spelled (ok (record { accepted = true; steps = 4 })) ∷ []
+runs = on the_entry (refused 20 in_entry 148) ∷ on spelled (ok (record { accepted = true; steps = 4 })) ∷ []
 
 abbrev pub reasons : List (Example (List ℕ) Reason)
 reasons = on the_entry (at_key 148 4 (record { from = 336; to = 337 })) ∷ on spelled (nothing_to_show (ok true)) ∷ []
@@ -48,24 +48,24 @@ abbrev pub rechecks : List ℕ → List ℕ → Rechecked
 rechecks old new = recheck_answer case_four all_required old (ok true) new
 
 abbrev pub from_spelled : List (Example (List ℕ) Rechecked)
-from_spelled = on the_entry (judged (refused 20 inEntry 148)) ∷ on spelled (reused (ok true)) ∷ []
+from_spelled = on the_entry (judged (refused 20 in_entry 148)) ∷ on spelled (reused (ok true)) ∷ []
 
 abbrev pub from_absent : List (Example (List ℕ) Rechecked)
-from_absent = on the_entry (judged (refused 20 inEntry 148)) ∷ on spelled (judged (ok true)) ∷ []
+from_absent = on the_entry (judged (refused 20 in_entry 148)) ∷ on spelled (judged (ok true)) ∷ []
 
 -- a flag is no part of a block, and none of a summary: what was made without flags serves with them. "Other values are number 3"
 
 abbrev pub checks : List (On (Unit {0}))
-checks = on the_keys (ok tt) ∷ on all_required (ok tt) ∷ on flag_two (refused 3 InList 320) ∷ []
+checks = on the_keys (ok tt) ∷ on all_required (ok tt) ∷ on flag_two (refused 3 in_list 320) ∷ []
 
 abbrev pub loads : List (On ℕ)
-loads = on the_keys (ok 4) ∷ on all_required (ok 4) ∷ on flag_two (refused 3 InList 320) ∷ []
+loads = on the_keys (ok 4) ∷ on all_required (ok 4) ∷ on flag_two (refused 3 in_list 320) ∷ []
 
 abbrev pub summaries : List (On Summary)
 summaries =
     on the_keys (ok (record { keys = 1; priority = false }))
     ∷ on all_required (ok (record { keys = 1; priority = false }))
-    ∷ on flag_two (refused 3 InList 320)
+    ∷ on flag_two (refused 3 in_list 320)
     ∷ []
 
 abbrev pub blocks : List (Example (List ℕ) (List ℕ))

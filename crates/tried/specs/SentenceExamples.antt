@@ -3,7 +3,7 @@ use Prim.Native.String as S
 use Rattle.std.specs.Prelude.{◌≡◌, true, false, List, [], ◌∷◌}
 use Rattle.std.proofs.Math.Option.{some}
 use Rattle.paper.specs.Answers.{Answer, ok, refused}
-use Rattle.paper.specs.Tokens.{plain, bytes, Token, sequel, implies, or_else, andAlso, less, prefix, notSign, minusSign, opening, string, tokens}
+use Rattle.paper.specs.Tokens.{plain, bytes, Token, sequel, implies, or_else, and_also, less, prefix, not_sign, minus_sign, opening, string, tokens}
 use Rattle.paper.specs.Addresses.{mac}
 use Rattle.paper.specs.Grammar.{truth, number, field, attribute, prefixed, joined, compared}
 use Rattle.paper.specs.Sentences.{token_at, sign_at, lenient, Sentence, Bounded, WellSpelled, Valid, OpensLevel, IsString, place_from}
@@ -26,11 +26,11 @@ pub record Derived : Type 0 where
   pub a_key : WellSpelled (key_at 0 "a.b") (words "a.b")
   pub a_field : WellSpelled (field 0 (bytes "a") 3 (bytes "true")) (words "a::true")
   pub an_attribute : WellSpelled (attribute 0 2 (bytes "b")) (words "::b")
-  pub a_not : WellSpelled (prefixed 0 notSign (key_at 1 "a")) (words "!a")
-  pub a_minus : WellSpelled (prefixed 0 minusSign (key_at 1 "a")) (words "-a")
+  pub a_not : WellSpelled (prefixed 0 not_sign (key_at 1 "a")) (words "!a")
+  pub a_minus : WellSpelled (prefixed 0 minus_sign (key_at 1 "a")) (words "-a")
   pub a_parenthesis : WellSpelled (joined 2 sequel (key_at 1 "a") (key_at 3 "b")) (words "(a;b)")
   pub a_comparison : WellSpelled (compared 1 less (key_at 0 "a") (key_at 2 "b")) (words "a<b")
-  pub ands : WellSpelled (joined 4 andAlso (joined 1 andAlso (key_at 0 "a") (key_at 3 "b")) (key_at 6 "c")) (words "a&&b&&c")
+  pub ands : WellSpelled (joined 4 and_also (joined 1 and_also (key_at 0 "a") (key_at 3 "b")) (key_at 6 "c")) (words "a&&b&&c")
   pub ors : WellSpelled (joined 4 or_else (joined 1 or_else (key_at 0 "a") (key_at 3 "b")) (key_at 6 "c")) (words "a||b||c")
   pub one_implication : WellSpelled (joined 1 implies (key_at 0 "a") (key_at 3 "b")) (words "a->b")
   pub sequels : WellSpelled (joined 3 sequel (joined 1 sequel (key_at 0 "a") (key_at 2 "b")) (key_at 4 "c")) (words "a;b;c")
@@ -45,8 +45,8 @@ pub record SentenceExamples : Type 0 where
   pub good_string_read : lenient mac (bytes "00:00:00:00:00:05") ≡ some 5
   pub bad_string_read : lenient mac (bytes "x") ≡ some 0
   -- "A level is opened by each prefix operator and each parenthesis"
-  pub not_opens : OpensLevel (sign_at 3 (prefix notSign))
-  pub minus_opens : OpensLevel (sign_at 3 (prefix minusSign))
+  pub not_opens : OpensLevel (sign_at 3 (prefix not_sign))
+  pub minus_opens : OpensLevel (sign_at 3 (prefix minus_sign))
   pub parenthesis_opens : OpensLevel (sign_at 3 opening)
   pub string_is_one : IsString (token_at 3 (string (bytes "x")))
   -- 8: "token, or text length"

@@ -227,7 +227,7 @@ pub record SkipExamples : Type 0 where
   pub decoded : Agree (decode 3) decodings
   pub last : LastIsNone
   pub farthest : FarthestReads
-  pub in_blocks : InBlocks
+  pub in_blocks_lem : InBlocks
   pub loaded : Agree loads loadable
   pub full_loads : FullLoads
   pub runs_counted : Agree runs ran

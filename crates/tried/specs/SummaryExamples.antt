@@ -1,7 +1,7 @@
 -- 02 f by example: texts with their summaries, both sides of each limit, and changes of an entry with what a recheck says of them.
 use Rattle.std.specs.Prelude.{ℕ, zero, suc, ◌+◌, ◌-◌, ◌/◌, ◌%◌, ◌^◌, ◌≡◌, Bool, true, false, List, [], ◌∷◌, ◌++◌, drop, replicate}
 use Prim.Native.String as S
-use Rattle.paper.specs.Answers.{Answer, ok, refused, ◌>>=◌, InText, InList, inEntry}
+use Rattle.paper.specs.Answers.{Answer, ok, refused, ◌>>=◌, in_text, in_list, in_entry}
 use Rattle.paper.specs.Numbers.{big_endian}
 use Rattle.paper.specs.Tokens.{bytes}
 use Rattle.paper.specs.Entry.{match_record}
@@ -43,11 +43,11 @@ texts =
     ∷ on "v == v && !(p::prefix_length == 2) -> r::low <= r::high" (plain 13)
     ∷ on "v == 1; d == 1; p == 1; r == 1; o == 1" (plain 31)
     -- what does not pass has none
-    ∷ on "true;;" (refused 8 InText 5)
-    ∷ on "z == 1" (refused 11 InText 0)
-    ∷ on "::size < 1" (refused 12 InText 2)
-    ∷ on "v == 1; d > 3" (refused 13 InText 10)
-    ∷ on "v" (refused 14 InText 0)
+    ∷ on "true;;" (refused 8 in_text 5)
+    ∷ on "z == 1" (refused 11 in_text 0)
+    ∷ on "::size < 1" (refused 12 in_text 2)
+    ∷ on "v == 1; d > 3" (refused 13 in_text 10)
+    ∷ on "v" (refused 14 in_text 0)
     ∷ []
 
 -- "Report how many keys it names"
@@ -86,9 +86,9 @@ abbrev pub lists : List (On Summary)
 lists =
     on [] (with_mark 0)
     ∷ on (many_keys 32) (with_mark 0)
-    ∷ on (many_keys 33) (refused 2 InList 2640)
-    ∷ on (replicate 79 0) (refused 2 InList 79)
-    ∷ on (replicate 80 0) (refused 3 InList 0)
+    ∷ on (many_keys 33) (refused 2 in_list 2640)
+    ∷ on (replicate 79 0) (refused 2 in_list 79)
+    ∷ on (replicate 80 0) (refused 3 in_list 0)
     ∷ []
 
 -- a change of an entry, with the answer for the old one
@@ -137,17 +137,17 @@ changes =
     ∷ on (from the_entry (ok true) (entry 10 1 0x30 80 absent)) (judged (ok true))
     -- an answer that was not true is handed back as it is
     ∷ on (from the_entry (ok false) the_entry) (reused (ok false))
-    ∷ on (from the_entry (refused 19 inEntry 3) (entry 10 1 0x20 81 absent)) (reused (refused 19 inEntry 3))
+    ∷ on (from the_entry (refused 19 in_entry 3) (entry 10 1 0x20 81 absent)) (reused (refused 19 in_entry 3))
     ∷ on (from the_entry (ok false) (entry 10 1 0x30 80 absent)) (judged (ok true))
     -- an old entry that does not conform: the new one is judged
-    ∷ on (from (entry (2 ^ 31) 1 0x20 80 absent) (refused 20 inEntry 0) the_entry) (judged (ok true))
+    ∷ on (from (entry (2 ^ 31) 1 0x20 80 absent) (refused 20 in_entry 0) the_entry) (judged (ok true))
     ∷ on (from (entry 10 1 0x20 444 absent) (ok true) the_entry) (judged (ok true))
     ∷ on (from (drop 1 the_entry) (ok true) the_entry) (judged (ok true))
     -- and a new one that does not: with its own refusal
-    ∷ on (from the_entry (ok true) (entry (2 ^ 31) 1 0x20 80 absent)) (judged (refused 20 inEntry 0))
-    ∷ on (from the_entry (ok true) (entry 10 1 0x20 444 absent)) (judged (refused 20 inEntry 112))
-    ∷ on (from the_entry (ok true) (the_entry ++ (0 ∷ []))) (judged (refused 19 inEntry 185))
-    ∷ on (from (entry 10 1 0x20 444 absent) (ok true) (entry 10 1 0x20 444 absent)) (judged (refused 20 inEntry 112))
+    ∷ on (from the_entry (ok true) (entry (2 ^ 31) 1 0x20 80 absent)) (judged (refused 20 in_entry 0))
+    ∷ on (from the_entry (ok true) (entry 10 1 0x20 444 absent)) (judged (refused 20 in_entry 112))
+    ∷ on (from the_entry (ok true) (the_entry ++ (0 ∷ []))) (judged (refused 19 in_entry 185))
+    ∷ on (from (entry 10 1 0x20 444 absent) (ok true) (entry 10 1 0x20 444 absent)) (judged (refused 20 in_entry 112))
     ∷ []
 
 -- of one that names o, the last key, and has a mark: "and, if marked, the priority is the same"
@@ -166,15 +166,15 @@ marked_changes =
 abbrev pub refused_texts : List (Example S.String Rechecked)
 refused_texts =
     on "true" (reused (ok false))
-    ∷ on "z == 1" (judged (refused 11 InText 0))
-    ∷ on "v" (judged (refused 14 InText 0))
+    ∷ on "z == 1" (judged (refused 11 in_text 0))
+    ∷ on "v" (judged (refused 14 in_text 0))
     ∷ []
 
 abbrev pub refused_lists : List (Example (List ℕ) Rechecked)
 refused_lists =
     on the_keys (reused (ok false))
-    ∷ on (replicate 79 0) (judged (refused 2 InList 79))
-    ∷ on [] (judged (refused 19 inEntry 184))
+    ∷ on (replicate 79 0) (judged (refused 2 in_list 79))
+    ∷ on [] (judged (refused 19 in_entry 184))
     ∷ []
 
 pub record SummaryExamples : Type 0 where

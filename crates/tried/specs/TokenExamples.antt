@@ -1,8 +1,8 @@
 -- 01, "Tokens and grammar", first paragraph, by example: which bytes are of which class, each sign, and texts with their tokens.
 use Rattle.std.specs.Prelude.{ℕ, ◌-◌, ◌^◌, ◌≡◌, Bool, not, List, [], ◌∷◌, ◌++◌, map, length}
-use Rattle.paper.specs.Answers.{Answer, ok, refused, ◌>>=◌, InText}
+use Rattle.paper.specs.Answers.{Answer, ok, refused, ◌>>=◌, in_text}
 use Rattle.paper.specs.Tokens as T
-use Rattle.paper.specs.Tokens.{Base, plain, literal_in, bytes, Token, word, numeral, string, join, sequel, implies, or_else, andAlso, comparison, equal, unequal, greater, at_least, less, at_most, prefix, notSign, minusSign, opening, closing, colons, tokens}
+use Rattle.paper.specs.Tokens.{Base, plain, literal_in, bytes, Token, word, numeral, string, join, sequel, implies, or_else, and_also, comparison, equal, unequal, greater, at_least, less, at_most, prefix, not_sign, minus_sign, opening, closing, colons, tokens}
 use Rattle.paper.specs.Sentences.{token_at, sign_at}
 use Rattle.tried.specs.Examples.{on, Agree, On, repeat, those, bytes_that, gives, refuses}
 
@@ -70,35 +70,35 @@ abbrev pub cuts : List (On (List Token))
 cuts =
     -- each sign, at its offset
     on (bytes "; -> || &&")
-    (ok (sign_at 0 (join sequel) ∷ sign_at 2 (join implies) ∷ sign_at 5 (join or_else) ∷ sign_at 8 (join andAlso) ∷ []))
+    (ok (sign_at 0 (join sequel) ∷ sign_at 2 (join implies) ∷ sign_at 5 (join or_else) ∷ sign_at 8 (join and_also) ∷ []))
     ∷ on (bytes "== != > >=")
     (ok (sign_at 0 (comparison equal) ∷ sign_at 3 (comparison unequal) ∷ sign_at 6 (comparison greater) ∷ sign_at 8 (comparison at_least) ∷ []))
     ∷ on (bytes "< <= ! -")
-    (ok (sign_at 0 (comparison less) ∷ sign_at 2 (comparison at_most) ∷ sign_at 5 (prefix notSign) ∷ sign_at 7 (prefix minusSign) ∷ []))
+    (ok (sign_at 0 (comparison less) ∷ sign_at 2 (comparison at_most) ∷ sign_at 5 (prefix not_sign) ∷ sign_at 7 (prefix minus_sign) ∷ []))
     ∷ on (bytes "( ) ::") (ok (sign_at 0 opening ∷ sign_at 2 closing ∷ sign_at 4 colons ∷ []))
     -- "Tokens are the longest possible from the left: so "->" is one token and "--2" is three"
     ∷ on (bytes "->") (ok (sign_at 0 (join implies) ∷ []))
-    ∷ on (bytes "--2") (ok (sign_at 0 (prefix minusSign) ∷ sign_at 1 (prefix minusSign) ∷ token_at 2 (numeral (plain 2)) ∷ []))
-    ∷ on (bytes "-->") (ok (sign_at 0 (prefix minusSign) ∷ sign_at 1 (join implies) ∷ []))
+    ∷ on (bytes "--2") (ok (sign_at 0 (prefix minus_sign) ∷ sign_at 1 (prefix minus_sign) ∷ token_at 2 (numeral (plain 2)) ∷ []))
+    ∷ on (bytes "-->") (ok (sign_at 0 (prefix minus_sign) ∷ sign_at 1 (join implies) ∷ []))
     ∷ on (bytes "<=>") (ok (sign_at 0 (comparison at_most) ∷ sign_at 2 (comparison greater) ∷ []))
     ∷ on (bytes "a::b") (ok (token_at 0 (word (bytes "a")) ∷ sign_at 1 colons ∷ token_at 3 (word (bytes "b")) ∷ []))
-    ∷ on (bytes "a:b") (refused 5 InText 1)
+    ∷ on (bytes "a:b") (refused 5 in_text 1)
     -- a word takes all that goes on it: "with no blank inside; a dot not followed by an id start forms no token"
     ∷ on (bytes "_a1.B_2.c") (ok (token_at 0 (word (bytes "_a1.B_2.c")) ∷ []))
     ∷ on (bytes " ab  c") (ok (token_at 1 (word (bytes "ab")) ∷ token_at 5 (word (bytes "c")) ∷ []))
-    ∷ on (bytes "ab..c") (refused 5 InText 2)
-    ∷ on (bytes "ab.") (refused 5 InText 2)
+    ∷ on (bytes "ab..c") (refused 5 in_text 2)
+    ∷ on (bytes "ab.") (refused 5 in_text 2)
     -- a string without its quotes, and what stands after it
     ∷ on (bytes "'a b'c") (ok (token_at 0 (string (bytes "a b")) ∷ token_at 5 (word (bytes "c")) ∷ []))
     ∷ on (bytes "''") (ok (token_at 0 (string []) ∷ []))
     ∷ on (bytes "'//'") (ok (token_at 0 (string (bytes "//")) ∷ []))
-    ∷ on (bytes "a 'b") (refused 5 InText 2)
+    ∷ on (bytes "a 'b") (refused 5 in_text 2)
     -- a comment is a blank
     ∷ on (bytes "a//b" ++ (10 ∷ bytes "c")) (ok (token_at 0 (word (bytes "a")) ∷ token_at 5 (word (bytes "c")) ∷ []))
     ∷ on (bytes "a// b") (ok (token_at 0 (word (bytes "a")) ∷ []))
     ∷ on (bytes "//") (ok [])
-    ∷ on (bytes "a/") (refused 5 InText 1)
-    ∷ on (bytes "a/b") (refused 5 InText 1)
+    ∷ on (bytes "a/") (refused 5 in_text 1)
+    ∷ on (bytes "a/b") (refused 5 in_text 1)
     ∷ on [] (ok [])
     ∷ []
 
@@ -127,33 +127,33 @@ numerals =
     ∷ on (bytes "0b0") (spells_in T.binary 0)
     ∷ on (bytes "0x000") (spells_in T.hex 0)
     -- "must be one numeral of 004 as a whole, else refusal 5 at its start"
-    ∷ on (bytes " 12ab") (refused 5 InText 1)
-    ∷ on (bytes "1_0") (refused 5 InText 0)
-    ∷ on (bytes "1x1") (refused 5 InText 0)
-    ∷ on (bytes "1b1") (refused 5 InText 0)
-    ∷ on (bytes "00x1") (refused 5 InText 0)
-    ∷ on (bytes "0x") (refused 5 InText 0)
-    ∷ on (bytes "0b") (refused 5 InText 0)
+    ∷ on (bytes " 12ab") (refused 5 in_text 1)
+    ∷ on (bytes "1_0") (refused 5 in_text 0)
+    ∷ on (bytes "1x1") (refused 5 in_text 0)
+    ∷ on (bytes "1b1") (refused 5 in_text 0)
+    ∷ on (bytes "00x1") (refused 5 in_text 0)
+    ∷ on (bytes "0x") (refused 5 in_text 0)
+    ∷ on (bytes "0b") (refused 5 in_text 0)
     -- 6: "a numeral above 2^128 − 1", its first byte; one that is none is 5, however long
     ∷ on (bytes "340282366920938463463374607431768211455") (spells (2 ^ 128 - 1))
-    ∷ on (bytes " 340282366920938463463374607431768211456") (refused 6 InText 1)
+    ∷ on (bytes " 340282366920938463463374607431768211456") (refused 6 in_text 1)
     ∷ on (bytes "0b" ++ repeat 128 (bytes "1")) (spells_in T.binary (2 ^ 128 - 1))
-    ∷ on (bytes "0b1" ++ repeat 128 (bytes "0")) (refused 6 InText 0)
+    ∷ on (bytes "0b1" ++ repeat 128 (bytes "0")) (refused 6 in_text 0)
     ∷ on (bytes "0x" ++ repeat 32 (bytes "f")) (spells_in T.hex (2 ^ 128 - 1))
-    ∷ on (bytes "0x" ++ repeat 33 (bytes "f")) (refused 6 InText 0)
-    ∷ on (bytes "0x" ++ repeat 33 (bytes "f") ++ bytes "g") (refused 5 InText 0)
+    ∷ on (bytes "0x" ++ repeat 33 (bytes "f")) (refused 6 in_text 0)
+    ∷ on (bytes "0x" ++ repeat 33 (bytes "f") ++ bytes "g") (refused 5 in_text 0)
     -- 02 h: "A well-formed octal numeral is refused with new number 22 at its first byte, .. whatever its size (never 6)"
-    ∷ on (bytes " 0o17") (refused 22 InText 1)
-    ∷ on (bytes "0O70") (refused 22 InText 0)
-    ∷ on (bytes "0o0") (refused 22 InText 0)
-    ∷ on (bytes "0o3" ++ repeat 42 (bytes "7")) (refused 22 InText 0)
-    ∷ on (bytes "0o4" ++ repeat 42 (bytes "0")) (refused 22 InText 0)
-    ∷ on (bytes "1 0o8") (refused 5 InText 2)
-    ∷ on (bytes "0o") (refused 5 InText 0)
-    ∷ on (bytes "0O") (refused 5 InText 0)
-    ∷ on (bytes "0o1_") (refused 5 InText 0)
-    ∷ on (bytes "0o7 @") (refused 22 InText 0)
-    ∷ on (bytes "@ 0o7") (refused 5 InText 0)
+    ∷ on (bytes " 0o17") (refused 22 in_text 1)
+    ∷ on (bytes "0O70") (refused 22 in_text 0)
+    ∷ on (bytes "0o0") (refused 22 in_text 0)
+    ∷ on (bytes "0o3" ++ repeat 42 (bytes "7")) (refused 22 in_text 0)
+    ∷ on (bytes "0o4" ++ repeat 42 (bytes "0")) (refused 22 in_text 0)
+    ∷ on (bytes "1 0o8") (refused 5 in_text 2)
+    ∷ on (bytes "0o") (refused 5 in_text 0)
+    ∷ on (bytes "0O") (refused 5 in_text 0)
+    ∷ on (bytes "0o1_") (refused 5 in_text 0)
+    ∷ on (bytes "0o7 @") (refused 22 in_text 0)
+    ∷ on (bytes "@ 0o7") (refused 5 in_text 0)
     ∷ on (bytes "'0o7' //0o7") (ok (token_at 0 (string (bytes "0o7")) ∷ []))
     ∷ []
 
@@ -162,9 +162,9 @@ abbrev pub crowded : ℕ → Answer (List Token)
 crowded n = tokens (repeat n (bytes "a ") ++ bytes "0o7")
 
 pub record Crowded : Type 0 where
-  pub in_room : crowded 1023 ≡ refused 22 InText 2046
-  pub too_many : crowded 1024 ≡ refused 7 InText 2048
-  pub too_large : tokens (repeat 1024 (bytes "a ") ++ bytes "0o4" ++ repeat 42 (bytes "0")) ≡ refused 7 InText 2048
+  pub in_room : crowded 1023 ≡ refused 22 in_text 2046
+  pub too_many : crowded 1024 ≡ refused 7 in_text 2048
+  pub too_large : tokens (repeat 1024 (bytes "a ") ++ bytes "0o4" ++ repeat 42 (bytes "0")) ≡ refused 7 in_text 2048
 
 pub record TokenExamples : Type 0 where
   pub classes : ByteClasses

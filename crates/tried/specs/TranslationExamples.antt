@@ -1,12 +1,12 @@
 -- 01, "Blocks", the translation, by example: texts with their instructions, one text in bytes that has every instruction, and what a
 -- buffer holds afterwards.
 use Rattle.std.specs.Prelude.{ℕ, ◌≡◌, Bool, true, false, List, [], ◌∷◌, ◌++◌, replicate}
-use Rattle.paper.specs.Answers.{Answer, ok, refused, ◌>>=◌, Ran, InText, inBuffer}
+use Rattle.paper.specs.Answers.{Answer, ok, refused, ◌>>=◌, Ran, in_text, in_buffer}
 use Rattle.paper.specs.Tokens.{bytes, equal, unequal, greater, at_least, less, at_most}
 use Rattle.paper.specs.Keys.{exact, ternary, lpm, range, optional}
 use Rattle.paper.specs.Entry.{entry_of}
-use Rattle.paper.specs.Types.{value, mask, prefixLength, low, high}
-use Rattle.paper.specs.Meaning.{both, either, ifThen}
+use Rattle.paper.specs.Types.{value, mask, prefix_length, low, high}
+use Rattle.paper.specs.Meaning.{both, either, if_then}
 use Rattle.paper.specs.Code.{Instruction, push_bool, push_int, push_key, push_field, push_priority, invert, negate, convert, compare, connects, skip}
 use Rattle.paper.specs.Blocks.{blocks_needed}
 use Rattle.paper.specs.Translating.{code_of, conversions, joins, steps_of}
@@ -33,7 +33,7 @@ leaves =
     ∷ on "d == d" (ok (push_key 1 ∷ push_key 1 ∷ compare equal ∷ []))
     ∷ on "d::value == d::mask" (ok (push_field value 1 ∷ push_field mask 1 ∷ compare equal ∷ []))
     ∷ on "r::low == r::high" (ok (push_field low 3 ∷ push_field high 3 ∷ compare equal ∷ []))
-    ∷ on "p::prefix_length == ::priority" (ok (push_field prefixLength 2 ∷ push_priority ∷ compare equal ∷ []))
+    ∷ on "p::prefix_length == ::priority" (ok (push_field prefix_length 2 ∷ push_priority ∷ compare equal ∷ []))
     ∷ on "!true" (ok (push_bool true ∷ invert ∷ []))
     ∷ on "-1 == 2" (ok (push_int 1 ∷ negate ∷ push_int 2 ∷ compare equal ∷ []))
     ∷ on "1 != 2" (ok (push_int 1 ∷ push_int 2 ∷ compare unequal ∷ []))
@@ -45,7 +45,7 @@ leaves =
     ∷ on "true; false" (ok (push_bool true ∷ skips false false 2 ∷ push_bool false ∷ connects both ∷ []))
     ∷ on "true && false" (ok (push_bool true ∷ skips false false 2 ∷ push_bool false ∷ connects both ∷ []))
     ∷ on "true || false" (ok (push_bool true ∷ skips true true 2 ∷ push_bool false ∷ connects either ∷ []))
-    ∷ on "true -> false" (ok (push_bool true ∷ skips false true 2 ∷ push_bool false ∷ connects ifThen ∷ []))
+    ∷ on "true -> false" (ok (push_bool true ∷ skips false true 2 ∷ push_bool false ∷ connects if_then ∷ []))
     -- "Translation is postfix, left before right"; "directly after the left operand of every "and", "or" and "implies", landing after the join"
     ∷ on "true -> (false || !true)" (ok
     (push_bool true
@@ -55,7 +55,7 @@ leaves =
     ∷ push_bool true
     ∷ invert
     ∷ connects either
-    ∷ connects ifThen
+    ∷ connects if_then
     ∷ []))
     ∷ on "(true && false) || true" (ok
     (push_bool true
@@ -160,7 +160,7 @@ abbrev pub judgements : List (OnText Ran)
 judgements =
     on "v == 1" (ok (record { accepted = true; steps = 4 }))
     ∷ on "false && true" (ok (record { accepted = false; steps = 2 }))
-    ∷ on "d > 3" (refused 13 InText 2)
+    ∷ on "d > 3" (refused 13 in_text 2)
     ∷ []
 
 -- how many values the code holds at most: a left operand waits for its right one
@@ -258,10 +258,10 @@ pub record EveryInstruction : Type 0 where
 
 -- 15: "lent buffer below the bytes needed"; buffer, its length. "A refusal changes nothing lent."
 pub record Refused : Type 0 where
-  pub short : translate_answer (bytes "v == 1") the_keys (replicate 511 0xAA) ≡ refused 15 inBuffer 511
+  pub short : translate_answer (bytes "v == 1") the_keys (replicate 511 0xAA) ≡ refused 15 in_buffer 511
   pub short_unchanged : translate_buffer (bytes "v == 1") the_keys (replicate 511 0xAA) ≡ replicate 511 0xAA
-  pub one_of_two_blocks : translate_answer every_text the_keys (replicate 1023 0xAA) ≡ refused 15 inBuffer 1023
-  pub untyped : translate_answer (bytes "d > 3") the_keys (replicate 512 0xAA) ≡ refused 13 InText 2
+  pub one_of_two_blocks : translate_answer every_text the_keys (replicate 1023 0xAA) ≡ refused 15 in_buffer 1023
+  pub untyped : translate_answer (bytes "d > 3") the_keys (replicate 512 0xAA) ≡ refused 13 in_text 2
   pub untyped_unchanged : translate_buffer (bytes "d > 3") the_keys (replicate 512 0xAA) ≡ replicate 512 0xAA
 
 pub record TranslationExamples : Type 0 where

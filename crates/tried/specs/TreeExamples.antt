@@ -1,8 +1,8 @@
 -- 01, "Tokens and grammar", second paragraph, by example: texts with their trees, and texts that are no sentence, with the place.
 use Rattle.std.specs.Prelude.{ℕ, true, false, List, [], ◌∷◌}
 use Prim.Native.String as S
-use Rattle.paper.specs.Answers.{Answer, ok, refused, ◌>>=◌, InText}
-use Rattle.paper.specs.Tokens.{binary, hex, plain, literal_in, bytes, sequel, implies, or_else, andAlso, equal, unequal, greater, at_least, less, at_most, notSign, minusSign}
+use Rattle.paper.specs.Answers.{Answer, ok, refused, ◌>>=◌, in_text}
+use Rattle.paper.specs.Tokens.{binary, hex, plain, literal_in, bytes, sequel, implies, or_else, and_also, equal, unequal, greater, at_least, less, at_most, not_sign, minus_sign}
 use Rattle.paper.specs.Grammar.{Tree, truth, number, key, field, attribute, prefixed, joined, compared, place_of}
 use Rattle.paper.specs.Calls.{tree, read_answer}
 use Rattle.tried.specs.Examples.{on, OnText, AgreeOnTexts}
@@ -21,7 +21,7 @@ atoms =
     ∷ on "12" (ok (number 0 (plain 12)))
     ∷ on "0x12" (ok (number 0 (literal_in hex 18)))
     ∷ on "0B11" (ok (number 0 (literal_in binary 3)))
-    ∷ on "0o17" (refused 22 InText 0)
+    ∷ on "0o17" (refused 22 in_text 0)
     ∷ on "0D10" (ok (number 0 (plain 10)))
     ∷ on "ipv4('1.2.3.4')" (ok (number 0 (plain 0x01020304)))
     ∷ on "ipv6('::1')" (ok (number 0 (plain 1)))
@@ -47,12 +47,12 @@ atoms =
 -- each operator: its place is its own
 abbrev pub operators : List (OnText Tree)
 operators =
-    on "!a" (ok (prefixed 0 notSign (key_at 1 "a")))
-    ∷ on "-a" (ok (prefixed 0 minusSign (key_at 1 "a")))
+    on "!a" (ok (prefixed 0 not_sign (key_at 1 "a")))
+    ∷ on "-a" (ok (prefixed 0 minus_sign (key_at 1 "a")))
     ∷ on "a;b" (ok (joined 1 sequel (key_at 0 "a") (key_at 2 "b")))
     ∷ on "a->b" (ok (joined 1 implies (key_at 0 "a") (key_at 3 "b")))
     ∷ on "a||b" (ok (joined 1 or_else (key_at 0 "a") (key_at 3 "b")))
-    ∷ on "a&&b" (ok (joined 1 andAlso (key_at 0 "a") (key_at 3 "b")))
+    ∷ on "a&&b" (ok (joined 1 and_also (key_at 0 "a") (key_at 3 "b")))
     ∷ on "a==b" (ok (compared 1 equal (key_at 0 "a") (key_at 3 "b")))
     ∷ on "a!=b" (ok (compared 1 unequal (key_at 0 "a") (key_at 3 "b")))
     ∷ on "a>b" (ok (compared 1 greater (key_at 0 "a") (key_at 2 "b")))
@@ -66,27 +66,27 @@ abbrev pub ladder : List (OnText Tree)
 ladder =
     on "a;b;c" (ok (joined 3 sequel (joined 1 sequel (key_at 0 "a") (key_at 2 "b")) (key_at 4 "c")))
     ∷ on "a||b||c" (ok (joined 4 or_else (joined 1 or_else (key_at 0 "a") (key_at 3 "b")) (key_at 6 "c")))
-    ∷ on "a&&b&&c" (ok (joined 4 andAlso (joined 1 andAlso (key_at 0 "a") (key_at 3 "b")) (key_at 6 "c")))
+    ∷ on "a&&b&&c" (ok (joined 4 and_also (joined 1 and_also (key_at 0 "a") (key_at 3 "b")) (key_at 6 "c")))
     -- each step down the ladder on the right of the one before it, and on the left
     ∷ on "a;b->c||d&&e==!f"
     (ok
     (joined 1 sequel (key_at 0 "a")
     (joined 3 implies (key_at 2 "b")
-    (joined 6 or_else (key_at 5 "c") (joined 9 andAlso (key_at 8 "d") (compared 12 equal (key_at 11 "e") (prefixed 14 notSign (key_at 15 "f"))))))))
+    (joined 6 or_else (key_at 5 "c") (joined 9 and_also (key_at 8 "d") (compared 12 equal (key_at 11 "e") (prefixed 14 not_sign (key_at 15 "f"))))))))
     ∷ on "!f==e&&d||c->b;a"
     (ok
     (joined 14 sequel
     (joined 11 implies
-    (joined 8 or_else (joined 5 andAlso (compared 2 equal (prefixed 0 notSign (key_at 1 "f")) (key_at 4 "e")) (key_at 7 "d")) (key_at 10 "c"))
+    (joined 8 or_else (joined 5 and_also (compared 2 equal (prefixed 0 not_sign (key_at 1 "f")) (key_at 4 "e")) (key_at 7 "d")) (key_at 10 "c"))
     (key_at 13 "b"))
     (key_at 15 "a")))
-    ∷ on "!-a::b" (ok (prefixed 0 notSign (prefixed 1 minusSign (field 2 (bytes "a") 5 (bytes "b")))))
+    ∷ on "!-a::b" (ok (prefixed 0 not_sign (prefixed 1 minus_sign (field 2 (bytes "a") 5 (bytes "b")))))
     -- "a parenthesis, inside which the whole ladder starts again"
     ∷ on "(a;b)->c" (ok (joined 5 implies (joined 2 sequel (key_at 1 "a") (key_at 3 "b")) (key_at 7 "c")))
     ∷ on "a->(b->c)" (ok (joined 1 implies (key_at 0 "a") (joined 5 implies (key_at 4 "b") (key_at 7 "c"))))
     ∷ on "(a==b)==c" (ok (compared 6 equal (compared 2 equal (key_at 1 "a") (key_at 4 "b")) (key_at 8 "c")))
-    ∷ on "a&&(b||c)" (ok (joined 1 andAlso (key_at 0 "a") (joined 5 or_else (key_at 4 "b") (key_at 7 "c"))))
-    ∷ on "!(a==b)" (ok (prefixed 0 notSign (compared 3 equal (key_at 2 "a") (key_at 5 "b"))))
+    ∷ on "a&&(b||c)" (ok (joined 1 and_also (key_at 0 "a") (joined 5 or_else (key_at 4 "b") (key_at 7 "c"))))
+    ∷ on "!(a==b)" (ok (prefixed 0 not_sign (compared 3 equal (key_at 2 "a") (key_at 5 "b"))))
     -- "One trailing ";" is allowed, at top level only": it makes no node
     ∷ on "a;" (ok (key_at 0 "a"))
     ∷ on "a;b;" (ok (joined 1 sequel (key_at 0 "a") (key_at 2 "b")))
@@ -94,7 +94,7 @@ ladder =
 
 -- 8: "first token that no sentence could continue with, or text ends too soon": the token, or the text's length
 abbrev pub stops_at : ℕ → Answer Tree
-stops_at place = refused 8 InText place
+stops_at place = refused 8 in_text place
 
 abbrev pub no_sentences : List (OnText Tree)
 no_sentences =
@@ -163,10 +163,10 @@ no_sentences =
     ∷ on "a;;" (stops_at 2)
     ∷ on "a;b;;" (stops_at 4)
     -- 10: "bad address string", its quote. "In a stage the earliest place wins"
-    ∷ on "ipv4('x')" (refused 10 InText 5)
-    ∷ on "a;mac( '')" (refused 10 InText 7)
-    ∷ on "ipv4('x'" (refused 10 InText 5)
-    ∷ on "ipv4('x') b" (refused 10 InText 5)
+    ∷ on "ipv4('x')" (refused 10 in_text 5)
+    ∷ on "a;mac( '')" (refused 10 in_text 7)
+    ∷ on "ipv4('x'" (refused 10 in_text 5)
+    ∷ on "ipv4('x') b" (refused 10 in_text 5)
     ∷ on "a b ipv4('x')" (stops_at 2)
     ∷ []
 

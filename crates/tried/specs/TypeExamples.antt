@@ -2,7 +2,7 @@
 -- places of refusals 11 to 14.
 use Rattle.std.specs.Prelude.{ℕ, ◌≡◌, List, [], ◌∷◌, ◌++◌, map, replicate}
 use Prim.Native.String as S
-use Rattle.paper.specs.Answers.{Answer, ok, refused, InText}
+use Rattle.paper.specs.Answers.{Answer, ok, refused, in_text}
 use Rattle.paper.specs.Tokens.{bytes}
 use Rattle.paper.specs.Calls.{check_answer}
 use Rattle.tried.specs.Examples.{on, OnText, AgreeOnTexts, rows, table_of, pass_mark}
@@ -72,7 +72,7 @@ abbrev pub passed : Answer (Unit {0})
 passed = ok tt
 
 abbrev pub refused_in : ℕ → ℕ → Answer (Unit {0})
-refused_in number place = refused number InText place
+refused_in number place = refused number in_text place
 
 -- ""!" takes bool. "-" takes int, or bit<W> modulo 2^W."
 abbrev pub prefixes : List (OnText (Unit {0}))

@@ -4,7 +4,7 @@
 use Rattle.std.specs.Prelude.{ℕ, ◌^◌, ◌≡◌, Bool, true, false, List, ltb, ℤ, pos, negsuc}
 use Rattle.std.proofs.Math.Option.{Option, none, some}
 use Rattle.paper.specs.declared.Checking.{Checking}
-use Rattle.paper.specs.Answers.{ok, ◌>>=◌, require, InText, checking_says}
+use Rattle.paper.specs.Answers.{ok, ◌>>=◌, require, in_text, checking_says}
 use Rattle.paper.specs.Grammar.{Tree, place_of}
 use Rattle.paper.specs.Types.{Ty, bool, int, of, comparison_type, spelled, keeps_bits, bits_kept, operator_type}
 use Rattle.paper.specs.BitsKept.{ComparisonRule, rule_before, restriction_by}
@@ -38,8 +38,8 @@ LooksRight = TypesBy right_alone
 abbrev pub at_operator : ComparisonRule
 at_operator at c l r a b =
     operator_type at (comparison_type c a b)
-    >>= λ t. require (keeps_bits l b) 23 InText at
-    >>= λ _. require (keeps_bits r a) 23 InText at
+    >>= λ t. require (keeps_bits l b) 23 in_text at
+    >>= λ _. require (keeps_bits r a) 23 in_text at
     >>= λ _. ok t
 
 abbrev pub PlacesAtOperator : Checker → Type 0
@@ -59,8 +59,8 @@ keeps_unsigned t (of k w) = unsigned w (spelled t)
 abbrev pub above_zero : ComparisonRule
 above_zero at c l r a b =
     operator_type at (comparison_type c a b)
-    >>= λ t. require (keeps_unsigned l b) 23 InText (place_of l)
-    >>= λ _. require (keeps_unsigned r a) 23 InText (place_of r)
+    >>= λ t. require (keeps_unsigned l b) 23 in_text (place_of l)
+    >>= λ _. require (keeps_unsigned r a) 23 in_text (place_of r)
     >>= λ _. ok t
 
 abbrev pub TakesNoneBelowZero : Checker → Type 0

@@ -4,7 +4,7 @@
 use Rattle.std.specs.Prelude.{ℕ, ◌≤◌, ◌≡◌, true, List, [], ◌∷◌, map, length}
 use Rattle.paper.specs.declared.Drafting.TheVariants as D
 use Rattle.paper.specs.Answers.{ok}
-use Rattle.paper.specs.Tokens.{sequel, or_else, andAlso, most_text, most_tokens}
+use Rattle.paper.specs.Tokens.{sequel, or_else, and_also, most_text, most_tokens}
 use Rattle.paper.specs.Keys.{Key}
 use Rattle.paper.specs.Grammar.{Tree, truth, joined, most_levels}
 use Rattle.paper.specs.Print.{print}
@@ -64,7 +64,7 @@ module _ (names : List (List ℕ)) (table : List ℕ) where
 
   -- exclusive or as "||"
   abbrev pub or_link : Linking → Tree → Tree → Tree
-  or_link and l r = joined 0 andAlso l r
+  or_link and l r = joined 0 and_also l r
   or_link or l r = joined 0 or_else l r
   or_link xor l r = joined 0 or_else l r
 
@@ -84,7 +84,7 @@ abbrev pub inclusive_made : Maker
 inclusive_made names table cs = by_sequel (inclusive names table) cs
 
 abbrev pub and_made : Maker
-and_made names table cs = joined_by (λ l r. joined 0 andAlso l r) (clause_tree names table) cs
+and_made names table cs = joined_by (λ l r. joined 0 and_also l r) (clause_tree names table) cs
 
 abbrev pub InvertsLast : Drafter → Type 0
 InvertsLast = Makes last_made

@@ -3,8 +3,8 @@
 -- one that is right everywhere else. As programs they stand in WrongPrograms; one that hands back a copy, in WrongCopiers.
 use Rattle.std.specs.Prelude.{ℕ, suc, ◌≡◌, Bool, true, false, cond, List, [], ◌∷◌, ◌++◌, length, eqb}
 use Rattle.std.proofs.Math.Option.{Option, none, some}
-use Rattle.paper.specs.Answers.{inEntry, Answer, ok, refused, ◌>>=◌}
-use Rattle.paper.specs.Tokens.{sequel, implies, or_else, andAlso}
+use Rattle.paper.specs.Answers.{in_entry, Answer, ok, refused, ◌>>=◌}
+use Rattle.paper.specs.Tokens.{sequel, implies, or_else, and_also}
 use Rattle.paper.specs.Keys.{Key, keys}
 use Rattle.paper.specs.Entry.{Entry, entry_of}
 use Rattle.paper.specs.Grammar.{Tree, truth, number, key, field, attribute, prefixed, joined, compared, place_of}
@@ -65,7 +65,7 @@ spine (prefixed at o t) = prefixed at o t ∷ []
 spine (joined at sequel l r) = spine l ++ (r ∷ [])
 spine (joined at implies l r) = joined at implies l r ∷ []
 spine (joined at or_else l r) = joined at or_else l r ∷ []
-spine (joined at andAlso l r) = joined at andAlso l r ∷ []
+spine (joined at and_also l r) = joined at and_also l r ∷ []
 spine (compared at c l r) = compared at c l r ∷ []
 
 -- the first false tree of it, counted along it
@@ -78,7 +78,7 @@ FollowsSpine x =
 -- some key for a bad priority
 abbrev pub KeyForPriority : Explainer → Type 0
 KeyForPriority x =
-    (text list entry : List ℕ) → Lendable text list entry → judge_answer text list entry ≡ refused 20 inEntry 0
+    (text list entry : List ℕ) → Lendable text list entry → judge_answer text list entry ≡ refused 20 in_entry 0
     → (place k : ℕ) × (s : Stretch) × (x text list entry ≡ at_key place k s)
 
 -- real ones: with other parts, another part of them, or another test of what is a record's place
@@ -130,4 +130,4 @@ pub record WrongExplainersExist : Type 0 where
   pub otherwise_same : (text list entry : List ℕ) → explain_with parts first_false is_record text list entry ≡ explain_answer text list entry
   pub last_part : (x : Explainer) × NamesLast x × RightBut (ok false) x
   pub left_spine : (x : Explainer) × FollowsSpine x × RightBut (ok false) x
-  pub key_for_priority : (x : Explainer) × KeyForPriority x × RightBut (refused 20 inEntry 0) x
+  pub key_for_priority : (x : Explainer) × KeyForPriority x × RightBut (refused 20 in_entry 0) x

@@ -3,7 +3,7 @@
 -- in WrongPrograms.
 use Rattle.std.specs.Prelude.{ℕ, ◌≤◌, ◌≡◌, ◌↔◌, Bool, true, false, not, cond, List, ◌++◌, length, eqb}
 use Rattle.paper.specs.Answers.{ok}
-use Rattle.paper.specs.Tokens.{bytes, is, span, hex, Literal, literal_in, Join, sequel, implies, or_else, andAlso, Token, tokens}
+use Rattle.paper.specs.Tokens.{bytes, is, span, hex, Literal, literal_in, Join, sequel, implies, or_else, and_also, Token, tokens}
 use Rattle.paper.specs.Grammar.{Tree, truth, number, key, field, attribute, prefixed, joined, compared}
 use Rattle.paper.specs.Print.{bare, numeral_in, literal_bytes, prefix_bytes, join_bytes, comparison_bytes, spaced, tightest, left_of, right_of, looser, enclosed, truth_bytes, print}
 use Rattle.paper.specs.Calls.{tree}
@@ -61,7 +61,7 @@ abbrev pub and_for_sequel : Join → List ℕ
 and_for_sequel sequel = bytes "&&"
 and_for_sequel implies = bytes "->"
 and_for_sequel or_else = bytes "||"
-and_for_sequel andAlso = bytes "&&"
+and_for_sequel and_also = bytes "&&"
 
 abbrev pub with_and_for_sequel : Tree → List ℕ
 with_and_for_sequel = print_with literal_bytes and_for_sequel looser

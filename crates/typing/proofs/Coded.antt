@@ -4,7 +4,7 @@ use native.Mathlib.Omega.{arith}
 use mathlib.Core.Path.{◌≡◌, ◌∙◌, ap, ap₂}
 use mathlib.Core.Bool.{true, false}
 use borrow.Author.Tests.{lt-ltb, le-ltb}
-use Rattle.paper.specs.Answers.{ok, refused, InText}
+use Rattle.paper.specs.Answers.{ok, refused, in_text}
 use Rattle.values.specs.Numbered.{numbers, ty_numbered}
 use Rattle.typing.specs.Coded.{places, ty_in, is_type, number_in, place_in, code_says}
 
@@ -14,7 +14,7 @@ pub says_type : (code : ℕ) → is_type code ≡ true → code_says code ≡ ok
 unfolding code_says
 says_type code e = rw e
 
-pub says_refusal : (code : ℕ) → is_type code ≡ false → code_says code ≡ refused (number_in code) InText (place_in code)
+pub says_refusal : (code : ℕ) → is_type code ≡ false → code_says code ≡ refused (number_in code) in_text (place_in code)
 unfolding code_says
 says_refusal code e = rw e
 
@@ -25,9 +25,9 @@ type_coded n low =
     says_type n (lt-ltb n places (omega arith)) ∙ ap (λ m. ok (ty_numbered m)) itself
 
 -- the number and one, and the place, are the two digits of the code to base `places`, and the first is not 0
-pub refusal_coded : (n at : ℕ) → n < 256 → at < places → code_says ((n + 1) * places + at) ≡ refused n InText at
+pub refusal_coded : (n at : ℕ) → n < 256 → at < places → code_says ((n + 1) * places + at) ≡ refused n in_text at
 refusal_coded n at narrow held =
     let code = (n + 1) * places + at in
     let number : number_in code ≡ n = omega arith in
     let place : place_in code ≡ at = omega arith in
-    says_refusal code (le-ltb code places (omega arith)) ∙ ap₂ (λ a b. refused a InText b) number place
+    says_refusal code (le-ltb code places (omega arith)) ∙ ap₂ (λ a b. refused a in_text b) number place

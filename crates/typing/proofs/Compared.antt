@@ -2,7 +2,7 @@
 use Prim.Native.Nat.{ℕ}
 use mathlib.Core.Path.{◌≡◌, sym, ◌∙◌, ap}
 use mathlib.Core.Bool.{true, false}
-use Rattle.paper.specs.Answers.{Answer, ok, refused, ◌>>=◌, Input, InText}
+use Rattle.paper.specs.Answers.{Answer, ok, refused, ◌>>=◌, Input, in_text}
 use Rattle.paper.specs.Grammar.{Tree, place_of}
 use Rattle.paper.specs.Types.{Ty, keeps_bits, bits_kept, operator_type}
 use Rattle.trees.specs.declared.node.Join.{Join}
@@ -28,10 +28,10 @@ module _ (at : ℕ) (l r : Tree) (a b : Ty) where
     takes : made (Compares c) ≡ ok t
     takes = ap made (sym compares) ∙ suited
 
-    pub left_lost : keeps_bits l b ≡ false → refused 23 InText (place_of l) ≡ operator_says at o l r a b
+    pub left_lost : keeps_bits l b ≡ false → refused 23 in_text (place_of l) ≡ operator_says at o l r a b
     left_lost h = rw (compares, takes, h)
 
-    pub right_lost : keeps_bits l b ≡ true → keeps_bits r a ≡ false → refused 23 InText (place_of r) ≡ operator_says at o l r a b
+    pub right_lost : keeps_bits l b ≡ true → keeps_bits r a ≡ false → refused 23 in_text (place_of r) ≡ operator_says at o l r a b
     right_lost h k = rw (compares, takes, h, k)
 
     pub both_kept : keeps_bits l b ≡ true → keeps_bits r a ≡ true → ok t ≡ operator_says at o l r a b

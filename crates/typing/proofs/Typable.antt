@@ -4,7 +4,7 @@ use mathlib.Core.Path.{◌≡◌, refl, sym, ◌∙◌, ap}
 use mathlib.Core.Bool.{Bool, true, false, ◌&&◌, false≢true}
 use mathlib.Core.List.{List}
 use Rattle.paper.specs.Answers.{ok, ◌>>=◌}
-use Rattle.paper.specs.Tokens.{Prefix, notSign, minusSign}
+use Rattle.paper.specs.Tokens.{Prefix, not_sign, minus_sign}
 use Rattle.paper.specs.Keys.{Key}
 use Rattle.paper.specs.Grammar.{Tree, prefixed}
 use Rattle.paper.specs.Types.{Ty, bool, same_ty, when, is_number, compares, prefix_type, comparison_type, bits_kept, operator_type, type_of}
@@ -28,14 +28,14 @@ module _ (ks : List Key) (at : ℕ) (a : Ty) where
   unfolding type_of
   operand_typed o t e = bind_ok (type_of ks t) (λ x. operator_type at (prefix_type o x)) a e
 
-  pub minus_typed : (t : Tree) → type_of ks (prefixed at minusSign t) ≡ ok a → type_of ks t ≡ ok a
+  pub minus_typed : (t : Tree) → type_of ks (prefixed at minus_sign t) ≡ ok a → type_of ks t ≡ ok a
   minus_typed t e =
-      let (b, typed, made) = operand_typed minusSign t e in
+      let (b, typed, made) = operand_typed minus_sign t e in
       typed ∙ ap ok (passed at (is_number b) b a made).1
 
-  not_typed : (t : Tree) → type_of ks (prefixed at notSign t) ≡ ok a → bool ≡ a
+  not_typed : (t : Tree) → type_of ks (prefixed at not_sign t) ≡ ok a → bool ≡ a
   not_typed t e =
-      let (b, typed, made) = operand_typed notSign t e in
+      let (b, typed, made) = operand_typed not_sign t e in
       (passed at (same_ty b bool) bool a made).1
 
   -- a prefix that is no "-"

@@ -1,7 +1,7 @@
 -- A type, or a refusal in the text, as one number, its code: a type's is its number, below `places`, and a refusal's is its number and one,
 -- times that, and its place under it. Every number is the code of something.
 use Rattle.std.specs.Prelude.{ℕ, ◌-◌, ◌/◌, ◌%◌, ◌<◌, ◌≡◌, Bool, cond, ltb}
-use Rattle.paper.specs.Answers.{Answer, ok, refused, InText}
+use Rattle.paper.specs.Answers.{Answer, ok, refused, in_text}
 use Rattle.paper.specs.Types.{Ty}
 use Rattle.values.specs.Numbered.{ty_numbered}
 
@@ -26,9 +26,9 @@ place_in code = code % places
 
 -- what a code says
 unfoldable pub code_says : ℕ → Answer Ty
-code_says code = cond (is_type code) (ok (ty_in code)) (refused (number_in code) InText (place_in code))
+code_says code = cond (is_type code) (ok (ty_in code)) (refused (number_in code) in_text (place_in code))
 
 -- what has a code: what is asked for, or a refusal at a place of the text that a word holds
 abbrev pub Codable : {A : Type 0} → Answer A → Type 0
 Codable (ok a) = Unit {0}
-Codable (refused n i at) = (i ≡ InText) × (at < places)
+Codable (refused n i at) = (i ≡ in_text) × (at < places)

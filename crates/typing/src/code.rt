@@ -3,7 +3,7 @@
 // A type's code is its number, and types have the codes below PLACES. A refusal's code is its number and one, times PLACES, and its place
 // under it. Every number is the code of something, so that nothing is asked of one that is read.
 ghost use Rattle.std.specs.Prelude.{◌≡◌, ◌<◌};
-ghost use Rattle.paper.specs.Answers.{ok, refused, InText, offset_of};
+ghost use Rattle.paper.specs.Answers.{ok, refused, in_text, offset_of};
 ghost use Rattle.values.specs.Typed.{ty_meant, typing_meant};
 ghost use Rattle.typing.specs.Says.{typed_says, typed_or};
 ghost use Rattle.typing.specs.Coded.{places, ty_in, is_type, code_says, Codable};
@@ -22,7 +22,7 @@ const REFUSALS: usize = 256;
 // The code of a refusal at a place of the text.
 pub(crate) fn refusal_code(number: u8, at: usize) -> usize
     requires { at < places }
-    ensures { code_says result ≡ refused number InText at }
+    ensures { code_says result ≡ refused number in_text at }
 {
     (number as usize + 1) * PLACES + at
 }

@@ -10,7 +10,7 @@ use lib.Dec.{eqb, ltb}
 use Rattle.paper.specs.Tokens.{equal, unequal, greater, at_least, less, at_most}
 use Rattle.paper.specs.Keys.{Kind, exact, ternary, lpm, range, optional, kind_of}
 use Rattle.paper.specs.Entry.{Match, is_exact}
-use Rattle.paper.specs.Types.{Ty, bool, int, of, bits, is_number, ordered, suits, Field, value, mask, prefixLength, low, high, has, field_ty}
+use Rattle.paper.specs.Types.{Ty, bool, int, of, bits, is_number, ordered, suits, Field, value, mask, prefix_length, low, high, has, field_ty}
 use Rattle.paper.specs.Meaning.{one_value}
 use Rattle.paper.specs.Code.{comparison_of, field_of, field_no}
 use Rattle.paper.proofs.MeetingTypes.{meet_own}
@@ -69,8 +69,8 @@ has_mask =
     by_kind (λ k. has k mask) (λ n. eqb n 1 || ltb 3 n) refl refl refl refl
     (λ n h. rw (ne_eqb n 1 (λ e. omega arith), lt-ltb 3 n (omega arith)))
 
-pub has_length : (n : ℕ) → eqb n 2 ≡ has (kind_of n) prefixLength
-has_length = by_kind (λ k. has k prefixLength) (λ n. eqb n 2) refl refl refl refl (λ n h. ne_eqb n 2 (λ e. omega arith))
+pub has_length : (n : ℕ) → eqb n 2 ≡ has (kind_of n) prefix_length
+has_length = by_kind (λ k. has k prefix_length) (λ n. eqb n 2) refl refl refl refl (λ n h. ne_eqb n 2 (λ e. omega arith))
 
 pub has_bound : (is-low : Bool) (n : ℕ) → eqb n 3 ≡ has (kind_of n) (cond is-low low high)
 has_bound true = by_kind (λ k. has k low) (λ n. eqb n 3) refl refl refl refl (λ n h. ne_eqb n 3 (λ e. omega arith))
@@ -85,7 +85,7 @@ field_bits false false false w = refl
 pub field_back : (f : Field) → field_of (field_no f) ≡ f
 field_back value = refl
 field_back mask = refl
-field_back prefixLength = refl
+field_back prefix_length = refl
 field_back low = refl
 field_back high = refl
 

@@ -5,7 +5,7 @@ use Rattle.paper.specs.Numbers.{modulo}
 use Rattle.paper.specs.Keys.{kind_of}
 use Rattle.paper.specs.Entry.{Match}
 use Rattle.paper.specs.Types.{Ty, same_ty, when, takes}
-use Rattle.paper.specs.Meaning.{Value, truth, whole, matched, ty_of, in_type, Connective, both, either, ifThen}
+use Rattle.paper.specs.Meaning.{Value, truth, whole, matched, ty_of, in_type, Connective, both, either, if_then}
 use Rattle.number.specs.Values.{value, signed}
 use Rattle.number.specs.declared.magnitude.Magnitude.{Magnitude}
 use Rattle.values.specs.declared.cell.Cell.{Cell}
@@ -41,4 +41,4 @@ like_value t a = when (same_ty (ty_of a) t || takes t (ty_of a)) (in_type t a)
 
 -- of a number up to 2
 abbrev pub connective_of : ℕ → Connective
-connective_of n = cond (eqb n 0) both (cond (eqb n 1) either ifThen)
+connective_of n = cond (eqb n 0) both (cond (eqb n 1) either if_then)

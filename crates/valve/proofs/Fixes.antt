@@ -13,7 +13,7 @@ use Rattle.paper.specs.declared.Place.TheVariants as P
 use Rattle.paper.specs.declared.Counted.{Counted}
 use Rattle.paper.specs.declared.Counted.TheVariants as S
 use Rattle.paper.specs.declared.Fixing.TheVariants as F
-use Rattle.paper.specs.Answers.{Answer, ok, refused, ◌>>=◌, InText, inBuffer, input_of, offset_of, counted_says}
+use Rattle.paper.specs.Answers.{Answer, ok, refused, ◌>>=◌, in_text, in_buffer, input_of, offset_of, counted_says}
 use Rattle.paper.specs.Tokens.{Token, most_text}
 use Rattle.paper.specs.Calls.{over, laid, lends}
 use Rattle.paper.specs.Fixing.{old_tokens, fixed, fixable, fix_answer, fix_buffer, fixing_says}
@@ -34,7 +34,7 @@ promised e r says holds = record { says = rw e says; holds = rw e holds }
 pub too_long : (text buffer : List ℕ) → most_text < length text → FixPromised text buffer (refusal 1 (P.Text most_text) buffer)
 unfolding fixable
 too_long text buffer h =
-    let past : fixable text buffer ≡ refused 1 InText most_text = rw (lt-leb (length text) most_text h) in
+    let past : fixable text buffer ≡ refused 1 in_text most_text = rw (lt-leb (length text) most_text h) in
     promised past _ refl refl
 
 -- the result stands first in the scratch
@@ -76,7 +76,7 @@ module _ {text scratch : List ℕ} {n : ℕ} (f : Fixed text scratch n) (few : l
 
   pub no_room : length buffer < n → FixPromised text buffer (refusal 21 (P.Buffer (length buffer)) buffer)
   no_room h =
-      let past : lends (fixed text) buffer ≡ refused 21 inBuffer (length buffer) =
+      let past : lends (fixed text) buffer ≡ refused 21 in_buffer (length buffer) =
       rw (within_limit, lt-leb (length (fixed text)) (length buffer) (omega (arith, f.count)))
       in
       promised (lends_it past) _ refl refl

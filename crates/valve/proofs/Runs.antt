@@ -10,7 +10,7 @@ use borrow.Author.Tests.{eq-eqb, ne_eqb, le-leb, lt-leb}
 use Rattle.paper.specs.declared.Place.{Place}
 use Rattle.paper.specs.declared.Place.TheVariants as P
 use Rattle.paper.specs.declared.RunningAll.TheVariants as A
-use Rattle.paper.specs.Answers.{Answer, ok, refused, ◌>>=◌, Input, inEntry, input_of, offset_of, Ran}
+use Rattle.paper.specs.Answers.{Answer, ok, refused, ◌>>=◌, Input, in_entry, input_of, offset_of, Ran}
 use Rattle.paper.specs.Keys.{Key, keys}
 use Rattle.paper.specs.Entry.{Entry, entry_of}
 use Rattle.paper.specs.Loading.{program, loaded, run_along, left_true}
@@ -78,7 +78,7 @@ module _ (list blocks : List ℕ) where
           sym (behind ∙ ap (λ (x : Answer Entry). x >>= λ m. ok (ran_to (run_along (keys_in list) m (program blocks)))) (not_entered (keys_in list) entry f))
 
       -- 19
-      pub wrong_length : (size : ℕ) → size ≡ entry_size (keys_in list) → (length entry ≡ size → ⊥) → refused 19 inEntry (length entry) ≡ said
+      pub wrong_length : (size : ℕ) → size ≡ entry_size (keys_in list) → (length entry ≡ size → ⊥) → refused 19 in_entry (length entry) ≡ said
       unfolding entry_of
       wrong_length size is other =
           let wrong = ne_eqb (length entry) (entry_size (keys_in list)) (λ e. other (e ∙ sym is)) in

@@ -7,7 +7,7 @@ use borrow.Author.Tests.{le-leb, lt-leb}
 use Rattle.paper.specs.declared.Place.{Place}
 use Rattle.paper.specs.declared.Counted.{Counted}
 use Rattle.paper.specs.declared.Counted.TheVariants as S
-use Rattle.paper.specs.Answers.{Answer, ok, refused, ◌>>=◌, InText, input_of, offset_of}
+use Rattle.paper.specs.Answers.{Answer, ok, refused, ◌>>=◌, in_text, input_of, offset_of}
 use Rattle.paper.specs.Tokens.{most_text}
 use Rattle.paper.specs.Grammar as G
 use Rattle.paper.specs.Calls.{tree, Restriction, restriction, read_answer, check_answer}
@@ -16,7 +16,7 @@ use Rattle.reading.specs.Restricted.{Restricts}
 use Rattle.reading.proofs.Stages.{not_restricted, rooted}
 
 module _ (text : List ℕ) where
-  pub too_long : most_text < length text → refused 1 InText most_text ≡ read_answer text
+  pub too_long : most_text < length text → refused 1 in_text most_text ≡ read_answer text
   unfolding read_answer
   too_long h = rw (lt-leb (length text) most_text h)
 

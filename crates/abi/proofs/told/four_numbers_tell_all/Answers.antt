@@ -7,7 +7,7 @@ use mathlib.Core.Bool.{Bool, true, false}
 use mathlib.Core.List.{List}
 use lib.Dec.{eqb}
 use borrow.Author.Tests.{ne_eqb}
-use Rattle.paper.specs.Answers.{Answer, ok, refused, Input, InText, InList, inEntry, inBlocks, inBuffer, inContract, in_table, Ran, judgement_says}
+use Rattle.paper.specs.Answers.{Answer, ok, refused, Input, in_text, in_list, in_entry, in_blocks, in_buffer, in_contract, in_table, Ran, judgement_says}
 use Rattle.paper.specs.declared.Explanation.{Explanation}
 use Rattle.paper.specs.declared.Explanation.TheVariants as X
 use Rattle.paper.specs.Parts.{Stretch}
@@ -27,12 +27,12 @@ use Rattle.abi.proofs.told.four_numbers_tell_all.Goals as goal
 
 -- a refusal is read back whatever else an answer may say
 refusal_heard : {A : Type 0} (means : PolluxAnswer → A) (n : ℕ) (i : Input) (at : ℕ) → heard means (turned_away n i at) ≡ refused n i at
-refusal_heard means n InText at = refl
-refusal_heard means n InList at = refl
-refusal_heard means n inEntry at = refl
-refusal_heard means n inBlocks at = refl
-refusal_heard means n inBuffer at = refl
-refusal_heard means n inContract at = refl
+refusal_heard means n in_text at = refl
+refusal_heard means n in_list at = refl
+refusal_heard means n in_entry at = refl
+refusal_heard means n in_blocks at = refl
+refusal_heard means n in_buffer at = refl
+refusal_heard means n in_contract at = refl
 refusal_heard means n in_table at = refl
 
 -- and so is every answer, where what is said of a good one is

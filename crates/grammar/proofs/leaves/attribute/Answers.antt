@@ -4,7 +4,7 @@ use Rattle.paper.specs.Grammar as G
 use Rattle.tokens.specs.Tape.{tape_of}
 use Rattle.grammar.specs.Places.{place_on, word_on}
 use Rattle.grammar.specs.Reading.{start_of, is_name}
-use Rattle.grammar.proofs.Outcomes.{stuck_as, in_text}
+use Rattle.grammar.proofs.Outcomes.{stuck_as, in_text_lem}
 use Rattle.grammar.proofs.Atoms.{took_leaf, named_yes, named_no, name_here, name_kind, word_end, word_spells}
 use Rattle.grammar.proofs.leaves.attribute.Goals as goal
 
@@ -25,6 +25,6 @@ returns c =
     let yes : is_name T n name ≡ true = sym c.is_name.ensures ∙ c.if-not-is_name.false in
     let here = name_here T n name yes in
     let kind = name_kind T n name yes in
-    let stands = in_text c.requires.ready.sound name here in
+    let stands = in_text_lem c.requires.ready.sound name here in
     took_leaf (G.attribute (place_on T at) (place_on T name) (word_on T name)) (at + 2) (name + 1) (omega arith) (named_yes T n name yes _) refl
     (rw (word_end T n name kind stands) c.put_attribute.ensures) (word_spells T n name kind stands) (omega arith) (omega (arith, here))

@@ -4,7 +4,7 @@ use Rattle.paper.specs.Grammar as G
 use Rattle.tokens.specs.Tape.{tape_of, kind_at, literal_at}
 use Rattle.grammar.specs.Places.{place_on}
 use Rattle.grammar.specs.Reading.{start_of}
-use Rattle.grammar.proofs.Outcomes.{stuck_as, deep_as, took_as, same_out, in_text}
+use Rattle.grammar.proofs.Outcomes.{stuck_as, deep_as, took_as, same_out, in_text_lem}
 use Rattle.grammar.proofs.Atoms.{took_leaf, leaf_word, leaf_numeral, leaf_deep, leaf_colons, leaf_none, leaf_end}
 use Rattle.grammar.proofs.leaves.leaf.Goals as goal
 use Rattle.grammar.proofs.leaves.leaf.Goals.{in_default-via-then-kind-lt13, in_default-via-else-kind-lt13+else-kind-lt16}
@@ -49,4 +49,4 @@ returns-in_default c =
     stuck_as T from.count from.token _ c.place_at-in_default.result c.place_at-in_default.ensures
     (leaf_none T from.count from.token here (λ e. omega arith) (λ e. omega arith) (λ e. omega arith)
     (elim c.in_default.branch [ in_default-via-then-kind-lt13 w ↦ inl (omega arith) | in_default-via-else-kind-lt13+else-kind-lt16 w ↦ inr (omega arith) ])
-    (in_text c.requires.sound from.token here).known)
+    (in_text_lem c.requires.sound from.token here).known)

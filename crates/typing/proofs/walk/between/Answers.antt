@@ -4,7 +4,7 @@ use Prim.Native.Nat.{ℕ, ◌-◌}
 use mathlib.Core.Path.{◌≡◌, sym, ◌∙◌, ap, ap₂}
 use mathlib.Core.Bool.{true}
 use mathlib.Core.List.{List}
-use Rattle.paper.specs.Answers.{Answer, ok, refused, InText}
+use Rattle.paper.specs.Answers.{Answer, ok, refused, in_text}
 use Rattle.paper.specs.Grammar.{place_of}
 use Rattle.paper.specs.Types.{Ty, keeps_bits, operator_type}
 use Rattle.values.specs.Typed.{typing_meant}
@@ -70,8 +70,8 @@ suited : (c : goal.After-lost) → made_2 c ≡ ok (ty_in (code_2 c))
 suited c = sym (says_2 c) ∙ typed c
 
 -- refused at an operand's place
-at_operand : (m : goal.After-lost) (text : List ℕ) (i : ℕ) → ◌≡◌ {A = Answer Ty} (refused 23 InText (place_at (nodes_2 m) i)) (refused 23 InText (place_of (tree_at text (nodes_2 m) i)))
-at_operand m text i = ap (refused 23 InText) (sym (place_is text (nodes_2 m) i))
+at_operand : (m : goal.After-lost) (text : List ℕ) (i : ℕ) → ◌≡◌ {A = Answer Ty} (refused 23 in_text (place_at (nodes_2 m) i)) (refused 23 in_text (place_of (tree_at text (nodes_2 m) i)))
+at_operand m text i = ap (refused 23 in_text) (sym (place_is text (nodes_2 m) i))
 
 pub returns-then-not-kept : goal.returns-then-not-kept
 returns-then-not-kept c text =
@@ -107,8 +107,8 @@ suited_2 : (c : goal.After-lost-then-not-kept-2) → made_3 c ≡ ok (ty_in (cod
 suited_2 c = sym (says_3 c) ∙ typed_2 c
 
 -- refused at an operand's place
-at_operand_2 : (m : goal.After-lost-then-not-kept-2) (text : List ℕ) (i : ℕ) → ◌≡◌ {A = Answer Ty} (refused 23 InText (place_at (nodes_3 m) i)) (refused 23 InText (place_of (tree_at text (nodes_3 m) i)))
-at_operand_2 m text i = ap (refused 23 InText) (sym (place_is text (nodes_3 m) i))
+at_operand_2 : (m : goal.After-lost-then-not-kept-2) (text : List ℕ) (i : ℕ) → ◌≡◌ {A = Answer Ty} (refused 23 in_text (place_at (nodes_3 m) i)) (refused 23 in_text (place_of (tree_at text (nodes_3 m) i)))
+at_operand_2 m text i = ap (refused 23 in_text) (sym (place_is text (nodes_3 m) i))
 
 left_kept : (c : goal.After-lost-then-not-kept-2) (text : List ℕ)
     → keeps_bits (tree_at text (nodes_3 c) c.args.left) (ty_in c.args.b) ≡ true

@@ -280,7 +280,7 @@ static void tell_place(const uint8_t *address)
     printf("FAULT at %p, outside all inputs (the stack, if nothing else): ", (const void *)address);
 }
 
-/* The kit's emulator enters a handler with a stack that is 8 bytes off, which printf does not bear; hence the attribute. */
+/* An emulator may enter a handler with a stack that is 8 bytes off, which printf does not bear; hence the attribute. */
 __attribute__((force_align_arg_pointer)) static void on_fault(int signal, siginfo_t *what, void *context)
 {
     (void)signal;

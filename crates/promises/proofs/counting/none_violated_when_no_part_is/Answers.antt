@@ -1,5 +1,0 @@
-use Rattle.paper.proofs.CountedRight as Theorem
-use Rattle.promises.proofs.counting.none_violated_when_no_part_is.Goals as goal
-
-pub returns : goal.returns
-returns c = Theorem.none_violated_by_none

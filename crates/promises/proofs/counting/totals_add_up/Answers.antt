@@ -1,5 +1,0 @@
-use Rattle.paper.proofs.CountedRight as Theorem
-use Rattle.promises.proofs.counting.totals_add_up.Goals as goal
-
-pub returns : goal.returns
-returns c = Theorem.totals_add_up

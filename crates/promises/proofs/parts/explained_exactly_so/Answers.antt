@@ -1,5 +1,0 @@
-use Rattle.paper.proofs.ExplainedRight as Theorem
-use Rattle.promises.proofs.parts.explained_exactly_so.Goals as goal
-
-pub returns : goal.returns
-returns c = Theorem.explained_is_right

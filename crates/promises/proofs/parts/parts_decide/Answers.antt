@@ -1,5 +1,0 @@
-use Rattle.paper.proofs.PartsDecide as Theorem
-use Rattle.promises.proofs.parts.parts_decide.Goals as goal
-
-pub returns : goal.returns
-returns c = Theorem.parts_decide

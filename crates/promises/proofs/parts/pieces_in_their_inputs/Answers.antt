@@ -1,5 +1,0 @@
-use Rattle.paper.proofs.ExplainedRight as Theorem
-use Rattle.promises.proofs.parts.pieces_in_their_inputs.Goals as goal
-
-pub returns : goal.returns
-returns c = Theorem.pieces_in_inputs

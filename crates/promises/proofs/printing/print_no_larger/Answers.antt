@@ -1,5 +1,0 @@
-use Rattle.paper.proofs.PrintReadsBack as Theorem
-use Rattle.promises.proofs.printing.print_no_larger.Goals as goal
-
-pub returns : goal.returns
-returns c = Theorem.print_no_larger

@@ -1,5 +1,0 @@
-use Rattle.paper.proofs.PrintReadsBack as Theorem
-use Rattle.promises.proofs.printing.print_reads_back.Goals as goal
-
-pub returns : goal.returns
-returns c = Theorem.print_reads_back

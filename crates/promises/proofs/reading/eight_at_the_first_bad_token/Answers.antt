@@ -1,5 +1,0 @@
-use Rattle.paper.proofs.Refusals as Theorem
-use Rattle.promises.proofs.reading.eight_at_the_first_bad_token.Goals as goal
-
-pub returns : goal.returns
-returns c = Theorem.eight_is_first_bad

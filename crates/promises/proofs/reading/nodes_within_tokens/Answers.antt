@@ -1,5 +1,0 @@
-use Rattle.paper.proofs.Nodes as Theorem
-use Rattle.promises.proofs.reading.nodes_within_tokens.Goals as goal
-
-pub returns : goal.returns
-returns c = Theorem.nodes_within_tokens

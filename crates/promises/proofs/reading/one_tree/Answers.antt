@@ -1,5 +1,0 @@
-use Rattle.paper.proofs.Sentences as Theorem
-use Rattle.promises.proofs.reading.one_tree.Goals as goal
-
-pub returns : goal.returns
-returns c = Theorem.one_tree

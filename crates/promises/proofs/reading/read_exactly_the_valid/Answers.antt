@@ -1,5 +1,0 @@
-use Rattle.paper.proofs.Refusals as Theorem
-use Rattle.promises.proofs.reading.read_exactly_the_valid.Goals as goal
-
-pub returns : goal.returns
-returns c = Theorem.read_is_valid

@@ -1,5 +1,0 @@
-use Rattle.paper.proofs.Offsets as Theorem
-use Rattle.promises.proofs.reading.token_offsets_rise.Goals as goal
-
-pub returns : goal.returns
-returns c = Theorem.offsets_rise

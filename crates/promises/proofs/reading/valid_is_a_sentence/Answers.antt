@@ -1,5 +1,0 @@
-use Rattle.paper.proofs.Sentences as Theorem
-use Rattle.promises.proofs.reading.valid_is_a_sentence.Goals as goal
-
-pub returns : goal.returns
-returns c = Theorem.valid_is_sentence

@@ -1,0 +1,5 @@
+use Rattle.paper.proofs.ExplainedRight as Theorem
+use Rattle.promises.proofs.text_parts.explained_exactly_so.Goals as goal
+
+pub returns : goal.returns
+returns c = Theorem.explained_is_right

@@ -1,5 +1,0 @@
-use Rattle.paper.proofs.BlocksRoundTrip as Theorem
-use Rattle.promises.proofs.translating.blocks_read_back.Goals as goal
-
-pub returns : goal.returns
-returns c = Theorem.blocks_back

@@ -1,5 +1,0 @@
-use Rattle.paper.proofs.TranslationCorrect as Theorem
-use Rattle.promises.proofs.translating.checked_texts_translate.Goals as goal
-
-pub returns : goal.returns
-returns c = Theorem.checked_translates

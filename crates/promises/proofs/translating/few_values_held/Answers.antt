@@ -1,5 +1,0 @@
-use Rattle.paper.proofs.ValuesHeld as Theorem
-use Rattle.promises.proofs.translating.few_values_held.Goals as goal
-
-pub returns : goal.returns
-returns c = Theorem.few_held

@@ -1,5 +1,0 @@
-use Rattle.paper.proofs.InstructionsRoundTrip as Theorem
-use Rattle.promises.proofs.translating.parts_have_one_spelling.Goals as goal
-
-pub returns : goal.returns
-returns c = Theorem.parts_again

@@ -1,5 +1,0 @@
-use Rattle.paper.proofs.TranslationCorrect as Theorem
-use Rattle.promises.proofs.translating.refusals_change_nothing.Goals as goal
-
-pub returns : goal.returns
-returns c = Theorem.refused_unchanged

@@ -1,5 +1,0 @@
-use Rattle.paper.proofs.CodeLength as Theorem
-use Rattle.promises.proofs.translating.translation_fits.Goals as goal
-
-pub returns : goal.returns
-returns c = Theorem.code_fits

@@ -3,6 +3,7 @@
 use mathlib.Core.Path.{◌≡◌}
 use Rattle.paper.specs.Answers.{ok}
 use Rattle.paper.specs.Keys.{keys}
+use Rattle.paper.specs.declared.Checking.TheVariants.{Passed}
 use Rattle.keys.specs.Says.{keys_in}
 use Rattle.operands.specs.Conforming.{Conforming}
 use Rattle.counting.proofs.OneEntry.{conforming, one_refused, one_judged}
@@ -12,7 +13,8 @@ conforms : (c : goal.After-add_false-arg-1) → let a = c.args in keys a.list.no
     → Conforming a.list.now a.entry.now
 conforms c listed =
     let x = c.check_entry-entered in
-    conforming _ _ x.result x.ensures listed c.in-Passed.is
+    let passed : x.result ≡ Passed = cc in
+    conforming _ _ x.result x.ensures listed passed
 
 pub add_false-requires : goal.add_false-requires
 add_false-requires c =
@@ -29,7 +31,8 @@ conforms_2 : (c : goal.After-verdict) → let a = c.args in keys a.list.now ≡ 
     → Conforming a.list.now a.entry.now
 conforms_2 c listed =
     let x = c.check_entry-entered in
-    conforming _ _ x.result x.ensures listed c.in-Passed.is
+    let passed : x.result ≡ Passed = cc in
+    conforming _ _ x.result x.ensures listed passed
 
 pub returns-in-Passed : goal.returns-in-Passed
 returns-in-Passed c text p =

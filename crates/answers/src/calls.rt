@@ -6,6 +6,7 @@ ghost use Rattle.answers.specs.Calls.{after_call, written};
 
 use crate::{adler, changes, entries, framing, tables};
 use paper::{Explanation, Summarizing};
+use std::io;
 
 // The calls, by the first byte of a request.
 const READ: u8 = 1;
@@ -39,98 +40,119 @@ const COUNT: u8 = 14;
 const RUN_ALL: u8 = 15;
 
 // The sum of some bytes, after what a call answered.
-pub(crate) fn say_sum(bytes: &[u8]) {
-    lines::say(b" ");
-    lines::say_number(adler::adler_of(bytes));
+pub(crate) fn say_sum(rt: &impl Print, bytes: &[u8]) -> io::Result<()> {
+    lines::say(rt, b" ")?;
+    lines::say_number(rt, adler::adler_of(bytes))
 }
 
 // What broke for an entry, with the sum of the piece that is shown.
-fn explain(text: &[u8], list: &[u8], entry: &[u8]) {
+fn explain(rt: &impl Print, text: &[u8], list: &[u8], entry: &[u8]) -> io::Result<()> {
     let why = valve::reason(text, list, entry);
-    lines::say_explanation(why);
+    lines::say_explanation(rt, why)?;
     match why {
-        Explanation::Part(_, _, _, _) => say_sum(valve::text_piece(text, why)),
-        Explanation::Key(_, _, _) => say_sum(valve::list_piece(list, why)),
-        Explanation::Nothing(_) => {}
+        Explanation::Part(_, _, _, _) => say_sum(rt, valve::text_piece(text, why)),
+        Explanation::Key(_, _, _) => say_sum(rt, valve::list_piece(list, why)),
+        Explanation::Nothing(_) => Ok(()),
     }
 }
 
 // What a text names, with how many keys these are.
-fn summarize(text: &[u8], list: &[u8]) {
+fn summarize(rt: &impl Print, text: &[u8], list: &[u8]) -> io::Result<()> {
     let named = valve::summarize(text, list);
-    lines::say_summarizing(named);
+    lines::say_summarizing(rt, named)?;
     if let Summarizing::Summary(keys, _) = named {
-        lines::say(b" ");
-        lines::say_number(valve::count_keys(keys) as u64)
+        lines::say(rt, b" ")?;
+        lines::say_number(rt, valve::count_keys(keys) as u64)?
     }
+    Ok(())
 }
 
 // The entries by what the text says of each, and a number for each of its parts.
-fn count(text: &[u8], list: &[u8], entries: &[u8]) {
+fn count(rt: &impl Print, text: &[u8], list: &[u8], entries: &[u8]) -> io::Result<()> {
     let mut numbers = [0u64; parts::MOST_PARTS];
     let counting = valve::count(text, list, entries, &mut numbers);
-    lines::say_counting(counting, &numbers)
+    lines::say_counting(rt, counting, &numbers)
 }
 
 // A call that only reads.
-fn reading_call(call: u8, first: &[u8], second: &[u8], third: &[u8]) {
+fn reading_call(
+    rt: &impl Print,
+    call: u8,
+    first: &[u8],
+    second: &[u8],
+    third: &[u8],
+) -> io::Result<()> {
     match call {
-        READ => lines::say_reading(valve::read(first)),
-        CHECK => lines::say_checking(valve::check(first, second)),
-        JUDGE => lines::say_judgement(valve::judge(first, second, third)),
-        LOAD => lines::say_loading(valve::load(first, second)),
-        RUN => lines::say_running(valve::run(first, second, third)),
-        EXPLAIN => explain(first, second, third),
-        SUMMARIZE => summarize(first, second),
-        RECHECK => changes::recheck(first, second, third),
-        COMPARE => lines::say_agreement(valve::compare(first, second, third)),
-        COUNT => count(first, second, third),
-        RUN_ALL => entries::run_all(first, second, third),
-        _ => lines::say(b"unknown"),
+        READ => lines::say_reading(rt, valve::read(first)),
+        CHECK => lines::say_checking(rt, valve::check(first, second)),
+        JUDGE => lines::say_judgement(rt, valve::judge(first, second, third)),
+        LOAD => lines::say_loading(rt, valve::load(first, second)),
+        RUN => lines::say_running(rt, valve::run(first, second, third)),
+        EXPLAIN => explain(rt, first, second, third),
+        SUMMARIZE => summarize(rt, first, second),
+        RECHECK => changes::recheck(rt, first, second, third),
+        COMPARE => lines::say_agreement(rt, valve::compare(first, second, third)),
+        COUNT => count(rt, first, second, third),
+        RUN_ALL => entries::run_all(rt, first, second, third),
+        _ => lines::say(rt, b"unknown"),
     }
 }
 
 // A translation, a print or a pass over a text on file, with the sum of the whole buffer as it stands after it.
-fn translate(text: &[u8], list: &[u8], buffer: &mut [u8])
+fn translate(rt: &impl Print, text: &[u8], list: &[u8], buffer: &mut [u8]) -> io::Result<()>
     ensures { buffer.new ≡ translate_buffer text.now list.now buffer.old }
 {
-    lines::say_translation(valve::translate(text, list, buffer));
-    say_sum(buffer)
+    lines::say_translation(rt, valve::translate(text, list, buffer))?;
+    say_sum(rt, buffer)
 }
 
-fn print(text: &[u8], buffer: &mut [u8])
+fn print(rt: &impl Print, text: &[u8], buffer: &mut [u8]) -> io::Result<()>
     ensures { buffer.new ≡ print_buffer text.now buffer.old }
 {
-    lines::say_printing(valve::print(text, buffer));
-    say_sum(buffer)
+    lines::say_printing(rt, valve::print(text, buffer))?;
+    say_sum(rt, buffer)
 }
 
-fn fix_octal(text: &[u8], buffer: &mut [u8])
+fn fix_octal(rt: &impl Print, text: &[u8], buffer: &mut [u8]) -> io::Result<()>
     ensures { buffer.new ≡ fix_buffer text.now buffer.old }
 {
-    lines::say_fixing(valve::fix_octal(text, buffer));
-    say_sum(buffer)
+    lines::say_fixing(rt, valve::fix_octal(text, buffer))?;
+    say_sum(rt, buffer)
 }
 
 // A call that writes into the buffer.
-fn writing_call(call: u8, first: &[u8], second: &[u8], buffer: &mut [u8])
+fn writing_call(
+    rt: &impl Print,
+    call: u8,
+    first: &[u8],
+    second: &[u8],
+    buffer: &mut [u8],
+) -> io::Result<()>
     ensures { buffer.new ≡ written call first.now second.now buffer.old }
 {
     match call {
-        TRANSLATE => translate(first, second, buffer),
-        PRINT => print(first, buffer),
-        FIX_OCTAL => fix_octal(first, buffer),
-        PACT => tables::pact(first, second, buffer),
-        _ => reading_call(call, first, second, buffer),
+        TRANSLATE => translate(rt, first, second, buffer),
+        PRINT => print(rt, first, buffer),
+        FIX_OCTAL => fix_octal(rt, first, buffer),
+        PACT => tables::pact(rt, first, second, buffer),
+        _ => reading_call(rt, call, first, second, buffer),
     }
 }
 
 // Makes a call, and writes its answer as a line. The third input is the first n bytes of what is lent for it.
-pub(crate) fn answer(call: u8, first: &[u8], second: &[u8], third: &mut [u8], n: usize)
+pub(crate) fn answer(
+    rt: &impl Print,
+    call: u8,
+    first: &[u8],
+    second: &[u8],
+    third: &mut [u8],
+    n: usize,
+) -> io::Result<()>
     ensures { third.new ≡ after_call call first.now second.now third.old n }
 {
     if n <= third.len() {
-        writing_call(call, first, second, &mut third[..n]);
-        lines::say(b"\n")
+        writing_call(rt, call, first, second, &mut third[..n])?;
+        lines::say(rt, b"\n")?
     }
+    Ok(())
 }

@@ -6,6 +6,7 @@ ghost use Rattle.answers.specs.Changes.{earlier_answer};
 
 use paper::refused::ENTRY_RULE;
 use paper::{Judgement, Place};
+use std::io;
 
 const ACCEPTED: u8 = 1;
 
@@ -25,22 +26,22 @@ fn earlier_answer(byte: u8) -> Judgement
 }
 
 // Says that an input is shorter than what it is made of.
-pub(crate) fn malformed() {
-    lines::say(b"malformed")
+pub(crate) fn malformed(rt: &impl Print) -> io::Result<()> {
+    lines::say(rt, b"malformed")
 }
 
 // Rechecks the new entry, unless the change is shorter than what stands before the old entry, or than the old entry.
-pub(crate) fn recheck(text: &[u8], list: &[u8], change: &[u8]) {
+pub(crate) fn recheck(rt: &impl Print, text: &[u8], list: &[u8], change: &[u8]) -> io::Result<()> {
     if change.len() < HEAD {
-        return malformed();
+        return malformed(rt);
     }
     let size = number::word(change, 1) as usize;
     let entries = &change[HEAD..];
     if entries.len() < size {
-        return malformed();
+        return malformed(rt);
     }
     let old = lines::start(entries, size);
     let earlier = earlier_answer(change[0]);
     let new = &entries[size..];
-    lines::say_rechecking(valve::recheck(text, list, old, earlier, new))
+    lines::say_rechecking(rt, valve::recheck(text, list, old, earlier, new))
 }

@@ -20,48 +20,63 @@ mod tables;
 ghost use Rattle.std.specs.Prelude.{◌<◌, length};
 
 use crate::framing::Received;
-use libc::STDIN_FILENO;
+use files::read_full;
+use std::io;
+use std::io::Read;
+
+// No input is longer.
+const ROOM: usize = 65_536;
 
 // Whether another request may follow.
-fn request(first: &mut [u8], second: &mut [u8], third: &mut [u8]) -> bool
+fn request(
+    rt: &impl Print,
+    input: &mut impl Read,
+    first: &mut [u8],
+    second: &mut [u8],
+    third: &mut [u8],
+) -> io::Result<bool>
     requires { (0 < length first.old) × (0 < length second.old) × (0 < length third.old) }
 {
     let mut call = [0u8; 1];
-    if io::read_full(STDIN_FILENO, &mut call) == 0 {
-        return false;
+    if read_full(input, &mut call) == 0 {
+        return Ok(false);
     }
-    let a = framing::take_input(first);
-    let b = framing::take_input(second);
-    let c = framing::take_input(third);
+    let a = framing::take_input(input, first);
+    let b = framing::take_input(input, second);
+    let c = framing::take_input(input, third);
     if framing::is_cut(c) {
-        lines::say(b"cut\n");
-        return false;
+        lines::say(rt, b"cut\n")?;
+        return Ok(false);
     }
     let Received::Whole(x) = a else {
-        return framing::too_long();
+        return framing::too_long(rt);
     };
     let Received::Whole(y) = b else {
-        return framing::too_long();
+        return framing::too_long(rt);
     };
     let Received::Whole(z) = c else {
-        return framing::too_long();
+        return framing::too_long(rt);
     };
     calls::answer(
+        rt,
         call[0],
         lines::start(first, x),
         lines::start(second, y),
         third,
         z,
-    );
-    true
+    )?;
+    Ok(true)
 }
 
-fn main() {
-    let mut first = io::large_buffer();
-    let mut second = io::large_buffer();
-    let mut third = io::large_buffer();
-    let mut turns = u64::MAX;
-    while 0 < turns && request(&mut first, &mut second, &mut third) {
-        turns -= 1;
+fn main(rt: HostRuntime) -> io::Result<()> {
+    let mut input = rt.reader();
+    let mut first = [0u8; ROOM];
+    let mut second = [0u8; ROOM];
+    let mut third = [0u8; ROOM];
+    for _ in 0..u64::MAX {
+        if !request(&rt, &mut input, &mut first, &mut second, &mut third)? {
+            return Ok(());
+        }
     }
+    Ok(())
 }

@@ -6,6 +6,7 @@ ghost use Rattle.paper.specs.Drafting.{draft_buffer};
 ghost use Rattle.answers.specs.Tables.{drafted_from, after_draft};
 
 use crate::{calls, changes, framing};
+use std::io;
 
 // What stands before the numbers.
 const HEAD: usize = 2;
@@ -17,34 +18,52 @@ fn count_of(third: &[u8]) -> usize
     framing::wide(third[0]) * 256 + framing::wide(third[1])
 }
 
-fn draft(contract: &[u8], table: &[u64], names: &[u8], buffer: &mut [u8])
+fn draft(
+    rt: &impl Print,
+    contract: &[u8],
+    table: &[u64],
+    names: &[u8],
+    buffer: &mut [u8],
+) -> io::Result<()>
     ensures { buffer.new ≡ draft_buffer contract.now table.now names.now buffer.old }
 {
-    lines::say_drafting(valve::pact(contract, table, names, buffer));
-    calls::say_sum(buffer)
+    lines::say_drafting(rt, valve::pact(contract, table, names, buffer))?;
+    calls::say_sum(rt, buffer)
 }
 
 // Drafts into the buffer that begins at an offset.
-fn draft_behind(contract: &[u8], table: &[u64], names: &[u8], third: &mut [u8], end: usize)
+fn draft_behind(
+    rt: &impl Print,
+    contract: &[u8],
+    table: &[u64],
+    names: &[u8],
+    third: &mut [u8],
+    end: usize,
+) -> io::Result<()>
     requires { end ≤ length third.old }
     ensures { third.new ≡ drafted_from end contract.now table.now names.now third.old }
 {
-    draft(contract, table, names, &mut third[end..])
+    draft(rt, contract, table, names, &mut third[end..])
 }
 
 // Drafts into the buffer behind the table, unless the input is shorter than its table.
-pub(crate) fn pact(contract: &[u8], names: &[u8], third: &mut [u8])
+pub(crate) fn pact(
+    rt: &impl Print,
+    contract: &[u8],
+    names: &[u8],
+    third: &mut [u8],
+) -> io::Result<()>
     ensures { third.new ≡ after_draft contract.now names.now third.old }
 {
     if third.len() < HEAD {
-        return changes::malformed();
+        return changes::malformed(rt);
     }
     let count = count_of(third);
     let end = HEAD + lines::NUMBER * count;
     if third.len() < end {
-        return changes::malformed();
+        return changes::malformed(rt);
     }
     let n = lines::kept(count);
     let table = lines::numbers(third, HEAD, n);
-    draft_behind(contract, lines::first(&table, n), names, third, end)
+    draft_behind(rt, contract, lines::first(&table, n), names, third, end)
 }

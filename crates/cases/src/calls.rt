@@ -9,85 +9,100 @@ use blocks::Block;
 use paper::refused::ENTRY_RULE;
 use paper::{Drafting, Explanation, Fixing, Judgement, Place, Printing, Summarizing, Translation};
 use spelling::bytes::same_bytes;
+use std::io;
 
 // The blocks of instructions, for a list without keys.
-fn write_code(code: &[u8], room: &mut [u8]) {
+fn write_code(rt: &impl Print, code: &[u8], room: &mut [u8]) -> io::Result<()> {
     if room.len() / Block::SIZE < Block::needed(code.len() / Block::INSTRUCTION) {
-        return not_understood();
+        return not_understood(rt);
     }
-    blocks::write_blocks(code, 0, room)
+    blocks::write_blocks(code, 0, room);
+    Ok(())
 }
 
 // For its blocks alone a text is translated without a word, unless it is refused.
-fn say_translation(call: usize, translation: Translation) {
+fn say_translation(rt: &impl Print, call: usize, translation: Translation) -> io::Result<()> {
     if call == TRANSLATE {
-        return lines::say_translation(translation);
+        return lines::say_translation(rt, translation);
     }
     if let Translation::Refused(_, _) = translation {
-        lines::say_translation(translation)
+        lines::say_translation(rt, translation)?
     }
+    Ok(())
 }
 
 // The longest print, fixed text, text of a contract, piece of an input, or list of answers, that is shown.
 const SHOWN: usize = 100;
 
-fn show(bytes: &[u8]) {
+fn show(rt: &impl Print, bytes: &[u8]) -> io::Result<()> {
     if bytes.len() <= SHOWN {
-        lines::say(b": ");
-        lines::say(bytes)
+        lines::say(rt, b": ")?;
+        lines::say(rt, bytes)?
     }
+    Ok(())
 }
 
-fn say_print(printing: Printing, room: &[u8]) {
-    lines::say_printing(printing);
+fn say_print(rt: &impl Print, printing: Printing, room: &[u8]) -> io::Result<()> {
+    lines::say_printing(rt, printing)?;
     if let Printing::Printed(n) = printing {
-        show(lines::start(room, n))
+        show(rt, lines::start(room, n))?
     }
+    Ok(())
 }
 
-fn say_fixing(fixing: Fixing, room: &[u8]) {
-    lines::say_fixing(fixing);
+fn say_fixing(rt: &impl Print, fixing: Fixing, room: &[u8]) -> io::Result<()> {
+    lines::say_fixing(rt, fixing)?;
     if let Fixing::Fixed(n) = fixing {
-        show(lines::start(room, n))
+        show(rt, lines::start(room, n))?
     }
+    Ok(())
 }
 
-fn say_drafting(drafting: Drafting, room: &[u8]) {
-    lines::say_drafting(drafting);
+fn say_drafting(rt: &impl Print, drafting: Drafting, room: &[u8]) -> io::Result<()> {
+    lines::say_drafting(rt, drafting)?;
     if let Drafting::Drafted(n) = drafting {
-        show(lines::start(room, n))
+        show(rt, lines::start(room, n))?
     }
+    Ok(())
 }
 
 // The text of a contract, with the table that is given in bytes.
-fn draft(contract: &[u8], table: &[u8], names: &[u8], room: &mut [u8]) {
+fn draft(
+    rt: &impl Print,
+    contract: &[u8],
+    table: &[u8],
+    names: &[u8],
+    room: &mut [u8],
+) -> io::Result<()> {
     let n = lines::kept(table.len() / lines::NUMBER);
     let numbers = lines::numbers(table, 0, n);
     say_drafting(
+        rt,
         valve::pact(contract, lines::first(&numbers, n), names, room),
         room,
     )
 }
 
 // What broke for an entry, in numbers, and the piece itself as `explain` hands it back.
-fn explain(text: &[u8], list: &[u8], entry: &[u8]) {
+fn explain(rt: &impl Print, text: &[u8], list: &[u8], entry: &[u8]) -> io::Result<()> {
     let why = valve::reason(text, list, entry);
-    lines::say_explanation(why);
+    lines::say_explanation(rt, why)?;
     match why {
-        Explanation::Part(_, _, _, _) => show(valve::explained_text(text, list, entry)),
-        Explanation::Key(_, _, _) => show(valve::explained_list(text, list, entry)),
-        Explanation::Nothing(_) => {}
+        Explanation::Part(_, _, _, _) => show(rt, valve::explained_text(text, list, entry)),
+        Explanation::Key(_, _, _) => show(rt, valve::explained_list(text, list, entry)),
+        Explanation::Nothing(_) => Ok(()),
     }
 }
 
 // What a text names, and how many keys these are.
-fn summarize(text: &[u8], list: &[u8]) {
+fn summarize(rt: &impl Print, text: &[u8], list: &[u8]) -> io::Result<()> {
     let named = valve::summarize(text, list);
-    lines::say_summarizing(named);
+    lines::say_summarizing(rt, named)?;
     if let Summarizing::Summary(keys, _) = named {
-        lines::say(b" ");
-        lines::say_number(valve::count_keys(keys) as u64)
+        lines::say(rt, b" ")?;
+        lines::say_number(rt, valve::count_keys(keys) as u64)?
     }
+    Ok(())
 }
 
 // The earlier answer that a word tells; any other word tells a refusal.
@@ -102,72 +117,107 @@ fn earlier_answer(word: &[u8]) -> Judgement {
 }
 
 // The new entry against the old one that is given, with its earlier answer.
-fn recheck(file: &[u8], at: usize, text: &[u8], list: &[u8], new: &[u8]) {
-    let mut all = io::large_buffer();
-    let o = put_input(file, at, OLD, &mut all, 0);
-    let e = put_input(file, at, EARLIER, &mut all, o);
+fn recheck(
+    rt: &impl Print,
+    file: &[u8],
+    at: usize,
+    text: &[u8],
+    list: &[u8],
+    new: &[u8],
+) -> io::Result<()> {
+    let mut all = [0u8; 65536];
+    let o = put_input(rt, file, at, OLD, &mut all, 0)?;
+    let e = put_input(rt, file, at, EARLIER, &mut all, o)?;
     let earlier = earlier_answer(part(&all, o, e));
-    lines::say_rechecking(valve::recheck(text, list, part(&all, 0, o), earlier, new))
+    lines::say_rechecking(
+        rt,
+        valve::recheck(text, list, part(&all, 0, o), earlier, new),
+    )
 }
 
 // The entries that are given end to end, by what the text says of each.
-fn count(text: &[u8], list: &[u8], entries: &[u8]) {
+fn count(rt: &impl Print, text: &[u8], list: &[u8], entries: &[u8]) -> io::Result<()> {
     let mut numbers = [0u64; parts::MOST_PARTS];
     let counting = valve::count(text, list, entries, &mut numbers);
-    lines::say_counting(counting, &numbers)
+    lines::say_counting(rt, counting, &numbers)
 }
 
 // The answers of many entries, two hexadecimal digits each.
-fn show_answers(answers: &[u8]) {
+fn show_answers(rt: &impl Print, answers: &[u8]) -> io::Result<()> {
     if SHOWN < answers.len() {
-        return;
+        return Ok(());
     }
-    lines::say(b":");
-    let mut i = 0;
-    while i < answers.len() {
-        lines::say(b" ");
-        lines::say_hex(answers[i]);
-        i += 1;
+    lines::say(rt, b":")?;
+    for answer in answers {
+        lines::say(rt, b" ")?;
+        lines::say_hex(rt, *answer)?;
     }
+    Ok(())
 }
 
-fn judge_all(list: &[u8], blocks: &[u8], entries: &[u8], answers: &mut [u8]) {
-    lines::say_running_all(valve::run_all(list, blocks, entries, answers));
-    show_answers(answers)
+fn judge_all(
+    rt: &impl Print,
+    list: &[u8],
+    blocks: &[u8],
+    entries: &[u8],
+    answers: &mut [u8],
+) -> io::Result<()> {
+    lines::say_running_all(rt, valve::run_all(list, blocks, entries, answers))?;
+    show_answers(rt, answers)
 }
 
 // The entries that are given end to end, by what the blocks say of each, into the bytes that are given for answers.
-fn run_all(file: &[u8], at: usize, list: &[u8], blocks: &[u8], entries: &[u8]) {
-    let mut answers = io::large_buffer();
-    let n = put_input(file, at, ANSWERS, &mut answers, 0);
+fn run_all(
+    rt: &impl Print,
+    file: &[u8],
+    at: usize,
+    list: &[u8],
+    blocks: &[u8],
+    entries: &[u8],
+) -> io::Result<()> {
+    let mut answers = [0u8; 65536];
+    let n = put_input(rt, file, at, ANSWERS, &mut answers, 0)?;
     if n <= answers.len() {
-        return judge_all(list, blocks, entries, &mut answers[..n]);
+        return judge_all(rt, list, blocks, entries, &mut answers[..n]);
     }
-    not_understood()
+    not_understood(rt)
 }
 
 // The calls that write into the room.
-fn write(call: usize, text: &[u8], list: &[u8], room: &mut [u8]) {
+fn write(
+    rt: &impl Print,
+    call: usize,
+    text: &[u8],
+    list: &[u8],
+    room: &mut [u8],
+) -> io::Result<()> {
     match call {
-        CODE => write_code(text, room),
-        PRINT => say_print(valve::print(text, room), room),
-        FIX_OCTAL => say_fixing(valve::fix_octal(text, room), room),
-        _ => say_translation(call, valve::translate(text, list, room)),
+        CODE => write_code(rt, text, room),
+        PRINT => say_print(rt, valve::print(text, room), room),
+        FIX_OCTAL => say_fixing(rt, valve::fix_octal(text, room), room),
+        _ => say_translation(rt, call, valve::translate(text, list, room)),
     }
 }
 
 // Those that only read.
-fn answer(call: usize, text: &[u8], list: &[u8], entry: &[u8], room: &[u8]) {
+fn answer(
+    rt: &impl Print,
+    call: usize,
+    text: &[u8],
+    list: &[u8],
+    entry: &[u8],
+    room: &[u8],
+) -> io::Result<()> {
     match call {
-        READ => lines::say_reading(valve::read(text)),
-        CHECK => lines::say_checking(valve::check(text, list)),
-        JUDGE => lines::say_judgement(valve::judge(text, list, entry)),
-        EXPLAIN => explain(text, list, entry),
-        SUMMARIZE => summarize(text, list),
-        COMPARE => lines::say_agreement(valve::compare(text, list, room)),
-        COUNT => count(text, list, entry),
-        LOAD => lines::say_loading(valve::load(list, room)),
-        _ => lines::say_running(valve::run(list, room, entry)),
+        READ => lines::say_reading(rt, valve::read(text)),
+        CHECK => lines::say_checking(rt, valve::check(text, list)),
+        JUDGE => lines::say_judgement(rt, valve::judge(text, list, entry)),
+        EXPLAIN => explain(rt, text, list, entry),
+        SUMMARIZE => summarize(rt, text, list),
+        COMPARE => lines::say_agreement(rt, valve::compare(text, list, room)),
+        COUNT => count(rt, text, list, entry),
+        LOAD => lines::say_loading(rt, valve::load(list, room)),
+        _ => lines::say_running(rt, valve::run(list, room, entry)),
     }
 }
 
@@ -181,33 +231,45 @@ fn first_input(call: usize) -> usize {
 }
 
 // A contract, with the names and the table that are given.
-pub(crate) fn pact(contract: &[u8], file: &[u8], at: usize, room: &mut [u8]) {
-    let mut all = io::large_buffer();
-    let l = put_input(file, at, LIST, &mut all, 0);
-    let t = put_input(file, at, TABLE, &mut all, l);
-    draft(contract, part(&all, l, t), part(&all, 0, l), room)
+pub(crate) fn pact(
+    rt: &impl Print,
+    contract: &[u8],
+    file: &[u8],
+    at: usize,
+    room: &mut [u8],
+) -> io::Result<()> {
+    let mut all = [0u8; 65536];
+    let l = put_input(rt, file, at, LIST, &mut all, 0)?;
+    let t = put_input(rt, file, at, TABLE, &mut all, l)?;
+    draft(rt, contract, part(&all, l, t), part(&all, 0, l), room)
 }
 
 // Makes the call of the line at an offset, on the inputs that are given there.
-pub(crate) fn make(call: usize, file: &[u8], at: usize, room: &mut [u8]) {
-    let mut all = io::large_buffer();
-    let t = put_input(file, at, first_input(call), &mut all, 0);
-    let l = put_input(file, at, LIST, &mut all, t);
-    let e = put_input(file, at, ENTRY, &mut all, l);
+pub(crate) fn make(
+    rt: &impl Print,
+    call: usize,
+    file: &[u8],
+    at: usize,
+    room: &mut [u8],
+) -> io::Result<()> {
+    let mut all = [0u8; 65536];
+    let t = put_input(rt, file, at, first_input(call), &mut all, 0)?;
+    let l = put_input(rt, file, at, LIST, &mut all, t)?;
+    let e = put_input(rt, file, at, ENTRY, &mut all, l)?;
     let text = part(&all, 0, t);
     let list = part(&all, t, l);
     if call == PACT {
-        return pact(text, file, at, room);
+        return pact(rt, text, file, at, room);
     }
     if call <= FIX_OCTAL {
-        return write(call, text, list, room);
+        return write(rt, call, text, list, room);
     }
     let entry = part(&all, l, e);
     if call == RECHECK {
-        return recheck(file, at, text, list, entry);
+        return recheck(rt, file, at, text, list, entry);
     }
     if call == RUN_ALL {
-        return run_all(file, at, list, room, entry);
+        return run_all(rt, file, at, list, room, entry);
     }
-    answer(call, text, list, entry, room)
+    answer(rt, call, text, list, entry, room)
 }

@@ -8,21 +8,25 @@ use crate::names::{
 };
 use crate::scan::{byte_at, not_understood, part, rest_of, scan};
 use crate::words::{number, put_words};
+use std::io;
 
-fn title(name: &[u8]) {
-    lines::say(name);
-    lines::say(b"\n")
+fn title(rt: &impl Print, name: &[u8]) -> io::Result<()> {
+    lines::say(rt, name)?;
+    lines::say(rt, b"\n")
 }
 
 // Changes bytes of the room: their offset, and words.
-fn change(rest: &[u8], room: &mut [u8]) {
-    put_words(rest, scan(rest, 0, b' '), room, number(rest, 0));
+fn change(rt: &impl Print, rest: &[u8], room: &mut [u8]) -> io::Result<()> {
+    let to = number(rt, rest, 0)?;
+    put_words(rt, rest, scan(rest, 0, b' '), room, to)?;
+    Ok(())
 }
 
 // Prints so many bytes of the room as they stand.
-fn show(rest: &[u8], room: &[u8]) {
-    lines::say(lines::start(room, number(rest, 0)));
-    lines::say(b"\n")
+fn show(rt: &impl Print, rest: &[u8], room: &[u8]) -> io::Result<()> {
+    let n = number(rt, rest, 0)?;
+    lines::say(rt, lines::start(room, n))?;
+    lines::say(rt, b"\n")
 }
 
 fn put_byte(room: &mut [u8], at: usize, byte: u8) {
@@ -32,77 +36,79 @@ fn put_byte(room: &mut [u8], at: usize, byte: u8) {
 }
 
 // Makes the call of a contract for each of the 256 bytes that may stand at an offset of it: the offset, and words.
-fn every(file: &[u8], at: usize, room: &mut [u8])
+fn every(rt: &impl Print, file: &[u8], at: usize, room: &mut [u8]) -> io::Result<()>
     requires { at ≤ length file.now }
 {
-    let mut contract = io::large_buffer();
+    let mut contract = [0u8; 65536];
     let rest = rest_of(file, at);
-    let place = number(rest, 0);
-    let end = put_words(rest, scan(rest, 0, b' '), &mut contract, 0);
+    let place = number(rt, rest, 0)?;
+    let end = put_words(rt, rest, scan(rest, 0, b' '), &mut contract, 0)?;
     for byte in 0..=255u8 {
         put_byte(&mut contract, place, byte);
-        lines::say_hex(byte);
-        lines::say(b": ");
-        calls::pact(lines::start(&contract, end), file, at, room);
-        lines::say(b"\n")
+        lines::say_hex(rt, byte)?;
+        lines::say(rt, b": ")?;
+        calls::pact(rt, lines::start(&contract, end), file, at, room)?;
+        lines::say(rt, b"\n")?
     }
+    Ok(())
 }
 
-fn case(command: usize, file: &[u8], at: usize, room: &mut [u8])
+fn case(rt: &impl Print, command: usize, file: &[u8], at: usize, room: &mut [u8]) -> io::Result<()>
     requires { at ≤ length file.now }
 {
-    lines::say(rest_of(file, at));
-    lines::say(b": ");
-    calls::make(command, file, at, room);
-    lines::say(b"\n")
+    lines::say(rt, rest_of(file, at))?;
+    lines::say(rt, b": ")?;
+    calls::make(rt, command, file, at, room)?;
+    lines::say(rt, b"\n")
 }
 
 // A line that is no comment, and does not go on with the line above.
-fn unknown(file: &[u8], at: usize)
+fn unknown(rt: &impl Print, file: &[u8], at: usize) -> io::Result<()>
     requires { at ≤ length file.now }
 {
     match byte_at(file, at) {
-        b'\n' | b' ' | b'#' => {}
+        b'\n' | b' ' | b'#' => Ok(()),
         _ => {
-            lines::say(part(file, at, scan(file, at, b'\n')));
-            not_understood()
+            lines::say(rt, part(file, at, scan(file, at, b'\n')))?;
+            not_understood(rt)
         }
     }
 }
 
-fn act(command: usize, file: &[u8], at: usize, room: &mut [u8])
+fn act(rt: &impl Print, command: usize, file: &[u8], at: usize, room: &mut [u8]) -> io::Result<()>
     requires { at ≤ length file.now }
 {
     match command {
-        TEXT..=ROOM => {}
-        TITLE => title(rest_of(file, at)),
-        CHANGE => change(rest_of(file, at), room),
-        SHOW => show(rest_of(file, at), room),
-        EVERY => every(file, at, room),
-        CODE..=BLOCKS => calls::make(command, file, at, room),
-        TRANSLATE..=RUN_ALL => case(command, file, at, room),
-        _ => unknown(file, at),
+        TEXT..=ROOM => Ok(()),
+        TITLE => title(rt, rest_of(file, at)),
+        CHANGE => change(rt, rest_of(file, at), room),
+        SHOW => show(rt, rest_of(file, at), room),
+        EVERY => every(rt, file, at, room),
+        CODE..=BLOCKS => calls::make(rt, command, file, at, room),
+        TRANSLATE..=RUN_ALL => case(rt, command, file, at, room),
+        _ => unknown(rt, file, at),
     }
 }
 
 // A step is lent the first bytes of the room.
-fn step(file: &[u8], at: usize, room: &mut [u8])
+fn step(rt: &impl Print, file: &[u8], at: usize, room: &mut [u8]) -> io::Result<()>
     requires { at ≤ length file.now }
 {
     let command = command_at(file, at);
-    let n = number(rest_of(file, last(file, at, ROOM)), 0);
+    let n = number(rt, rest_of(file, last(file, at, ROOM)), 0)?;
     if n <= room.len() {
-        return act(command, file, at, &mut room[..n]);
+        return act(rt, command, file, at, &mut room[..n]);
     }
-    not_understood()
+    not_understood(rt)
 }
 
 // Goes through a file of cases, line by line.
-pub(crate) fn run(file: &[u8]) {
-    let mut room = io::large_buffer();
+pub(crate) fn run(rt: &impl Print, file: &[u8]) -> io::Result<()> {
+    let mut room = [0u8; 65536];
     let mut at = 0;
     while at < file.len() {
-        step(file, at, &mut room);
+        step(rt, file, at, &mut room)?;
         at = scan(file, at, b'\n') + 1;
     }
+    Ok(())
 }

@@ -1,11 +1,12 @@
 // The inputs of a call: each is what the last line of its kind gives.
-ghost use Rattle.std.specs.Prelude.{◌≤◌, ◌≡◌, cond, length};
+ghost use Rattle.std.specs.Prelude.{◌≤◌, ◌≡◌, cond, length, IfOk};
 ghost use Rattle.cases.specs.Inputs.{input_at, last_line, input_bytes};
 ghost use Rattle.cases.specs.Words.{Put};
 
 use crate::names::{TEXT, command_at};
 use crate::scan::{byte_at, scan};
 use crate::words::{put, put_words};
+use std::io;
 
 // Which input a line gives: a text after a colon, or that of its name.
 fn input_at(file: &[u8], at: usize) -> usize
@@ -42,12 +43,19 @@ pub(crate) fn last(file: &[u8], to: usize, input: usize) -> usize
 }
 
 // Puts an input into a room: what stands after a colon as it is, or the bytes of words.
-pub(crate) fn put_input(file: &[u8], at: usize, input: usize, room: &mut [u8], to: usize) -> usize
-    ensures { Put room.old to (input_bytes file.now at input) room.new result }
+pub(crate) fn put_input(
+    rt: &impl Print,
+    file: &[u8],
+    at: usize,
+    input: usize,
+    room: &mut [u8],
+    to: usize,
+) -> io::Result<usize>
+    ensures { IfOk result (λ end. Put room.old to (input_bytes file.now at input) room.new end) }
 {
     let end = scan(file, last(file, at, input), b':');
     if byte_at(file, end) == b':' {
-        return put(file, end + 2, scan(file, end, b'\n'), 1, room, to);
+        return put(rt, file, end + 2, scan(file, end, b'\n'), 1, room, to);
     }
-    put_words(file, end, room, to)
+    put_words(rt, file, end, room, to)
 }

@@ -9,16 +9,17 @@ mod names;
 mod scan;
 mod words;
 
-use libc::STDIN_FILENO;
+use files::read_full;
+use std::io;
 
 // Room for the file, which has fewer bytes.
 const FILE: usize = 131_072;
 
-fn main() {
+fn main(rt: HostRuntime) -> io::Result<()> {
     let mut file = [0u8; FILE];
-    let n = io::read_full(STDIN_FILENO, &mut file);
+    let n = read_full(&mut rt.reader(), &mut file);
     if n == file.len() {
-        scan::not_understood();
+        scan::not_understood(&rt)?;
     }
-    commands::run(lines::start(&file, n));
+    commands::run(&rt, lines::start(&file, n))
 }

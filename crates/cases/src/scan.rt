@@ -3,6 +3,8 @@ ghost use Rattle.std.specs.Prelude.{◌≤◌, ◌≡◌, length};
 ghost use Rattle.paper.specs.Numbers.{byte_at};
 ghost use Rattle.cases.specs.Places.{StopsAt, part_of, rest_of};
 
+use std::io;
+
 // The byte at an offset, and 0 past the end.
 pub(crate) fn byte_at(s: &[u8], at: usize) -> u8
     ensures { result ≡ byte_at s.now at }
@@ -53,6 +55,6 @@ pub(crate) fn rest_of(file: &[u8], at: usize) -> &[u8]
 }
 
 // Written after a line that is no command, and where a case has a number or bytes that are none, or more than there is room for.
-pub(crate) fn not_understood() {
-    lines::say(b" not understood\n")
+pub(crate) fn not_understood(rt: &impl Print) -> io::Result<()> {
+    lines::say(rt, b" not understood\n")
 }

@@ -2,10 +2,12 @@
 // cannot be read. The programs for people share this.
 #![tactic(auto)]
 
+mod arguments;
 mod reading;
 mod say;
 mod sizes;
 
-pub use reading::{File, at_end, read_argument};
+pub use arguments::{MOST_PATH, TOO_LONG, argument, argument_count, name_too_long};
+pub use reading::{File, at_end, not_at_end, open_read, path_text, read_argument, read_full};
 pub use say::{cannot, cannot_read};
 pub use sizes::{true_offset, whole_entries};

@@ -13,21 +13,21 @@ mod tables;
 
 ghost use Rattle.std.specs.Prelude.{◌≡◌, ◌-◌, ◌<◌, take};
 
-use libc::STDOUT_FILENO;
 use paper::{
     Agreement, Checking, Counting, Drafting, Explanation, Fixing, Judgement, Loading, Place,
     Printing, Reading, Rechecking, Running, RunningAll, Summarizing, Translation,
 };
+use std::io;
 pub use tables::{KEPT, NUMBER, first, kept, numbers};
 
 // Writes bytes as they are.
-pub fn say(s: &[u8]) {
-    io::write_all(STDOUT_FILENO, s);
+pub fn say(rt: &impl Print, s: &[u8]) -> io::Result<()> {
+    rt.write_all(s)
 }
 
 // Writes a number in decimal.
-pub fn say_number(n: u64) {
-    io::print_decimal(STDOUT_FILENO, n);
+pub fn say_number(rt: &impl Print, n: u64) -> io::Result<()> {
+    rt.print(n)
 }
 
 fn hex_digit(n: u8) -> u8
@@ -37,122 +37,122 @@ fn hex_digit(n: u8) -> u8
 }
 
 // Writes a byte as two hexadecimal digits.
-pub fn say_hex(byte: u8) {
+pub fn say_hex(rt: &impl Print, byte: u8) -> io::Result<()> {
     let digits = [hex_digit(byte / 16), hex_digit(byte % 16)];
-    say(&digits)
+    say(rt, &digits)
 }
 
-fn say_count(what: &[u8], n: usize) {
-    say(what);
-    say_number(n as u64);
+fn say_count(rt: &impl Print, what: &[u8], n: usize) -> io::Result<()> {
+    say(rt, what)?;
+    say_number(rt, n as u64)
 }
 
-fn say_refused(number: u8, place: Place) {
-    say(b"refused ");
-    say_number(number as u64);
+fn say_refused(rt: &impl Print, number: u8, place: Place) -> io::Result<()> {
+    say(rt, b"refused ")?;
+    say_number(rt, number as u64)?;
     match place {
-        Place::Text(at) => say_count(b" text ", at),
-        Place::List(at) => say_count(b" list ", at),
-        Place::Entry(at) => say_count(b" entry ", at),
-        Place::Blocks(at) => say_count(b" blocks ", at),
-        Place::Buffer(at) => say_count(b" buffer ", at),
-        Place::Contract(at) => say_count(b" contract ", at),
-        Place::Table(at) => say_count(b" table ", at),
+        Place::Text(at) => say_count(rt, b" text ", at),
+        Place::List(at) => say_count(rt, b" list ", at),
+        Place::Entry(at) => say_count(rt, b" entry ", at),
+        Place::Blocks(at) => say_count(rt, b" blocks ", at),
+        Place::Buffer(at) => say_count(rt, b" buffer ", at),
+        Place::Contract(at) => say_count(rt, b" contract ", at),
+        Place::Table(at) => say_count(rt, b" table ", at),
     }
 }
 
 // Writes what `read` answered.
-pub fn say_reading(reading: Reading) {
+pub fn say_reading(rt: &impl Print, reading: Reading) -> io::Result<()> {
     match reading {
-        Reading::Read(n) => say_count(b"read ", n),
-        Reading::Refused(number, place) => say_refused(number, place),
+        Reading::Read(n) => say_count(rt, b"read ", n),
+        Reading::Refused(number, place) => say_refused(rt, number, place),
     }
 }
 
 // Writes what `check` answered.
-pub fn say_checking(checking: Checking) {
+pub fn say_checking(rt: &impl Print, checking: Checking) -> io::Result<()> {
     match checking {
-        Checking::Passed => say(b"passed"),
-        Checking::Refused(number, place) => say_refused(number, place),
+        Checking::Passed => say(rt, b"passed"),
+        Checking::Refused(number, place) => say_refused(rt, number, place),
     }
 }
 
 // Writes what `judge` answered.
-pub fn say_judgement(judgement: Judgement) {
+pub fn say_judgement(rt: &impl Print, judgement: Judgement) -> io::Result<()> {
     match judgement {
-        Judgement::Accepted => say(b"accepted"),
-        Judgement::Violated => say(b"violated"),
-        Judgement::Refused(number, place) => say_refused(number, place),
+        Judgement::Accepted => say(rt, b"accepted"),
+        Judgement::Violated => say(rt, b"violated"),
+        Judgement::Refused(number, place) => say_refused(rt, number, place),
     }
 }
 
 // Writes what `translate` answered.
-pub fn say_translation(translation: Translation) {
+pub fn say_translation(rt: &impl Print, translation: Translation) -> io::Result<()> {
     match translation {
-        Translation::Written(n) => say_count(b"translated ", n),
-        Translation::Refused(number, place) => say_refused(number, place),
+        Translation::Written(n) => say_count(rt, b"translated ", n),
+        Translation::Refused(number, place) => say_refused(rt, number, place),
     }
 }
 
 // Writes what `load` answered.
-pub fn say_loading(loading: Loading) {
+pub fn say_loading(rt: &impl Print, loading: Loading) -> io::Result<()> {
     match loading {
-        Loading::Loaded(n) => say_count(b"loaded ", n),
-        Loading::Refused(number, place) => say_refused(number, place),
+        Loading::Loaded(n) => say_count(rt, b"loaded ", n),
+        Loading::Refused(number, place) => say_refused(rt, number, place),
     }
 }
 
 // Writes what `run` answered, with the steps that it took.
-pub fn say_running(running: Running) {
+pub fn say_running(rt: &impl Print, running: Running) -> io::Result<()> {
     match running {
-        Running::Accepted(steps) => say_count(b"accepted ", steps),
-        Running::Violated(steps) => say_count(b"violated ", steps),
-        Running::Refused(number, place) => say_refused(number, place),
+        Running::Accepted(steps) => say_count(rt, b"accepted ", steps),
+        Running::Violated(steps) => say_count(rt, b"violated ", steps),
+        Running::Refused(number, place) => say_refused(rt, number, place),
     }
 }
 
 // Writes what `run_all` answered: how many entries there are, and the steps of all of them.
-pub fn say_running_all(running: RunningAll) {
+pub fn say_running_all(rt: &impl Print, running: RunningAll) -> io::Result<()> {
     match running {
         RunningAll::Ran(entries, steps) => {
-            say_count(b"ran ", entries);
-            say(b" ");
-            say_number(steps)
+            say_count(rt, b"ran ", entries)?;
+            say(rt, b" ")?;
+            say_number(rt, steps)
         }
-        RunningAll::Refused(number, place) => say_refused(number, place),
+        RunningAll::Refused(number, place) => say_refused(rt, number, place),
     }
 }
 
 // Writes what `print` answered.
-pub fn say_printing(printing: Printing) {
+pub fn say_printing(rt: &impl Print, printing: Printing) -> io::Result<()> {
     match printing {
-        Printing::Printed(n) => say_count(b"printed ", n),
-        Printing::Refused(number, place) => say_refused(number, place),
+        Printing::Printed(n) => say_count(rt, b"printed ", n),
+        Printing::Refused(number, place) => say_refused(rt, number, place),
     }
 }
 
 // Writes what `fix_octal` answered.
-pub fn say_fixing(fixing: Fixing) {
+pub fn say_fixing(rt: &impl Print, fixing: Fixing) -> io::Result<()> {
     match fixing {
-        Fixing::Fixed(n) => say_count(b"fixed ", n),
-        Fixing::Refused(number, place) => say_refused(number, place),
+        Fixing::Fixed(n) => say_count(rt, b"fixed ", n),
+        Fixing::Refused(number, place) => say_refused(rt, number, place),
     }
 }
 
 // Writes what `pact` answered.
-pub fn say_drafting(drafting: Drafting) {
+pub fn say_drafting(rt: &impl Print, drafting: Drafting) -> io::Result<()> {
     match drafting {
-        Drafting::Drafted(n) => say_count(b"drafted ", n),
-        Drafting::Refused(number, place) => say_refused(number, place),
+        Drafting::Drafted(n) => say_count(rt, b"drafted ", n),
+        Drafting::Refused(number, place) => say_refused(rt, number, place),
     }
 }
 
 // Writes what `compare` answered.
-pub fn say_agreement(agreement: Agreement) {
+pub fn say_agreement(rt: &impl Print, agreement: Agreement) -> io::Result<()> {
     match agreement {
-        Agreement::Agrees => say(b"agrees"),
-        Agreement::Differs => say(b"differs"),
-        Agreement::Refused(number, place) => say_refused(number, place),
+        Agreement::Agrees => say(rt, b"agrees"),
+        Agreement::Differs => say(rt, b"differs"),
+        Agreement::Refused(number, place) => say_refused(rt, number, place),
     }
 }
 
@@ -164,80 +164,87 @@ fn length_of(from: usize, to: usize) -> usize
 }
 
 // Where something stands, and the start and length of its stretch.
-fn say_stretch(place: usize, from: usize, to: usize) {
-    say_count(b" at ", place);
-    say_count(b" ", from);
-    say_count(b" ", length_of(from, to));
+fn say_stretch(rt: &impl Print, place: usize, from: usize, to: usize) -> io::Result<()> {
+    say_count(rt, b" at ", place)?;
+    say_count(rt, b" ", from)?;
+    say_count(rt, b" ", length_of(from, to))
 }
 
 // Writes what `reason` answered: a part of the text, a key of the list, or nothing and the judgement.
-pub fn say_explanation(why: Explanation) {
+pub fn say_explanation(rt: &impl Print, why: Explanation) -> io::Result<()> {
     match why {
         Explanation::Part(number, place, from, to) => {
-            say_count(b"part ", number);
-            say_stretch(place, from, to)
+            say_count(rt, b"part ", number)?;
+            say_stretch(rt, place, from, to)
         }
         Explanation::Key(place, from, to) => {
-            say(b"key");
-            say_stretch(place, from, to)
+            say(rt, b"key")?;
+            say_stretch(rt, place, from, to)
         }
         Explanation::Nothing(judgement) => {
-            say(b"nothing ");
-            say_judgement(judgement)
+            say(rt, b"nothing ")?;
+            say_judgement(rt, judgement)
         }
     }
 }
 
-fn say_mark(marked: bool) {
-    if marked { say(b" 1") } else { say(b" 0") }
+fn say_mark(rt: &impl Print, marked: bool) -> io::Result<()> {
+    if marked {
+        say(rt, b" 1")
+    } else {
+        say(rt, b" 0")
+    }
 }
 
 // Writes what `summarize` answered: the set of the keys that are named as a number, and 1 where ::priority is, else 0.
-pub fn say_summarizing(summarizing: Summarizing) {
+pub fn say_summarizing(rt: &impl Print, summarizing: Summarizing) -> io::Result<()> {
     match summarizing {
         Summarizing::Summary(keys, priority) => {
-            say(b"summary ");
-            say_number(keys as u64);
-            say_mark(priority)
+            say(rt, b"summary ")?;
+            say_number(rt, keys as u64)?;
+            say_mark(rt, priority)
         }
-        Summarizing::Refused(number, place) => say_refused(number, place),
+        Summarizing::Refused(number, place) => say_refused(rt, number, place),
     }
 }
 
 // Writes what `recheck` answered.
-pub fn say_rechecking(rechecking: Rechecking) {
+pub fn say_rechecking(rt: &impl Print, rechecking: Rechecking) -> io::Result<()> {
     match rechecking {
         Rechecking::Reused(judgement) => {
-            say(b"reused ");
-            say_judgement(judgement)
+            say(rt, b"reused ")?;
+            say_judgement(rt, judgement)
         }
         Rechecking::Judged(judgement) => {
-            say(b"judged ");
-            say_judgement(judgement)
+            say(rt, b"judged ")?;
+            say_judgement(rt, judgement)
         }
     }
 }
 
 // Writes numbers, each after a blank.
-fn say_each(numbers: &[u64]) {
-    let mut i = 0;
-    while i < numbers.len() {
-        say(b" ");
-        say_number(numbers[i]);
-        i += 1;
+fn say_each(rt: &impl Print, numbers: &[u64]) -> io::Result<()> {
+    for n in numbers {
+        say(rt, b" ")?;
+        say_number(rt, *n)?;
     }
+    Ok(())
 }
 
 // Writes what `count` answered, with the numbers of the parts, which are the first of those that were lent.
-pub fn say_counting(counting: Counting, numbers: &[u64; parts::MOST_PARTS]) {
+pub fn say_counting(
+    rt: &impl Print,
+    counting: Counting,
+    numbers: &[u64; parts::MOST_PARTS],
+) -> io::Result<()> {
     match counting {
         Counting::Counted(n, accepted, violated, refused, cut) => {
             let totals = [accepted, violated, refused, cut as u64];
-            say(b"counted");
-            say_each(&totals);
-            say_each(first(numbers, n))
+            say(rt, b"counted")?;
+            say_each(rt, &totals)?;
+            say_each(rt, first(numbers, n))
         }
-        Counting::Refused(number, place) => say_refused(number, place),
+        Counting::Refused(number, place) => say_refused(rt, number, place),
     }
 }
 

@@ -16,8 +16,13 @@ mod tables;
 mod writing;
 
 use calls::{Call, answer, fix_octal, print};
+use files::{argument, argument_count};
 use pacts::pact;
 use spelling::bytes::same_bytes;
+use std::env::Env;
+use std::io;
+use std::io::IsTerminal;
+use std::rt::Files;
 
 // Where a count finds its files among the arguments.
 const FIRST: usize = 2;
@@ -26,8 +31,9 @@ const SECOND: usize = 3;
 
 const THIRD: usize = 4;
 
-fn usage() {
+fn usage(rt: &impl Print) -> io::Result<()> {
     lines::say(
+        rt,
         b"usage: pollux check TEXT KEYS
        pollux print TEXT
        pollux fix-octal TEXT OUT
@@ -46,67 +52,75 @@ fn usage() {
 }
 
 // A call of one file.
-fn with_one(call: &[u8]) {
+fn with_one(rt: &(impl Files + Env + Print + Eprint), call: &[u8]) -> io::Result<()> {
     if same_bytes(call, b"print") {
-        print()
+        print(rt)
     } else {
-        usage()
+        usage(rt)
     }
 }
 
 // A call of two files.
-fn with_two(call: &[u8]) {
+fn with_two(rt: &(impl Files + Env + Print + Eprint), call: &[u8]) -> io::Result<()> {
     if same_bytes(call, b"check") {
-        answer(Call::Check)
+        answer(rt, Call::Check)
     } else if same_bytes(call, b"summary") {
-        answer(Call::Summary)
+        answer(rt, Call::Summary)
     } else if same_bytes(call, b"fix-octal") {
-        fix_octal()
+        fix_octal(rt)
     } else if same_bytes(call, b"load") {
-        answer(Call::Load)
+        answer(rt, Call::Load)
     } else {
-        usage()
+        usage(rt)
     }
 }
 
-// A call of three.
-fn with_three(call: &[u8]) {
+// A call of three. A long count shows how far it has come where somebody watches.
+fn with_three(
+    rt: &(impl Files + Env + Print + Eprint),
+    watched: bool,
+    call: &[u8],
+) -> io::Result<()> {
     if same_bytes(call, b"translate") {
-        answer(Call::Translate)
+        answer(rt, Call::Translate)
     } else if same_bytes(call, b"compare") {
-        answer(Call::Compare)
+        answer(rt, Call::Compare)
     } else if same_bytes(call, b"judge") {
-        answer(Call::Judge)
+        answer(rt, Call::Judge)
     } else if same_bytes(call, b"explain") {
-        answer(Call::Explain)
+        answer(rt, Call::Explain)
     } else if same_bytes(call, b"run") {
-        answer(Call::Run)
+        answer(rt, Call::Run)
     } else if same_bytes(call, b"count") {
-        report::count_files(FIRST, SECOND, THIRD)
+        report::count_files(rt, watched, FIRST, SECOND, THIRD)
     } else {
-        usage()
+        usage(rt)
     }
 }
 
 // A call of four.
-fn with_four(call: &[u8]) {
+fn with_four(rt: &(impl Files + Env + Print + Eprint), call: &[u8]) -> io::Result<()> {
     if same_bytes(call, b"recheck") {
-        answer(Call::Recheck)
+        answer(rt, Call::Recheck)
     } else if same_bytes(call, b"pact") {
-        pact()
+        pact(rt)
     } else {
-        usage()
+        usage(rt)
     }
 }
 
-fn main() {
-    let mut call = [0u8; 16];
-    let n = os::arg(1, &mut call);
-    match os::arg_count() {
-        3 => with_one(&call[..n]),
-        4 => with_two(&call[..n]),
-        5 => with_three(&call[..n]),
-        6 => with_four(&call[..n]),
-        _ => usage(),
+fn main(rt: HostRuntime) -> io::Result<()> {
+    let mut room = [0u8; 16];
+    // No call has a longer name.
+    let call = match argument(&rt, 1, &mut room) {
+        Ok(n) => &room[..n],
+        Err(_) => b"",
+    };
+    match argument_count(&rt) {
+        3 => with_one(&rt, call),
+        4 => with_two(&rt, call),
+        5 => with_three(&rt, rt.stderr().is_terminal(), call),
+        6 => with_four(&rt, call),
+        _ => usage(&rt),
     }
 }

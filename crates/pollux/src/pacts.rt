@@ -5,6 +5,9 @@ use files::{read_argument, true_offset};
 use keys::KeyRecord;
 use lines::{say, start};
 use paper::{Drafting, Place, refused};
+use std::env::Env;
+use std::io;
+use std::rt::Files;
 use wording::caret;
 use wording::contracts::say_why;
 use wording::reasons::say_reason;
@@ -19,102 +22,129 @@ const NAMES: usize = 4;
 
 const OUT: usize = 5;
 
-fn drafted(text: &[u8]) {
-    if write_argument(OUT, text) {
-        say_count(b"drafted # byte: ", b"drafted # bytes: ", text.len());
-        say_argument(OUT);
-        say(b"\n")
+fn drafted(rt: &(impl Files + Env + Print + Eprint), text: &[u8]) -> io::Result<()> {
+    if write_argument(rt, OUT, text)? {
+        say_count(rt, b"drafted # byte: ", b"drafted # bytes: ", text.len())?;
+        say_argument(rt, OUT)?;
+        say(rt, b"\n")?
     }
+    Ok(())
 }
 
-fn refused_names(number: u8, at: usize, held: usize, size: usize) {
+fn refused_names(
+    rt: &impl Print,
+    number: u8,
+    at: usize,
+    held: usize,
+    size: usize,
+) -> io::Result<()> {
     say_two(
+        rt,
         b"refused #: key list, byte #: ",
         number as usize,
         true_offset(at, held, size),
-    );
+    )?;
     if number == refused::KEY_LAYOUT {
         say(
+            rt,
             b"a key record that breaks its layout, is not exact, is not 64 bits wide, or is a 17th\n",
         )
     } else {
-        say_reason(number, false)
+        say_reason(rt, number, false)
     }
 }
 
-fn refused_text(number: u8, at: usize) {
-    say_two(b"refused #: text, byte #: ", number as usize, at);
-    say(b"the text has more than 4,096 bytes, 1,024 tokens or 64 levels\n")
+fn refused_text(rt: &impl Print, number: u8, at: usize) -> io::Result<()> {
+    say_two(rt, b"refused #: text, byte #: ", number as usize, at)?;
+    say(
+        rt,
+        b"the text has more than 4,096 bytes, 1,024 tokens or 64 levels\n",
+    )
 }
 
 // `size` is that of the file of names, of which the first bytes are held.
-fn draft(contract: &[u8], table: &[u64], names: &[u8], size: usize) {
+fn draft(
+    rt: &(impl Files + Env + Print + Eprint),
+    contract: &[u8],
+    table: &[u64],
+    names: &[u8],
+    size: usize,
+) -> io::Result<()> {
     let mut buffer = [0u8; 4096];
     match valve::pact(contract, table, names, &mut buffer) {
-        Drafting::Drafted(n) => drafted(start(&buffer, n)),
+        Drafting::Drafted(n) => drafted(rt, start(&buffer, n)),
         Drafting::Refused(number, place) => match place {
             Place::Contract(at) => {
-                say_two(b"refused #: contract, byte #: ", number as usize, at);
-                say_why(contract, at, names.len() / KeyRecord::SIZE, table.len())
+                say_two(rt, b"refused #: contract, byte #: ", number as usize, at)?;
+                say_why(rt, contract, at, names.len() / KeyRecord::SIZE, table.len())
             }
             Place::Table(at) => {
-                say_two(b"refused #: table, number #: ", number as usize, at);
-                say(b"a 17th user number, and a table has at most 16\n")
+                say_two(rt, b"refused #: table, number #: ", number as usize, at)?;
+                say(rt, b"a 17th user number, and a table has at most 16\n")
             }
-            Place::List(at) => refused_names(number, at, names.len(), size),
-            Place::Buffer(at) => refused_text(number, at),
-            _ => {}
+            Place::List(at) => refused_names(rt, number, at, names.len(), size),
+            Place::Buffer(at) => refused_text(rt, number, at),
+            _ => Ok(()),
         },
     }
 }
 
-fn too_long(i: usize) {
-    say(b"cannot read ");
-    say_argument(i);
-    say(b": it has more than 65,536 bytes\n")
+fn too_long(rt: &(impl Env + Print), i: usize) -> io::Result<()> {
+    say(rt, b"cannot read ")?;
+    say_argument(rt, i)?;
+    say(rt, b": it has more than 65,536 bytes\n")
 }
 
-fn wrong_line(text: &[u8], at: usize) {
-    say(b"cannot read ");
-    say_argument(TABLE);
-    say(b": a line that is no decimal number below 2^64\n");
-    caret::show(text, at, at)
+fn wrong_line(rt: &(impl Env + Print), text: &[u8], at: usize) -> io::Result<()> {
+    say(rt, b"cannot read ")?;
+    say_argument(rt, TABLE)?;
+    say(rt, b": a line that is no decimal number below 2^64\n")?;
+    caret::show(rt, text, at, at)
 }
 
 // With the names, once the numbers are known.
-fn with_names(contract: &[u8], table: &[u64]) {
-    let mut room = io::large_buffer();
-    let names = read_argument(NAMES, &mut room);
+fn with_names(
+    rt: &(impl Files + Env + Print + Eprint),
+    contract: &[u8],
+    table: &[u64],
+) -> io::Result<()> {
+    let mut room = [0u8; 65536];
+    let names = read_argument(rt, NAMES, &mut room)?;
     if names.read {
-        draft(contract, table, start(&room, names.held), names.size)
+        draft(rt, contract, table, start(&room, names.held), names.size)?
     }
+    Ok(())
 }
 
-fn with_table(contract: &[u8], text: &[u8]) {
+fn with_table(
+    rt: &(impl Files + Env + Print + Eprint),
+    contract: &[u8],
+    text: &[u8],
+) -> io::Result<()> {
     let mut table = [0u64; lines::KEPT];
     match read_table(text, &mut table) {
-        Found::Numbers(n) => with_names(contract, lines::first(&table, n)),
-        Found::Wrong(at) => wrong_line(text, at),
+        Found::Numbers(n) => with_names(rt, contract, lines::first(&table, n)),
+        Found::Wrong(at) => wrong_line(rt, text, at),
     }
 }
 
 // Reads CONTRACT, TABLE and KEYS, and writes the text to OUT. No text can say what a contract of more than 65,536 bytes says.
-pub(crate) fn pact() {
-    let mut first = io::large_buffer();
-    let mut second = io::large_buffer();
-    let contract = read_argument(CONTRACT, &mut first);
+pub(crate) fn pact(rt: &(impl Files + Env + Print + Eprint)) -> io::Result<()> {
+    let mut first = [0u8; 65536];
+    let mut second = [0u8; 65536];
+    let contract = read_argument(rt, CONTRACT, &mut first)?;
     if !contract.read {
-        return;
+        return Ok(());
     }
     if contract.held < contract.size {
-        return too_long(CONTRACT);
+        return too_long(rt, CONTRACT);
     }
-    let table = read_argument(TABLE, &mut second);
+    let table = read_argument(rt, TABLE, &mut second)?;
     if !table.read {
-        return;
+        return Ok(());
     }
     if table.held < table.size {
-        return too_long(TABLE);
+        return too_long(rt, TABLE);
     }
-    with_table(start(&first, contract.held), start(&second, table.held))
+    with_table(rt, start(&first, contract.held), start(&second, table.held))
 }

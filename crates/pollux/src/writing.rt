@@ -1,121 +1,175 @@
 // A file that is written whole or not at all: its bytes go to a file beside it, OUT.part, which takes its name once they are all there.
 // A link or a device must stay what it is, so what a link leads to, and a device, is written in place.
-ghost use Rattle.libc.specs.Io.{Ended};
-
-use libc::PATH_MAX;
+use files::{MOST_PATH, TOO_LONG, argument, name_too_long, path_text};
 use lines::start;
+use std::env::Env;
+use std::fs::{OpenFile, OpenOptions};
+use std::io::{Error, ErrorKind, Seek, SeekFrom, Write};
+use std::rt::Files;
+use std::{fs, io};
 use wording::say::{cannot_write, cannot_write_by};
 
 // The longest path that leaves room for ".part" and for C's 0 after it.
-const LONGEST: usize = PATH_MAX - 6;
+const LONGEST: usize = MOST_PATH - 6;
 
-// Only a link has a text, the path that it leads to.
-fn is_link(path: &[u8; PATH_MAX]) -> bool
-    requires { Ended path.now }
-{
-    let mut byte = [0u8; 1];
-    0 <= libc::readlink(path, &mut byte)
+fn is_link(rt: &impl Files, path: &str) -> bool {
+    match fs::symlink_metadata(rt, path) {
+        Ok(found) => found.is_symlink(),
+        Err(_) => false,
+    }
 }
 
 // Only a regular file can be cut to a length, here to the one that it has.
-fn is_regular(fd: i32) -> bool {
-    libc::ftruncate(fd, libc::lseek(fd, 0, libc::SEEK_END)) == 0
+fn is_regular(file: &mut (impl Seek + OpenFile)) -> bool {
+    match file.seek(SeekFrom::End(0)) {
+        Ok(end) => file.set_len(end).is_ok(),
+        Err(_) => false,
+    }
 }
 
-fn close(fd: i32, path: &[u8]) -> bool {
-    let closed = 0 <= libc::close(fd);
-    if !closed {
-        cannot_write(path);
-    }
-    closed
-}
-
-fn write_in_place(fd: i32, path: &[u8], bytes: &[u8]) -> bool {
-    if io::write_all(fd, bytes) {
-        return close(fd, path);
-    }
-    cannot_write(path);
-    // Rather nothing than half of it. A device cannot be cut, nor need it.
-    libc::ftruncate(fd, 0);
-    libc::close(fd);
-    false
-}
-
-fn write_link(path: &[u8], bytes: &[u8]) -> bool {
-    let fd = os::open_overwrite(path);
-    if fd < 0 {
-        cannot_write(path);
-        return false;
-    }
-    write_in_place(fd, path, bytes)
+fn unwritten(rt: &(impl Print + Eprint), path: &[u8], reason: Error) -> io::Result<bool> {
+    cannot_write(rt, path, reason)?;
+    Ok(false)
 }
 
 // Only what is on the disk is sure to have had room there.
-fn store(fd: i32, bytes: &[u8]) -> bool {
-    let mut stored = io::write_all(fd, bytes);
-    if stored {
-        stored = 0 <= libc::fsync(fd);
-    }
-    (0 <= libc::close(fd)) & stored
+fn store(file: &mut (impl Write + OpenFile), bytes: &[u8]) -> io::Result<()> {
+    file.write_all(bytes)?;
+    file.sync_all()
 }
 
-fn replace(path: &[u8], part: &[u8], bytes: &[u8]) -> bool {
-    let fd = os::create(part);
-    if fd < 0 {
-        cannot_write_by(path, part);
-        return false;
+// A device has no disk.
+fn put(file: &mut (impl Write + Seek + OpenFile), bytes: &[u8]) -> io::Result<()> {
+    if is_regular(file) {
+        return store(file, bytes);
     }
-    if store(fd, bytes) {
-        if 0 <= os::rename(part, path) {
-            return true;
+    file.write_all(bytes)
+}
+
+fn write_in_place(
+    rt: &(impl Print + Eprint),
+    file: &mut (impl Write + Seek + OpenFile),
+    path: &str,
+    bytes: &[u8],
+) -> io::Result<bool> {
+    match put(file, bytes) {
+        Ok(()) => Ok(true),
+        Err(reason) => {
+            // Rather nothing than half of it. A device cannot be cut, nor need it.
+            let _ = file.set_len(0);
+            unwritten(rt, path.as_bytes(), reason)
         }
     }
-    cannot_write(path);
-    os::unlink(part);
-    false
 }
 
-// The first n bytes of `part` are the path. A file that may not be written may not be replaced either, so it is opened first.
-fn write_or_replace(part: &[u8], n: usize, bytes: &[u8]) -> bool {
-    let path = start(part, n);
-    let fd = os::open_append(path);
-    if fd < 0 {
-        if os::errno() == libc::ENOENT {
-            return replace(path, part, bytes);
+fn write_link(rt: &(impl Files + Print + Eprint), path: &str, bytes: &[u8]) -> io::Result<bool> {
+    match fs::create(rt, path) {
+        Ok(mut file) => write_in_place(rt, &mut file, path, bytes),
+        Err(reason) => unwritten(rt, path.as_bytes(), reason),
+    }
+}
+
+// Stores the bytes in a file beside another, which is closed then, and gives it the other's name.
+fn store_beside(
+    rt: &impl Files,
+    path: &str,
+    part: &str,
+    file: impl Write + OpenFile + Drop,
+    bytes: &[u8],
+) -> io::Result<()> {
+    let mut file = file;
+    store(&mut file, bytes)?;
+    drop(file);
+    fs::rename(rt, part, path)
+}
+
+fn replace(
+    rt: &(impl Files + Print + Eprint),
+    path: &str,
+    part: &str,
+    bytes: &[u8],
+) -> io::Result<bool> {
+    let file = match OpenOptions::new()
+        .write(true)
+        .create_new(true)
+        .open(rt, part)
+    {
+        Ok(file) => file,
+        Err(reason) => {
+            cannot_write_by(rt, path.as_bytes(), part.as_bytes(), reason)?;
+            return Ok(false);
         }
-        cannot_write(path);
-        return false;
+    };
+    match store_beside(rt, path, part, file, bytes) {
+        Ok(()) => Ok(true),
+        Err(reason) => {
+            let _ = fs::remove_file(rt, part);
+            unwritten(rt, path.as_bytes(), reason)
+        }
     }
-    if is_regular(fd) {
-        libc::close(fd);
-        return replace(path, part, bytes);
-    }
-    write_in_place(fd, path, bytes)
 }
 
-fn too_long() -> bool {
-    cannot_write(b"a path that is too long");
-    false
+// A file that may not be written may not be replaced either, so it is opened first.
+fn write_or_replace(
+    rt: &(impl Files + Print + Eprint),
+    path: &str,
+    part: &str,
+    bytes: &[u8],
+) -> io::Result<bool> {
+    match OpenOptions::new().append(true).open(rt, path) {
+        Ok(mut file) => {
+            if !is_regular(&mut file) {
+                return write_in_place(rt, &mut file, path, bytes);
+            }
+        }
+        Err(reason) => {
+            if reason.kind() != ErrorKind::NotFound {
+                return unwritten(rt, path.as_bytes(), reason);
+            }
+        }
+    }
+    replace(rt, path, part, bytes)
+}
+
+// By the file's path and the path beside it, which is text where the first is.
+fn write_file(
+    rt: &(impl Files + Print + Eprint),
+    path: &[u8],
+    part: &[u8],
+    bytes: &[u8],
+) -> io::Result<bool> {
+    let name = match path_text(path) {
+        Ok(name) => name,
+        Err(reason) => return unwritten(rt, path, reason),
+    };
+    let beside = match path_text(part) {
+        Ok(beside) => beside,
+        Err(reason) => return unwritten(rt, path, reason),
+    };
+    if is_link(rt, name) {
+        return write_link(rt, name, bytes);
+    }
+    write_or_replace(rt, name, beside, bytes)
 }
 
 // Writes the file that an argument names, or says why it cannot.
-pub(crate) fn write_argument(i: usize, bytes: &[u8]) -> bool {
-    let mut path = io::buffer();
-    let n = os::arg(i, &mut path);
-    if os::errno() != 0 {
-        return too_long();
-    }
+pub(crate) fn write_argument(
+    rt: &(impl Files + Env + Print + Eprint),
+    i: usize,
+    bytes: &[u8],
+) -> io::Result<bool> {
+    let mut path = [0u8; MOST_PATH];
+    let n = match argument(rt, i, &mut path) {
+        Ok(n) => n,
+        Err(reason) => return unwritten(rt, TOO_LONG, reason),
+    };
     if LONGEST < n {
-        return too_long();
-    }
-    path[PATH_MAX - 1] = 0;
-    if is_link(&path) {
-        return write_link(start(&path, n), bytes);
+        return unwritten(rt, TOO_LONG, name_too_long());
     }
     path[n] = b'.';
     path[n + 1] = b'p';
     path[n + 2] = b'a';
     path[n + 3] = b'r';
     path[n + 4] = b't';
-    write_or_replace(start(&path, n + 5), n, bytes)
+    write_file(rt, start(&path, n), start(&path, n + 5), bytes)
 }

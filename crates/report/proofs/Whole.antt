@@ -1,7 +1,7 @@
 -- A file that is counted a stretch at a time is counted as a whole: where whole entries were counted, the numbers of what comes next are added
 -- (`reaches_more`), from none on (`reaches_none`); at the end they are the answer to a call with all of it (`answered`), which is 25 where there
 -- are too many (`too_many`).
-use Prim.Native.Nat.{ℕ, ◌+◌, ◌*◌, ◌^◌, ◌≤◌, ◌<◌}
+use Prim.Native.Nat.{ℕ, ◌+◌, ◌*◌, ◌≤◌, ◌<◌}
 use native.Mathlib.Nat.{zero-div, zero-mod}
 use native.Mathlib.Omega.{arith}
 use mathlib.Core.Path.{◌≡◌, refl, sym, ap, ◌∙◌}

@@ -1,31 +1,26 @@
-// How far a long count has come, for who watches: on standard error, if that is a terminal.
-use libc::STDERR_FILENO;
+// How far a long count has come, for who watches: on standard error, if that is a terminal. What it takes is only shown, so the count goes on
+// where it takes nothing.
+use std::io;
 
 // Told again after so many entries.
 const STEP: usize = 10_000;
 
-fn watched() -> bool {
-    libc::isatty(STDERR_FILENO) == 1
-}
-
-fn write(entries: usize) {
-    io::write_all(STDERR_FILENO, b"\rcounted ");
-    io::print_decimal(STDERR_FILENO, entries as u64);
-    io::write_all(STDERR_FILENO, b" entries");
+fn write(rt: &impl Eprint, entries: usize) -> io::Result<()> {
+    eprint!(rt; "\rcounted {entries} entries")
 }
 
 // So many entries are counted, and so many were before.
-pub(crate) fn show(before: usize, entries: usize) {
+pub(crate) fn show(rt: &impl Eprint, watched: bool, before: usize, entries: usize) {
     if before / STEP < entries / STEP {
-        if watched() {
-            write(entries)
+        if watched {
+            let _ = write(rt, entries);
         }
     }
 }
 
 // Leaves an empty line for what is said.
-pub(crate) fn clear() {
-    if watched() {
-        io::write_all(STDERR_FILENO, b"\r                        \r");
+pub(crate) fn clear(rt: &impl Eprint, watched: bool) {
+    if watched {
+        let _ = eprint!(rt; "\r                        \r");
     }
 }

@@ -5,47 +5,50 @@ use files::{File, true_offset};
 use lines::{first, say, say_number};
 use paper::refused::ENTRIES_MANY;
 use paper::{Counting, Place};
+use std::io;
 
-fn say_line(word: &[u8], n: u64) {
-    say(word);
-    say_number(n);
-    say(b"\n")
+fn say_line(rt: &impl Print, word: &[u8], n: u64) -> io::Result<()> {
+    say(rt, word)?;
+    say_number(rt, n)?;
+    say(rt, b"\n")
 }
 
 // A part, by its index, and on how many entries it is false.
-fn say_part(k: usize, n: u64)
+fn say_part(rt: &impl Print, k: usize, n: u64) -> io::Result<()>
     requires { k < 2 ^ 63 }
 {
-    say(b"part ");
-    say_number((k + 1) as u64);
-    say_line(b" ", n)
+    say(rt, b"part ")?;
+    say_number(rt, (k + 1) as u64)?;
+    say_line(rt, b" ", n)
 }
 
-fn say_parts(counts: &[u64]) {
+fn say_parts(rt: &impl Print, counts: &[u64]) -> io::Result<()> {
     let mut k = 0;
     while k < counts.len() {
-        say_part(k, counts[k]);
+        say_part(rt, k, counts[k])?;
         k += 1;
     }
+    Ok(())
 }
 
-fn say_cut(cut: usize) {
+fn say_cut(rt: &impl Print, cut: usize) -> io::Result<()> {
     if 0 < cut {
-        say_line(b"cut ", cut as u64)
+        return say_line(rt, b"cut ", cut as u64);
     }
+    Ok(())
 }
 
 // What a file is counted as. Its own refusal is that of too many entries, which is told by its number alone.
-pub(crate) fn say_counting(counting: Counting, counts: &[u64]) {
+pub(crate) fn say_counting(rt: &impl Print, counting: Counting, counts: &[u64]) -> io::Result<()> {
     match counting {
         Counting::Counted(n, accepted, violated, refused, cut) => {
-            say_parts(first(counts, n));
-            say_line(b"accepted ", accepted);
-            say_line(b"violated ", violated);
-            say_line(b"refused ", refused);
-            say_cut(cut)
+            say_parts(rt, first(counts, n))?;
+            say_line(rt, b"accepted ", accepted)?;
+            say_line(rt, b"violated ", violated)?;
+            say_line(rt, b"refused ", refused)?;
+            say_cut(rt, cut)
         }
-        Counting::Refused(_, _) => say_line(b"refusal ", ENTRIES_MANY as u64),
+        Counting::Refused(_, _) => say_line(rt, b"refusal ", ENTRIES_MANY as u64),
     }
 }
 
@@ -59,8 +62,14 @@ fn offset(place: Place, text: File, list: File) -> usize {
 }
 
 // A text or a list is refused.
-pub(crate) fn say_refusal(number: u8, place: Place, text: File, list: File) {
-    say(b"refusal ");
-    say_number(number as u64);
-    say_line(b" ", offset(place, text, list) as u64)
+pub(crate) fn say_refusal(
+    rt: &impl Print,
+    number: u8,
+    place: Place,
+    text: File,
+    list: File,
+) -> io::Result<()> {
+    say(rt, b"refusal ")?;
+    say_number(rt, number as u64)?;
+    say_line(rt, b" ", offset(place, text, list) as u64)
 }

@@ -7,9 +7,11 @@ ghost use Rattle.report.specs.Reports.{Reports};
 
 use crate::course::{Course, add_held};
 use crate::progress;
+use files::read_full;
 use lines::start;
 use paper::refused::ENTRIES_MANY;
 use paper::{Counting, Place};
+use std::io::Read;
 
 // The most entries that are counted.
 const MOST_ENTRIES: usize = 1_000_000;
@@ -17,11 +19,13 @@ const MOST_ENTRIES: usize = 1_000_000;
 // Counts what a file has left. The part holds whole entries, at least one, so each turn that fills it takes one of those that may come, and
 // the turns are enough.
 pub(crate) fn count_turns(
+    rt: &impl Eprint,
+    watched: bool,
     list: &[u8],
     nodes: &[u32],
     rows: &[u32],
     n: usize,
-    fd: i32,
+    file: &mut impl Read,
     part: &mut [u8],
     counts: &mut [u64],
 ) -> Counting
@@ -36,13 +40,13 @@ pub(crate) fn count_turns(
     let mut course = Course::none();
     let mut turns: usize = MOST_ENTRIES + 1;
     while 0 < turns {
-        let got = io::read_full(fd, part);
+        let got = read_full(file, part);
         if MOST_ENTRIES - course.whole < got / size {
             return Counting::Refused(ENTRIES_MANY, Place::Entry(MOST_ENTRIES * size));
         }
         let before = course.whole;
         course = add_held(list, nodes, rows, n, start(part, got), counts, course);
-        progress::show(before, course.whole);
+        progress::show(rt, watched, before, course.whole);
         if got == part.len() {
             turns -= 1;
         } else {

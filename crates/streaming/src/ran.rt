@@ -1,5 +1,5 @@
 // Entries by blocks, all that are held at a time: a line for each, and the steps of all.
-ghost use Rattle.std.specs.Prelude.{◌≡◌, ◌+◌, ◌<◌, ◌≤◌, length};
+ghost use Rattle.std.specs.Prelude.{◌≡◌, ◌+◌, ◌<◌, ◌≤◌, length, IfOk};
 ghost use Rattle.paper.specs.Answers.{judgement_says};
 ghost use Rattle.paper.specs.Numbers.{byte_at};
 ghost use Rattle.paper.specs.Promised.{judgement_of_run};
@@ -13,6 +13,7 @@ use crate::tally::{Tally, Totals};
 use keys::entry_size;
 use machine::{ACCEPTED, VIOLATED};
 use paper::{Judgement, Running, RunningAll};
+use std::io;
 use wording::broken::say_judgement;
 
 // The judgement of a run, its steps aside.
@@ -45,9 +46,16 @@ fn judgement_of(list: &[u8], blocks: &[u8], entry: &[u8], byte: u8) -> Judgement
 }
 
 // Says of each entry what its byte tells. A last one that is cut has none. An entry has at least one byte, so there are no more entries than bytes.
-fn tell_each(list: &[u8], blocks: &[u8], entries: &[u8], answers: &[u8], before: Tally) -> Tally
+fn tell_each(
+    rt: &impl Print,
+    list: &[u8],
+    blocks: &[u8],
+    entries: &[u8],
+    answers: &[u8],
+    before: Tally,
+) -> io::Result<Tally>
     requires { total before + length entries.now < most_counted }
-    ensures { total result ≤ total before + length entries.now }
+    ensures { IfOk result (λ t. total t ≤ total before + length entries.now) }
 {
     let size = entry_size(list);
     let mut tally = before;
@@ -57,11 +65,11 @@ fn tell_each(list: &[u8], blocks: &[u8], entries: &[u8], answers: &[u8], before:
         let to = entry_end(at, size, entries.len());
         let judgement = judgement_of(list, blocks, &entries[at..to], byte_of(answers, k));
         tally = tally.count(judgement);
-        say_judgement(tally.entries(), b"", judgement);
+        say_judgement(rt, tally.entries(), b"", judgement)?;
         at = to;
         k += 1;
     }
-    tally
+    Ok(tally)
 }
 
 fn steps_of(running: RunningAll) -> u64
@@ -75,17 +83,23 @@ fn steps_of(running: RunningAll) -> u64
 
 // Runs the entries that are held. The blocks have loaded, only whole entries are run, and there are more bytes for answers than entries, so that
 // nothing is refused.
-pub(crate) fn run_held(list: &[u8], blocks: &[u8], entries: &[u8], before: Totals) -> Totals
+pub(crate) fn run_held(
+    rt: &impl Print,
+    list: &[u8],
+    blocks: &[u8],
+    entries: &[u8],
+    before: Totals,
+) -> io::Result<Totals>
     requires { total before.tally + length entries.now < most_counted }
-    ensures tally_bound { total result.tally ≤ total before.tally + length entries.now }
-    ensures steps_added { StepsAdded list.now blocks.now entries.now before.steps result.steps }
+    ensures tally_bound { IfOk result (λ t. total t.tally ≤ total before.tally + length entries.now) }
+    ensures steps_added { IfOk result (λ t. StepsAdded list.now blocks.now entries.now before.steps t.steps) }
 {
     let whole = whole_of(entries, entry_size(list));
-    let mut answers = io::large_buffer();
+    let mut answers = [0u8; 65536];
     let ran = valve::run_all(list, blocks, whole, &mut answers);
-    let tally = before.tally;
-    Totals {
-        tally: tell_each(list, blocks, entries, &answers, tally),
-        steps: std::num::wrapping_add_u64(before.steps, steps_of(ran)),
-    }
+    let tally = tell_each(rt, list, blocks, entries, &answers, before.tally)?;
+    Ok(Totals {
+        tally: tally,
+        steps: before.steps.wrapping_add(steps_of(ran)),
+    })
 }

@@ -1,22 +1,28 @@
 // Entries that stand end to end in two files, each new one rechecked against the old one at its place. Both files stream, through a buffer
 // each. The earlier answer of an old entry is what judging it says.
-ghost use Rattle.std.specs.Prelude.{◌≡◌, ◌+◌, ◌<◌, ◌≤◌, length};
+ghost use Rattle.std.specs.Prelude.{◌≡◌, ◌+◌, ◌<◌, ◌≤◌, length, IfOk};
 ghost use Rattle.streaming.specs.Tallies.{total, most_counted, answer_in, reused_by};
 
 use crate::sizes::entry_end;
 use crate::tally::{Tally, say_tally};
-use files::{at_end, cannot_read, whole_entries};
+use files::{
+    MOST_PATH, TOO_LONG, argument, cannot_read, not_at_end, open_read, read_full, whole_entries,
+};
 use keys::entry_size;
 use lines::say;
 use paper::{Judgement, Rechecking};
+use std::env::Env;
+use std::io;
+use std::io::Read;
+use std::rt::Files;
 use wording::broken::say_judgement;
 use wording::say::say_two;
 
 // Both files, open.
-#[derive(Clone, Copy)]
-pub struct Files {
-    pub old: i32,
-    pub new: i32,
+#[derive(Drop)]
+pub struct Both<F> {
+    pub old: F,
+    pub new: F,
 }
 
 // The new entries by their answers, and how many of these were reused.
@@ -52,10 +58,10 @@ fn reused_by(rechecked: Rechecking) -> usize
     }
 }
 
-fn say_rechecked(n: usize, rechecked: Rechecking) {
+fn say_rechecked(rt: &impl Print, n: usize, rechecked: Rechecking) -> io::Result<()> {
     match rechecked {
-        Rechecking::Reused(judgement) => say_judgement(n, b", reused", judgement),
-        Rechecking::Judged(judgement) => say_judgement(n, b", judged", judgement),
+        Rechecking::Reused(judgement) => say_judgement(rt, n, b", reused", judgement),
+        Rechecking::Judged(judgement) => say_judgement(rt, n, b", judged", judgement),
     }
 }
 
@@ -66,18 +72,19 @@ fn recheck_one(text: &[u8], list: &[u8], old: &[u8], new: &[u8]) -> Rechecking {
 
 // An entry has at least one byte, so there are no more entries than bytes.
 fn recheck_held(
+    rt: &impl Print,
     text: &[u8],
     list: &[u8],
     old: &[u8],
     new: &[u8],
     got: usize,
     before: Counts,
-) -> Counts
+) -> io::Result<Counts>
     requires got_in_bounds { (got ≤ length old.now) × (got ≤ length new.now) }
     requires got_bound { total before.tally + got < most_counted }
     requires reused_bound { before.reused ≤ total before.tally }
-    ensures tally_bound { total result.tally ≤ total before.tally + got }
-    ensures reused_bound_2 { result.reused ≤ total result.tally }
+    ensures tally_bound { IfOk result (λ c. total c.tally ≤ total before.tally + got) }
+    ensures reused_bound_2 { IfOk result (λ c. c.reused ≤ total c.tally) }
 {
     let size = entry_size(list);
     let mut tally = before.tally;
@@ -88,21 +95,28 @@ fn recheck_held(
         let rechecked = recheck_one(text, list, &old[at..to], &new[at..to]);
         tally = tally.count(answer_in(rechecked));
         reused += reused_by(rechecked);
-        say_rechecked(tally.entries(), rechecked);
+        say_rechecked(rt, tally.entries(), rechecked)?;
         at = to;
     }
-    Counts {
+    Ok(Counts {
         tally: tally,
         reused: reused,
-    }
+    })
 }
 
 // Rechecks what both files have left, as much at a time as the parts hold, which are of one length. A file has fewer than 2^63 bytes, so
 // the turns are enough.
-fn recheck_turns(text: &[u8], list: &[u8], files: Files, old: &mut [u8], new: &mut [u8]) -> Course
+fn recheck_turns<F: Read>(
+    rt: &impl Print,
+    text: &[u8],
+    list: &[u8],
+    files: &mut Both<F>,
+    old: &mut [u8],
+    new: &mut [u8],
+) -> io::Result<Course>
     requires { (length old.old ≡ length new.old) × (length new.old ≤ 65536) }
-    ensures tally_bound { total result.counts.tally ≤ most_counted }
-    ensures reused_bound { result.counts.reused ≤ total result.counts.tally }
+    ensures tally_bound { IfOk result (λ c. total c.counts.tally ≤ most_counted) }
+    ensures reused_bound { IfOk result (λ c. c.counts.reused ≤ total c.counts.tally) }
 {
     let mut counts = Counts {
         tally: Tally::none(),
@@ -112,10 +126,10 @@ fn recheck_turns(text: &[u8], list: &[u8], files: Files, old: &mut [u8], new: &m
     let mut b = 0;
     let mut turns: usize = 1 << 47;
     while 0 < turns {
-        a = io::read_full(files.old, old);
-        b = io::read_full(files.new, new);
+        a = read_full(&mut files.old, old);
+        b = read_full(&mut files.new, new);
         if a == b {
-            counts = recheck_held(text, list, old, new, b, counts);
+            counts = recheck_held(rt, text, list, old, new, b, counts)?;
             if (0 < b) & (b == new.len()) {
                 turns -= 1;
             } else {
@@ -125,20 +139,21 @@ fn recheck_turns(text: &[u8], list: &[u8], files: Files, old: &mut [u8], new: &m
             turns = 0;
         }
     }
-    Course {
+    Ok(Course {
         counts: counts,
         old: a,
         new: b,
-    }
+    })
 }
 
-fn say_counts(counts: Counts)
+fn say_counts(rt: &impl Print, counts: Counts) -> io::Result<()>
     requires tally_bound { total counts.tally ≤ most_counted }
     requires reused_bound { counts.reused ≤ total counts.tally }
 {
     let tally = counts.tally;
-    say_tally(tally);
+    say_tally(rt, tally)?;
     say_two(
+        rt,
         b"# reused, # judged\n",
         counts.reused,
         tally.entries() - counts.reused,
@@ -146,71 +161,91 @@ fn say_counts(counts: Counts)
 }
 
 // Entries of the longer file have none at their place in the other.
-fn say_longer(longer: &[u8], other: &[u8]) {
-    say(b"cannot recheck ");
-    say(longer);
-    say(b": it is longer than ");
-    say(other);
-    say(b"\n")
+fn say_longer(rt: &impl Print, longer: &[u8], other: &[u8]) -> io::Result<()> {
+    say(rt, b"cannot recheck ")?;
+    say(rt, longer)?;
+    say(rt, b": it is longer than ")?;
+    say(rt, other)?;
+    say(rt, b"\n")
 }
 
 // Where a file of which the last turn got no more than of the other is not at its end, it could not be read.
-fn finish(course: Course, files: Files, old: &[u8], new: &[u8])
+fn finish<F: Read>(
+    rt: &(impl Print + Eprint),
+    course: Course,
+    files: &mut Both<F>,
+    old: &[u8],
+    new: &[u8],
+) -> io::Result<()>
     requires tally_bound { total course.counts.tally ≤ most_counted }
     requires reused_bound { course.counts.reused ≤ total course.counts.tally }
 {
     if course.old <= course.new {
-        if !at_end(files.old) {
-            return cannot_read(old);
+        if let Some(reason) = not_at_end(&mut files.old) {
+            return cannot_read(rt, old, reason);
         }
     }
     if course.new <= course.old {
-        if !at_end(files.new) {
-            return cannot_read(new);
+        if let Some(reason) = not_at_end(&mut files.new) {
+            return cannot_read(rt, new, reason);
         }
     }
     if course.old < course.new {
-        return say_longer(new, old);
+        return say_longer(rt, new, old);
     }
     if course.new < course.old {
-        return say_longer(old, new);
+        return say_longer(rt, old, new);
     }
-    say_counts(course.counts)
+    say_counts(rt, course.counts)
 }
 
 // As many whole entries at a time as the buffers hold, so that none stands across two turns.
-fn recheck_entries(text: &[u8], list: &[u8], old: &[u8], new: &[u8]) {
-    let a = os::open_read(old);
-    if a < 0 {
-        return cannot_read(old);
-    }
-    let b = os::open_read(new);
-    if b < 0 {
-        return cannot_read(new);
-    }
-    let files = Files { old: a, new: b };
+fn recheck_entries(
+    rt: &(impl Files + Print + Eprint),
+    text: &[u8],
+    list: &[u8],
+    old: &[u8],
+    new: &[u8],
+) -> io::Result<()> {
+    let a = match open_read(rt, old) {
+        Ok(file) => file,
+        Err(reason) => return cannot_read(rt, old, reason),
+    };
+    let b = match open_read(rt, new) {
+        Ok(file) => file,
+        Err(reason) => return cannot_read(rt, new, reason),
+    };
+    let mut files = Both { old: a, new: b };
     let want = whole_entries(entry_size(list));
-    let mut before = io::large_buffer();
-    let mut after = io::large_buffer();
-    let course = recheck_turns(text, list, files, &mut before[..want], &mut after[..want]);
-    finish(course, files, old, new)
-}
-
-fn too_long() {
-    cannot_read(b"a path that is too long")
+    let mut before = [0u8; 65536];
+    let mut after = [0u8; 65536];
+    let course = recheck_turns(
+        rt,
+        text,
+        list,
+        &mut files,
+        &mut before[..want],
+        &mut after[..want],
+    )?;
+    finish(rt, course, &mut files, old, new)
 }
 
 // Tells of the entries in the files that arguments i and j name, the old ones and the new, against a text that is not refused.
-pub fn recheck_files(text: &[u8], list: &[u8], i: usize, j: usize) {
-    let mut old = io::buffer();
-    let n = os::arg(i, &mut old);
-    if os::errno() != 0 {
-        return too_long();
+pub fn recheck_files(
+    rt: &(impl Files + Env + Print + Eprint),
+    text: &[u8],
+    list: &[u8],
+    i: usize,
+    j: usize,
+) -> io::Result<()> {
+    let mut old = [0u8; MOST_PATH];
+    let n = match argument(rt, i, &mut old) {
+        Ok(n) => n,
+        Err(reason) => return cannot_read(rt, TOO_LONG, reason),
+    };
+    let mut new = [0u8; MOST_PATH];
+    match argument(rt, j, &mut new) {
+        Ok(m) => recheck_entries(rt, text, list, &old[..n], &new[..m]),
+        Err(reason) => cannot_read(rt, TOO_LONG, reason),
     }
-    let mut new = io::buffer();
-    let m = os::arg(j, &mut new);
-    if os::errno() != 0 {
-        return too_long();
-    }
-    recheck_entries(text, list, &old[..n], &new[..m])
 }

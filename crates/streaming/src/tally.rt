@@ -4,6 +4,7 @@ ghost use Rattle.streaming.specs.Tallies.{total, counted, most_counted};
 
 use lines::say;
 use paper::Judgement;
+use std::io;
 use wording::say::{say_count, say_three};
 
 // How many entries were accepted, violated and refused.
@@ -68,11 +69,12 @@ impl Totals {
     }
 }
 
-fn say_totals(tally: Tally)
+fn say_totals(rt: &impl Print, tally: Tally) -> io::Result<()>
     requires { total tally ≤ most_counted }
 {
-    say_count(b"# entry: ", b"# entries: ", tally.entries());
+    say_count(rt, b"# entry: ", b"# entries: ", tally.entries())?;
     say_three(
+        rt,
         b"# accepted, # violated, # refused",
         tally.accepted,
         tally.violated,
@@ -81,17 +83,22 @@ fn say_totals(tally: Tally)
 }
 
 // The last line of a file: how many entries there are, and how many were given each answer.
-pub(crate) fn say_tally(tally: Tally)
+pub(crate) fn say_tally(rt: &impl Print, tally: Tally) -> io::Result<()>
     requires { total tally ≤ most_counted }
 {
-    say_totals(tally);
-    say(b"\n")
+    say_totals(rt, tally)?;
+    say(rt, b"\n")
 }
 
 // The same line with the steps of all entries.
-pub(crate) fn say_ran(totals: Totals)
+pub(crate) fn say_ran(rt: &impl Print, totals: Totals) -> io::Result<()>
     requires { total totals.tally ≤ most_counted }
 {
-    say_totals(totals.tally);
-    say_count(b", in # step\n", b", in # steps\n", totals.steps as usize)
+    say_totals(rt, totals.tally)?;
+    say_count(
+        rt,
+        b", in # step\n",
+        b", in # steps\n",
+        totals.steps as usize,
+    )
 }

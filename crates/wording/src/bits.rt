@@ -11,6 +11,7 @@ use lines::{say, start};
 use number::Magnitude;
 use paper::Counted;
 use printing::Rung;
+use std::io;
 use trees::{Leaf, Node};
 
 const MOST_NODES: usize = reading::MOST_NODES;
@@ -141,64 +142,80 @@ fn width_beside(text: &[u8], list: &[u8], nodes: &[u32], i: usize) -> u32
 
 const DECIMAL: u32 = 10;
 
-fn say_decimal(n: Magnitude) {
+fn say_decimal(rt: &impl Print, n: Magnitude) -> io::Result<()> {
     let digits = n.digits_in(DECIMAL);
-    say(trees::stretch(&digits.bytes, digits.first, digits.bytes.len()))
+    say(
+        rt,
+        trees::stretch(&digits.bytes, digits.first, digits.bytes.len()),
+    )
 }
 
 // The numbers that lose no bits at a width: from -2^(w - 1) to 2^w - 1.
-fn say_range(w: u32)
+fn say_range(rt: &impl Print, w: u32) -> io::Result<()>
     requires { 1 ≤ w }
 {
     let half = Magnitude::ones(w - 1).grow(1, 1);
-    say(b"-");
-    say_decimal(half.number);
-    say(b" to ");
-    say_decimal(Magnitude::ones(w))
+    say(rt, b"-")?;
+    say_decimal(rt, half.number)?;
+    say(rt, b" to ")?;
+    say_decimal(rt, Magnitude::ones(w))
 }
 
 // The operand as a print has it. There is room for every number in every base under as many signs as there may be.
-fn say_operand(text: &[u8], nodes: &[u32], i: usize)
+fn say_operand(rt: &impl Print, text: &[u8], nodes: &[u32], i: usize) -> io::Result<()>
     requires { 8192 ≤ length nodes.now }
 {
     if i < MOST_NODES {
         let mut room = [0u8; 256];
         let n = printing::write_tree(text, nodes, i, Rung::Tightest, 0, &mut room);
-        say(start(&room, n))
+        return say(rt, start(&room, n));
     }
+    Ok(())
 }
 
 // Whether the comparison was found, and is told.
-fn say_sides(text: &[u8], list: &[u8], nodes: &[u32], place: usize) -> bool
+fn say_sides(
+    rt: &impl Print,
+    text: &[u8],
+    list: &[u8],
+    nodes: &[u32],
+    place: usize,
+) -> io::Result<bool>
     requires { 8192 ≤ length nodes.now }
 {
     let sides = find_sides(nodes, place);
     if !sides.found {
-        return false;
+        return Ok(false);
     }
     let w = width_beside(text, list, nodes, sides.beside);
     if w == 0 {
-        return false;
+        return Ok(false);
     }
-    say_operand(text, nodes, sides.number);
+    say_operand(rt, text, nodes, sides.number)?;
     say_count(
+        rt,
         b" does not fit # bit: ",
         b" does not fit # bits: ",
         w as usize,
-    );
-    say_range(w);
-    say(b"\n");
-    true
+    )?;
+    say_range(rt, w)?;
+    say(rt, b"\n")?;
+    Ok(true)
 }
 
 // Tells why the number at a place of a text loses bits, if the text and the list show it.
-pub(crate) fn say_lost(text: &[u8], list: &[u8], place: usize) -> bool {
+pub(crate) fn say_lost(
+    rt: &impl Print,
+    text: &[u8],
+    list: &[u8],
+    place: usize,
+) -> io::Result<bool> {
     if reading::MOST_TEXT < text.len() {
-        return false;
+        return Ok(false);
     }
     let mut nodes = [0u32; reading::NODE_WORDS];
     match reading::read_tree(text, &mut nodes) {
-        Counted::Count(_) => say_sides(text, list, &nodes, place),
-        Counted::Refused(_, _) => false,
+        Counted::Count(_) => say_sides(rt, text, list, &nodes, place),
+        Counted::Refused(_, _) => Ok(false),
     }
 }

@@ -10,6 +10,7 @@ use crate::say::{say_number, say_three};
 use lines::say;
 use paper::refused::ENTRY_RULE;
 use paper::{Explanation, Judgement, Place};
+use std::io;
 
 // The judgement that an explanation is of.
 pub fn judged_as(why: Explanation) -> Judgement
@@ -23,40 +24,52 @@ pub fn judged_as(why: Explanation) -> Judgement
 }
 
 // The judgement of entry n, and how it was come by, if that is told.
-pub fn say_judgement(n: usize, how: &[u8], judgement: Judgement) {
+pub fn say_judgement(
+    rt: &impl Print,
+    n: usize,
+    how: &[u8],
+    judgement: Judgement,
+) -> io::Result<()> {
     match judgement {
         Judgement::Accepted => {
-            say_number(b"accepted entry #", n);
-            say(how);
-            say(b"\n")
+            say_number(rt, b"accepted entry #", n)?;
+            say(rt, how)?;
+            say(rt, b"\n")
         }
         Judgement::Violated => {
-            say_number(b"violated entry #", n);
-            say(how);
-            say(b"\n")
+            say_number(rt, b"violated entry #", n)?;
+            say(rt, how)?;
+            say(rt, b"\n")
         }
-        Judgement::Refused(number, place) => entry_refused(n, how, number, place),
+        Judgement::Refused(number, place) => entry_refused(rt, n, how, number, place),
     }
 }
 
 // Entry n: its judgement, the part of the text that is false, or the name of the key whose record breaks its rule.
-pub fn say_judged(n: usize, why: Explanation, text: &[u8], list: &[u8]) {
+pub fn say_judged(
+    rt: &impl Print,
+    n: usize,
+    why: Explanation,
+    text: &[u8],
+    list: &[u8],
+) -> io::Result<()> {
     match why {
         Explanation::Part(number, place, from, to) => {
             say_three(
+                rt,
                 b"violated entry #: part # is false (its root is at byte #)\n",
                 n,
                 number,
                 place,
-            );
-            caret::show(text, from, to)
+            )?;
+            caret::show(rt, text, from, to)
         }
         Explanation::Key(_, _, _) => {
-            say_judgement(n, b"", judged_as(why));
-            say(b"its key is ");
-            say(valve::list_piece(list, why));
-            say(b"\n")
+            say_judgement(rt, n, b"", judged_as(why))?;
+            say(rt, b"its key is ")?;
+            say(rt, valve::list_piece(list, why))?;
+            say(rt, b"\n")
         }
-        Explanation::Nothing(judgement) => say_judgement(n, b"", judgement),
+        Explanation::Nothing(judgement) => say_judgement(rt, n, b"", judgement),
     }
 }

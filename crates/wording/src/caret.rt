@@ -5,6 +5,7 @@ ghost use Rattle.wording.specs.Lines.{seen_at, LineOf, Window, shown_as, carets}
 use crate::say::{say_number, say_two};
 use lines::{say, start};
 use spelling::runs::{Run, run_end};
+use std::io;
 
 // A line of a text: its number, counted from 1, and its bytes, from one offset up to another.
 #[derive(Clone, Copy)]
@@ -104,30 +105,31 @@ fn shown_as(byte: u8) -> u8
     if byte <= b'~' { byte } else { b'?' }
 }
 
-fn say_bytes(text: &[u8], from: usize, to: usize)
+fn say_bytes(rt: &impl Print, text: &[u8], from: usize, to: usize) -> io::Result<()>
     requires { to ≤ length text.now }
 {
     let mut i = from;
     while i < to {
         let column = [shown_as(text[i])];
-        say(&column);
+        say(rt, &column)?;
         i += 1;
     }
+    Ok(())
 }
 
-fn say_line(text: &[u8], line: Line, shown: Stretch)
+fn say_line(rt: &impl Print, text: &[u8], line: Line, shown: Stretch) -> io::Result<()>
     requires { shown.to ≤ length text.now }
 {
     if line.from < shown.from {
-        say(b"... ")
+        say(rt, b"... ")?
     } else {
-        say(b"    ")
+        say(rt, b"    ")?
     }
-    say_bytes(text, shown.from, shown.to);
+    say_bytes(rt, text, shown.from, shown.to)?;
     if shown.to < line.to {
-        say(b" ...\n")
+        say(rt, b" ...\n")
     } else {
-        say(b"\n")
+        say(rt, b"\n")
     }
 }
 
@@ -146,27 +148,27 @@ fn carets_under(from: usize, to: usize, end: usize) -> usize
 }
 
 // Which lines a stretch stands in.
-fn say_lines(first: usize, last: usize) {
+fn say_lines(rt: &impl Print, first: usize, last: usize) -> io::Result<()> {
     if first == last {
-        say_number(b"line #:\n", first)
+        say_number(rt, b"line #:\n", first)
     } else {
-        say_two(b"lines # to #, the first:\n", first, last)
+        say_two(rt, b"lines # to #, the first:\n", first, last)
     }
 }
 
 // Shows the line of a text that a stretch begins in, with carets under what the line has of the stretch. A place is a stretch that ends
 // where it begins.
-pub fn show(text: &[u8], from: usize, to: usize) {
+pub fn show(rt: &impl Print, text: &[u8], from: usize, to: usize) -> io::Result<()> {
     let first = seen_at(text, from);
     let past = seen_at(text, to);
     let line = line_of(text, first);
     let last = line_of(text, past);
     let shown = window(line, first);
-    say_lines(line.number, last.number);
-    say_line(text, line, shown);
+    say_lines(rt, line.number, last.number)?;
+    say_line(rt, text, line, shown)?;
     let blanks = [b' '; 104];
-    say(start(&blanks, 4 + (first - shown.from)));
+    say(rt, start(&blanks, 4 + (first - shown.from)))?;
     let marks = [b'^'; COLUMNS];
-    say(start(&marks, carets_under(first, past, shown.to)));
-    say(b"\n")
+    say(rt, start(&marks, carets_under(first, past, shown.to)))?;
+    say(rt, b"\n")
 }

@@ -1,6 +1,7 @@
 // Why a contract is refused with 24 at a byte, in words. All before that byte is good.
 use crate::say::{say_count, say_number};
 use lines::say;
+use std::io;
 
 // What stands before a byte.
 #[derive(Clone, Copy)]
@@ -49,87 +50,108 @@ fn before_all(contract: &[u8]) -> Before {
     before
 }
 
-fn unused(what: &[u8], operation: u8) {
-    say(what);
-    say_number(b"no operation has number #\n", operation as usize)
+fn unused(rt: &impl Print, what: &[u8], operation: u8) -> io::Result<()> {
+    say(rt, what)?;
+    say_number(rt, b"no operation has number #\n", operation as usize)
 }
 
-fn wrong_comparator(operation: u8) {
+fn wrong_comparator(rt: &impl Print, operation: u8) -> io::Result<()> {
     if operation == IN {
-        say(b" is IN, which no text can say\n")
+        say(rt, b" is IN, which no text can say\n")
     } else {
-        unused(b" is no comparator: ", operation)
+        unused(rt, b" is no comparator: ", operation)
     }
 }
 
 // A conjunction that is one stands where it may not.
-fn wrong_conjunction(operation: u8, before: Before) {
+fn wrong_conjunction(rt: &impl Print, operation: u8, before: Before) -> io::Result<()> {
     if CONJUNCTIONS <= operation {
-        return unused(b" is no conjunction: ", operation);
+        return unused(rt, b" is no conjunction: ", operation);
     }
     match before {
-        Before::Conjunction => say(b" is a conjunction, and another stands before it\n"),
-        _ => say(b" is a conjunction, and no assertion stands before it\n"),
+        Before::Conjunction => say(rt, b" is a conjunction, and another stands before it\n"),
+        _ => say(
+            rt,
+            b" is a conjunction, and no assertion stands before it\n",
+        ),
     }
 }
 
-fn wrong_opcode(opcode: u8, before: Before) {
-    say(b"0x");
-    lines::say_hex(opcode);
+fn wrong_opcode(rt: &impl Print, opcode: u8, before: Before) -> io::Result<()> {
+    say(rt, b"0x")?;
+    lines::say_hex(rt, opcode)?;
     if opcode % 4 != 0 {
-        say(b" has a reserved bit\n")
+        say(rt, b" has a reserved bit\n")
     } else if opcode < CONJUNCTION {
-        wrong_comparator(opcode / 4 % 8)
+        wrong_comparator(rt, opcode / 4 % 8)
     } else {
-        wrong_conjunction(opcode / 4 % 16, before)
+        wrong_conjunction(rt, opcode / 4 % 16, before)
     }
 }
 
-fn no_name(index: u8, names: usize) {
-    say_number(b"index #, but there ", index as usize);
-    say_count(b"is # name\n", b"are # names\n", names)
+fn no_name(rt: &impl Print, index: u8, names: usize) -> io::Result<()> {
+    say_number(rt, b"index #, but there ", index as usize)?;
+    say_count(rt, b"is # name\n", b"are # names\n", names)
 }
 
-fn no_number(index: u8, numbers: usize) {
-    say_number(b"index #, but there ", index as usize);
-    say_count(b"is # user number\n", b"are # user numbers\n", numbers)
+fn no_number(rt: &impl Print, index: u8, numbers: usize) -> io::Result<()> {
+    say_number(rt, b"index #, but there ", index as usize)?;
+    say_count(rt, b"is # user number\n", b"are # user numbers\n", numbers)
 }
 
 // The left index is looked at first.
-fn wrong_index(opcode: u8, byte: u8, names: usize, numbers: usize) {
+fn wrong_index(
+    rt: &impl Print,
+    opcode: u8,
+    byte: u8,
+    names: usize,
+    numbers: usize,
+) -> io::Result<()> {
     let left = byte / 16;
     let right = byte % 16;
     if names <= left as usize {
-        no_name(left, names)
+        no_name(rt, left, names)
     } else if opcode / LOADS_INPUT % 2 == 1 {
-        no_name(right, names)
+        no_name(rt, right, names)
     } else {
-        no_number(right, numbers)
+        no_number(rt, right, numbers)
     }
 }
 
-fn wrong_byte(before: Before, byte: u8, names: usize, numbers: usize) {
+fn wrong_byte(
+    rt: &impl Print,
+    before: Before,
+    byte: u8,
+    names: usize,
+    numbers: usize,
+) -> io::Result<()> {
     match before {
-        Before::Comparator(opcode) => wrong_index(opcode, byte, names, numbers),
-        Before::Nothing => wrong_opcode(byte, before),
-        Before::Assertion => wrong_opcode(byte, before),
-        Before::Conjunction => wrong_opcode(byte, before),
+        Before::Comparator(opcode) => wrong_index(rt, opcode, byte, names, numbers),
+        Before::Nothing => wrong_opcode(rt, byte, before),
+        Before::Assertion => wrong_opcode(rt, byte, before),
+        Before::Conjunction => wrong_opcode(rt, byte, before),
     }
 }
 
-fn cut(before: Before) {
+fn cut(rt: &impl Print, before: Before) -> io::Result<()> {
     match before {
-        Before::Conjunction => say(b"the contract ends in a conjunction\n"),
-        _ => say(b"the contract ends in an opcode, before its index\n"),
+        Before::Conjunction => say(rt, b"the contract ends in a conjunction\n"),
+        _ => say(rt, b"the contract ends in an opcode, before its index\n"),
     }
 }
 
 // Says what is wrong with the byte at an offset, or with the contract's end.
-pub fn say_why(contract: &[u8], at: usize, names: usize, numbers: usize) {
+pub fn say_why(
+    rt: &impl Print,
+    contract: &[u8],
+    at: usize,
+    names: usize,
+    numbers: usize,
+) -> io::Result<()> {
     let before = before_all(lines::start(contract, at));
     if at < contract.len() {
-        wrong_byte(before, contract[at], names, numbers)
+        wrong_byte(rt, before, contract[at], names, numbers)
     } else {
-        cut(before)
+        cut(rt, before)
     }
 }

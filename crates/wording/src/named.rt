@@ -5,35 +5,38 @@ ghost use Rattle.paper.specs.Keys.{record_size};
 use crate::say::say_count;
 use keys::KeyRecord;
 use lines::say;
+use std::io;
 
 // A line for each of the first n keys whose bit is set, the lowest bit for the first key.
-fn say_keys(list: &[u8], set: u32, n: usize)
+fn say_keys(rt: &impl Print, list: &[u8], set: u32, n: usize) -> io::Result<()>
     requires { n ≤ length list.now / record_size }
 {
     let mut rest = set;
     let mut k = 0;
     while k < n {
         if rest % 2 == 1 {
-            say(b"    ");
-            say(KeyRecord::name(list, k));
-            say(b"\n");
+            say(rt, b"    ")?;
+            say(rt, KeyRecord::name(list, k))?;
+            say(rt, b"\n")?;
         }
         rest = rest / 2;
         k += 1;
     }
+    Ok(())
 }
 
 // A summary of a text against a list: how many keys are named, their names, and whether ::priority is named.
-pub fn say_summary(list: &[u8], set: u32, priority: bool) {
+pub fn say_summary(rt: &impl Print, list: &[u8], set: u32, priority: bool) -> io::Result<()> {
     say_count(
+        rt,
         b"named # key\n",
         b"named # keys\n",
         valve::count_keys(set) as usize,
-    );
-    say_keys(list, set, list.len() / KeyRecord::SIZE);
+    )?;
+    say_keys(rt, list, set, list.len() / KeyRecord::SIZE)?;
     if priority {
-        say(b"::priority is named\n")
+        say(rt, b"::priority is named\n")
     } else {
-        say(b"::priority is not named\n")
+        say(rt, b"::priority is not named\n")
     }
 }

@@ -3,25 +3,33 @@
 use crate::say::{say_count, say_number};
 use lines::say;
 use spelling::runs::{Run, run_end};
+use std::io;
 
-fn say_change(telling: bool, at: usize, numeral: &[u8], made: &[u8]) {
+fn say_change(
+    rt: &impl Print,
+    telling: bool,
+    at: usize,
+    numeral: &[u8],
+    made: &[u8],
+) -> io::Result<()> {
     if telling {
-        say_number(b"    byte #: ", at);
-        say(numeral);
-        say(b" is ");
-        say(made);
-        say(b" now\n")
+        say_number(rt, b"    byte #: ", at)?;
+        say(rt, numeral)?;
+        say(rt, b" is ")?;
+        say(rt, made)?;
+        say(rt, b" now\n")?
     }
+    Ok(())
 }
 
 // Goes through both from their second byte on, counts the numerals that differ, and tells them if it is asked to.
-fn changes(text: &[u8], made: &[u8], telling: bool) -> usize {
+fn changes(rt: &impl Print, text: &[u8], made: &[u8], telling: bool) -> io::Result<usize> {
     let mut count = 0;
     let mut at = 1;
     let mut to = 1;
     while at < text.len() {
         if made.len() <= to {
-            return count;
+            return Ok(count);
         }
         if text[at] == made[to] {
             at += 1;
@@ -29,25 +37,23 @@ fn changes(text: &[u8], made: &[u8], telling: bool) -> usize {
         } else {
             let end = run_end(text, at, Run::Name);
             let past = run_end(made, to, Run::Name);
-            say_change(telling, at - 1, &text[at - 1..end], &made[to - 1..past]);
+            say_change(rt, telling, at - 1, &text[at - 1..end], &made[to - 1..past])?;
             count += 1;
             at = end + 1;
             to = past + 1;
         }
     }
-    count
+    Ok(count)
 }
 
 // How many numerals were changed, as the first words of a line.
-pub fn say_fixed(text: &[u8], made: &[u8]) {
-    say_count(
-        b"fixed # numeral: ",
-        b"fixed # numerals: ",
-        changes(text, made, false),
-    )
+pub fn say_fixed(rt: &impl Print, text: &[u8], made: &[u8]) -> io::Result<()> {
+    let count = changes(rt, text, made, false)?;
+    say_count(rt, b"fixed # numeral: ", b"fixed # numerals: ", count)
 }
 
 // A line for each numeral that was changed: where it stands in the text, how it was written there, and how it is now.
-pub fn say_changes(text: &[u8], made: &[u8]) {
-    changes(text, made, true);
+pub fn say_changes(rt: &impl Print, text: &[u8], made: &[u8]) -> io::Result<()> {
+    changes(rt, text, made, true)?;
+    Ok(())
 }

@@ -3,6 +3,7 @@ ghost use Rattle.std.specs.Prelude.{◌≤◌, length};
 
 use lines::say;
 use spelling::runs::{Run, run_end};
+use std::io;
 
 // The offset after the line that starts at an offset, and after its line feed.
 fn after_line(s: &[u8], at: usize) -> usize
@@ -14,7 +15,7 @@ fn after_line(s: &[u8], at: usize) -> usize
 }
 
 // Line n of a table, counted from 1.
-fn say_line(table: &[u8], n: u8) {
+fn say_line(rt: &impl Print, table: &[u8], n: u8) -> io::Result<()> {
     let mut from = 0;
     let mut left = n;
     while 1 < left {
@@ -22,7 +23,7 @@ fn say_line(table: &[u8], n: u8) {
         left -= 1;
     }
     let to = after_line(table, from);
-    say(&table[from..to])
+    say(rt, &table[from..to])
 }
 
 // The line of a refusal in the table below: two say something else where they stand at the input's end.
@@ -38,8 +39,9 @@ fn reason(number: u8, at_end: bool) -> u8 {
 }
 
 // Line N is the reason of refusal N, line 20 that of a wrong priority; 24 and 25 are those of 8 and 18 at the input's end.
-pub fn say_reason(number: u8, at_end: bool) {
+pub fn say_reason(rt: &impl Print, number: u8, at_end: bool) -> io::Result<()> {
     say_line(
+        rt,
         b"the text has more than 4,096 bytes
 the key list's length is not a multiple of 80, or is over 2,560
 a key record that breaks its layout

@@ -1,8 +1,11 @@
 // Lines on standard output with numbers in them, and what is said of a file that cannot be written.
 ghost use Rattle.std.specs.Prelude.{◌≤◌, length};
 
-use files::cannot;
+use files::{MOST_PATH, argument, cannot};
 use lines::{say, start};
+use std::env::Env;
+use std::io;
+use std::io::Error;
 
 // Where the # of a form stands; its end where it has none.
 fn mark(form: &[u8]) -> usize
@@ -19,54 +22,62 @@ fn mark(form: &[u8]) -> usize
 }
 
 // Says a form up to its #, and a number in its place; answers what stands after it.
-fn say_up_to(form: &[u8], n: usize) -> &[u8] {
+fn say_up_to<'a>(rt: &impl Print, form: &'a [u8], n: usize) -> io::Result<&'a [u8]> {
     let at = mark(form);
-    say(start(form, at));
-    lines::say_number(n as u64);
+    say(rt, start(form, at))?;
+    lines::say_number(rt, n as u64)?;
     if at < form.len() {
-        &form[at + 1..]
+        Ok(&form[at + 1..])
     } else {
-        &form[at..]
+        Ok(&form[at..])
     }
 }
 
 // Says a form with a number for its #.
-pub(crate) fn say_number(form: &[u8], n: usize) {
-    say(say_up_to(form, n))
+pub(crate) fn say_number(rt: &impl Print, form: &[u8], n: usize) -> io::Result<()> {
+    say(rt, say_up_to(rt, form, n)?)
 }
 
 // Says a form with a number for each of its two #.
-pub fn say_two(form: &[u8], a: usize, b: usize) {
-    say_number(say_up_to(form, a), b)
+pub fn say_two(rt: &impl Print, form: &[u8], a: usize, b: usize) -> io::Result<()> {
+    say_number(rt, say_up_to(rt, form, a)?, b)
 }
 
 // Says a form with a number for each of its three #.
-pub fn say_three(form: &[u8], a: usize, b: usize, c: usize) {
-    say_two(say_up_to(form, a), b, c)
+pub fn say_three(rt: &impl Print, form: &[u8], a: usize, b: usize, c: usize) -> io::Result<()> {
+    say_two(rt, say_up_to(rt, form, a)?, b, c)
 }
 
 // A number of things, by the form for one and the form for more.
-pub fn say_count(one: &[u8], more: &[u8], n: usize) {
+pub fn say_count(rt: &impl Print, one: &[u8], more: &[u8], n: usize) -> io::Result<()> {
     if n == 1 {
-        say_number(one, n)
+        say_number(rt, one, n)
     } else {
-        say_number(more, n)
+        say_number(rt, more, n)
     }
 }
 
 // Says an argument as it was given.
-pub fn say_argument(i: usize) {
-    let mut argument = io::buffer();
-    let n = os::arg(i, &mut argument);
-    say(&argument[..n])
+pub fn say_argument(rt: &(impl Env + Print), i: usize) -> io::Result<()> {
+    let mut room = [0u8; MOST_PATH];
+    match argument(rt, i, &mut room) {
+        Ok(n) => say(rt, &room[..n]),
+        // There is none, or it is no path of the system.
+        Err(_) => Ok(()),
+    }
 }
 
 // Says that a file cannot be written.
-pub fn cannot_write(path: &[u8]) {
-    cannot(b"cannot write ", path, path)
+pub fn cannot_write(rt: &(impl Print + Eprint), path: &[u8], reason: Error) -> io::Result<()> {
+    cannot(rt, b"cannot write ", path, path, reason)
 }
 
 // Says that a file cannot be written because of another.
-pub fn cannot_write_by(path: &[u8], other: &[u8]) {
-    cannot(b"cannot write ", path, other)
+pub fn cannot_write_by(
+    rt: &(impl Print + Eprint),
+    path: &[u8],
+    other: &[u8],
+    reason: Error,
+) -> io::Result<()> {
+    cannot(rt, b"cannot write ", path, other, reason)
 }

@@ -51,7 +51,8 @@ pub(crate) fn put_input(
     room: &mut [u8],
     to: usize,
 ) -> io::Result<usize>
-    ensures { IfOk result (λ end. Put room.old to (input_bytes file.now at input) room.new end) }
+    ensures written { IfOk result (λ end. Put room.old to (input_bytes file.now at input) room.new end) }
+    ensures kept { length room.new ≡ length room.old }
 {
     let end = scan(file, last(file, at, input), b':');
     if byte_at(file, end) == b':' {

@@ -58,7 +58,8 @@ pub(crate) fn put(
     at: usize,
 ) -> io::Result<usize>
     requires { (0 < width) × (width ≤ 2) × (to ≤ length s.now) }
-    ensures { IfOk result (λ end. Put room.old at (spelled width s.now from to) room.new end) }
+    ensures written { IfOk result (λ end. Put room.old at (spelled width s.now from to) room.new end) }
+    ensures kept { length room.new ≡ length room.old }
 {
     let mut end = at;
     let mut i = from;
@@ -92,7 +93,8 @@ fn put_times(
     at: usize,
 ) -> io::Result<usize>
     requires { (from ≤ length s.now + 1) × (to ≤ length s.now) }
-    ensures { IfOk result (λ end. Put room.old at (copies times (quoted s.now from to)) room.new end) }
+    ensures written { IfOk result (λ end. Put room.old at (copies times (quoted s.now from to)) room.new end) }
+    ensures kept { length room.new ≡ length room.old }
 {
     let quotes = quotes_at(s, from);
     let mut end = at;
@@ -114,7 +116,8 @@ fn put_word(
     at: usize,
 ) -> io::Result<usize>
     requires { (from ≤ to) × (to ≤ length s.now) }
-    ensures { IfOk result (λ end. Put room.old at (word_bytes s.now from to) room.new end) }
+    ensures written { IfOk result (λ end. Put room.old at (word_bytes s.now from to) room.new end) }
+    ensures kept { length room.new ≡ length room.old }
 {
     let star = scan(s, from, b'*');
     if byte_at(s, star) != b'*' {
@@ -146,7 +149,8 @@ pub(crate) fn put_words(
     room: &mut [u8],
     at: usize,
 ) -> io::Result<usize>
-    ensures { IfOk result (λ end. Put room.old at (line_bytes s.now from) room.new end) }
+    ensures written { IfOk result (λ end. Put room.old at (line_bytes s.now from) room.new end) }
+    ensures kept { length room.new ≡ length room.old }
 {
     let mut end = at;
     let mut i = from;

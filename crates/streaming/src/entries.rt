@@ -94,7 +94,8 @@ fn judge_turns(
     part: &mut [u8],
 ) -> io::Result<Totals>
     requires { length part.old ≤ 65536 }
-    ensures { IfOk result (λ t. total t.tally ≤ most_counted) }
+    ensures few { IfOk result (λ t. total t.tally ≤ most_counted) }
+    ensures kept { length part.new ≡ length part.old }
 {
     let mut totals = Totals::none();
     let mut turns: usize = 1 << 47;

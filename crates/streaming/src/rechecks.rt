@@ -117,6 +117,7 @@ fn recheck_turns<F: Read>(
     requires { (length old.old ≡ length new.old) × (length new.old ≤ 65536) }
     ensures tally_bound { IfOk result (λ c. total c.counts.tally ≤ most_counted) }
     ensures reused_bound { IfOk result (λ c. c.counts.reused ≤ total c.counts.tally) }
+    ensures kept { (length old.new ≡ length old.old) × (length new.new ≡ length new.old) }
 {
     let mut counts = Counts {
         tally: Tally::none(),

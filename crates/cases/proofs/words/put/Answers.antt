@@ -18,8 +18,8 @@ loop-i-preserved g c =
       (done ++ (v ∷ []), put_more l.invariant.1.1 (put_byte l.room l.end v (omega (arith, c.if-room-end.false))), append_assoc done (v ∷ []) _ ∙ ap (λ (r : List ℕ). done ++ r) next ∙ l.invariant.1.2),
     )
 
-pub returns : goal.returns
-returns g c =
+pub returns-clause-written : goal.returns-clause-written
+returns-clause-written g c =
     let l = c.loop-i in
     let a = c.args in
     let done = l.invariant.1.0 in

@@ -17,5 +17,5 @@ loop-i-preserved g c =
     let both =
     ap₂ (λ (e n : ℕ). word_bytes s l.i e ++ line_bytes s n) here next ∙ sym (line_on s l.i c.loop-i-test.true) in (
       search rules,
-      (done ++ word, put_more l.invariant.1.1 c.in_ok-end.ensures, append_assoc done word _ ∙ ap (λ (r : List ℕ). done ++ r) both ∙ l.invariant.1.2),
+      (done ++ word, put_more l.invariant.1.1 c.in_ok-end.ensures.written, append_assoc done word _ ∙ ap (λ (r : List ℕ). done ++ r) both ∙ l.invariant.1.2),
     )

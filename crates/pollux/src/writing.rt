@@ -38,12 +38,21 @@ fn store(file: &mut (impl Write + OpenFile), bytes: &[u8]) -> io::Result<()> {
     file.sync_all()
 }
 
-// A device has no disk.
-fn put(file: &mut (impl Write + Seek + OpenFile), bytes: &[u8]) -> io::Result<()> {
-    if is_regular(file) {
-        return store(file, bytes);
+// What cannot be synced lies on no disk.
+fn synced(file: &impl OpenFile) -> io::Result<()> {
+    match file.sync_all() {
+        Err(reason) if reason.kind() == ErrorKind::InvalidInput => Ok(()),
+        done => done,
     }
-    file.write_all(bytes)
+}
+
+// It is written first, where it stands open: to ask what it is moves there. A device has no disk.
+fn put(file: &mut (impl Write + Seek + OpenFile), bytes: &[u8]) -> io::Result<()> {
+    file.write_all(bytes)?;
+    if is_regular(file) {
+        return synced(file);
+    }
+    Ok(())
 }
 
 fn write_in_place(
@@ -55,9 +64,11 @@ fn write_in_place(
     match put(file, bytes) {
         Ok(()) => Ok(true),
         Err(reason) => {
-            // Rather nothing than half of it. A device cannot be cut, nor need it.
+            let told = unwritten(rt, path.as_bytes(), reason);
+            // Rather nothing than half of it, nor what was told, where the file took the place of a closed output. A device cannot be cut,
+            // nor need it.
             let _ = file.set_len(0);
-            unwritten(rt, path.as_bytes(), reason)
+            told
         }
     }
 }

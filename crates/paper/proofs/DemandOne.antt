@@ -1,28 +1,26 @@
 -- Demand 1: programs that keep the promises answer every input as the table of 01 says, and a refusal changes nothing lent.
 use Prim.Native.Nat.{ℕ}
+use Rattle.std.specs.Prelude.{Result}
+use Rattle.paper.specs.declared.Refusal.{Refusal as Refused}
+use Rattle.paper.specs.declared.Ended.{Ended}
+use Rattle.paper.specs.declared.Summary.{Summary}
+use Rattle.paper.specs.declared.Agreement.{Agreement}
 use native.Mathlib.Omega.{arith}
 use mathlib.Core.Path.{◌≡◌, refl, sym, ap, subst, ◌∙◌}
 use mathlib.Core.Bool.{Bool}
 use mathlib.Core.List.{List, [], ◌∷◌, Memᴰ}
-use Rattle.paper.specs.declared.Reading.{Reading}
-use Rattle.paper.specs.declared.Checking.{Checking}
-use Rattle.paper.specs.declared.Judgement.{Judgement}
-use Rattle.paper.specs.declared.Loading.{Loading}
-use Rattle.paper.specs.declared.Running.{Running}
-use Rattle.paper.specs.declared.Agreement.{Agreement}
 use Rattle.paper.specs.declared.Explanation.{Explanation}
-use Rattle.paper.specs.declared.Summarizing.{Summarizing}
 use Rattle.paper.specs.declared.Rechecking.{Rechecking}
 use Rattle.paper.specs.declared.Rechecking.TheVariants as K
-use Rattle.paper.specs.Answers.{Input, in_text, in_list, in_entry, in_blocks, in_buffer, in_contract, in_table, Answer, input_of, offset_of, reading_says, checking_says, judgement_says, translation_says, loading_says, running_says, printing_says}
+use Rattle.paper.specs.Answers.{Input, in_text, in_list, in_entry, in_blocks, in_buffer, in_contract, in_table, Answer, input_of, offset_of, says, judgement_says, running_says, Judgement}
 use Rattle.paper.specs.Calls.{read_answer, check_answer, judge_answer, translate_answer, load_answer, run_answer, print_answer}
 use Rattle.paper.specs.Explained.{explanation_says}
 use Rattle.paper.specs.ExplainedRight.{judgement_of}
 use Rattle.paper.specs.Named.{summary_answer, summarizing_says}
 use Rattle.paper.specs.Rechecking.{Rechecked, reused, judged}
 use Rattle.paper.specs.RecheckedRight.{Reusable, Rechecks, is_reused, is_judged}
-use Rattle.paper.specs.Fixing.{fix_answer, fixing_says}
-use Rattle.paper.specs.Drafting.{name_rule, draft_answer, drafting_says}
+use Rattle.paper.specs.Fixing.{fix_answer}
+use Rattle.paper.specs.Drafting.{name_rule, draft_answer}
 use Rattle.paper.specs.Comparing.{compare_answer, agreement_says}
 use Rattle.paper.specs.Counting.{count_answer, counting_says}
 use Rattle.paper.specs.RunAll.{run_all_answer, running_all_says}
@@ -78,16 +76,16 @@ read_located : (inputs : List Lent) (text : List ℕ) → Memᴰ (lent in_text t
 read_located inputs text m =
     located_then inputs (size_stages text) (tree_stages text) (size_located inputs text m) (λ _. tree_located inputs text m)
 
-pub read_answered : (text : List ℕ) (r : Reading) → ReadPromised text r → ReadAnswered text r
+pub read_answered : (text : List ℕ) (r : Result ℕ Refused) → ReadPromised text r → ReadAnswered text r
 read_answered text r promised =
     let inputs = lent in_text text ∷ [] in
-    answered_by inputs (read_answer text) (reading_says r) (read_stages text) (table_holds.read text)
+    answered_by inputs (read_answer text) (says r) (read_stages text) (table_holds.read text)
     (read_located inputs text here) promised
 
-pub check_answered : (text list : List ℕ) (r : Checking) → CheckPromised text list r → CheckAnswered text list r
+pub check_answered : (text list : List ℕ) (r : Result (Unit {0}) Refused) → CheckPromised text list r → CheckAnswered text list r
 check_answered text list r promised =
     let inputs = lent in_text text ∷ lent in_list list ∷ [] in
-    answered_by inputs (check_answer text list) (checking_says r) (check_stages text list) (table_holds.check text list)
+    answered_by inputs (check_answer text list) (says r) (check_stages text list) (table_holds.check text list)
     (check_located inputs text list here second) promised
 
 -- what tells the judgement
@@ -111,13 +109,13 @@ translate_answered text list buffer r promised =
     let inputs = lent in_text text ∷ lent in_list list ∷ lent in_buffer buffer ∷ [] in
     record {
       says =
-          answered_by inputs (translate_answer text list buffer) (translation_says r.answer) (translate_stages text list buffer)
+          answered_by inputs (translate_answer text list buffer) (says r.answer) (translate_stages text list buffer)
           (table_holds.translate text list buffer)
           (located_then inputs (check_stages text list) (buffer_stages text list buffer) (check_located inputs text list here second)
           (λ _. buffer_located inputs text list buffer third)) promised.says;
-      unchanged = λ n at e.
+      unchanged = λ v e.
           promised.holds
-          ∙ refused_unchanged text list buffer n (input_of at) (offset_of at) (sym promised.says ∙ ap translation_says e);
+          ∙ refused_unchanged text list buffer v.number (input_of v.place) (offset_of v.place) (sym promised.says ∙ ap says e);
     }
 
 load_located : (inputs : List Lent) (list blocks : List ℕ) → Memᴰ (lent in_list list) inputs → Memᴰ (lent in_blocks blocks) inputs
@@ -125,13 +123,13 @@ load_located : (inputs : List Lent) (list blocks : List ℕ) → Memᴰ (lent in
 load_located inputs list blocks l s =
     located_then inputs (list_stages list) (block_stages list blocks) (list_located inputs list l) (λ _. block_located inputs list blocks s)
 
-pub load_answered : (list blocks : List ℕ) (r : Loading) → LoadPromised list blocks r → LoadAnswered list blocks r
+pub load_answered : (list blocks : List ℕ) (r : Result ℕ Refused) → LoadPromised list blocks r → LoadAnswered list blocks r
 load_answered list blocks r promised =
     let inputs = lent in_list list ∷ lent in_blocks blocks ∷ [] in
-    answered_by inputs (load_answer list blocks) (loading_says r) (load_stages list blocks) (table_holds.load list blocks)
+    answered_by inputs (load_answer list blocks) (says r) (load_stages list blocks) (table_holds.load list blocks)
     (load_located inputs list blocks here second) promised
 
-pub run_answered : (list blocks entry : List ℕ) (r : Running) → RunPromised list blocks entry r → RunAnswered list blocks entry r
+pub run_answered : (list blocks entry : List ℕ) (r : Result Ended Refused) → RunPromised list blocks entry r → RunAnswered list blocks entry r
 run_answered list blocks entry r promised =
     let inputs = lent in_list list ∷ lent in_blocks blocks ∷ lent in_entry entry ∷ [] in
     answered_by inputs (run_answer list blocks entry) (running_says r) (run_stages list blocks entry) (table_holds.run list blocks entry)
@@ -143,7 +141,7 @@ print_answered text buffer r promised =
     let inputs = lent in_text text ∷ lent in_buffer buffer ∷ [] in
     record {
       says =
-          answered_by inputs (print_answer text buffer) (printing_says r.answer) (print_stages text buffer) (table_holds.print text buffer)
+          answered_by inputs (print_answer text buffer) (says r.answer) (print_stages text buffer) (table_holds.print text buffer)
           (located_then inputs (read_stages text) (printing_stages text buffer) (read_located inputs text here)
           (λ _. printing_located inputs text buffer second)) promised.says;
       unchanged = print_unchanged text buffer r promised;
@@ -154,7 +152,7 @@ fix_answered text buffer r promised =
     let inputs = lent in_text text ∷ lent in_buffer buffer ∷ [] in
     record {
       says =
-          answered_by inputs (fix_answer text buffer) (fixing_says r.answer) (fix_stages text buffer) (table_holds.fix text buffer)
+          answered_by inputs (fix_answer text buffer) (says r.answer) (fix_stages text buffer) (table_holds.fix text buffer)
           (located_then inputs (size_stages text) (fixing_stages text buffer) (size_located inputs text here)
           (λ _. fixing_located inputs text buffer here second)) promised.says;
       unchanged = fix_unchanged text buffer r promised;
@@ -166,14 +164,14 @@ draft_answered contract table list buffer r promised =
     let inputs = lent in_contract contract ∷ lent in_table table ∷ lent in_list list ∷ lent in_buffer buffer ∷ [] in
     record {
       says =
-          answered_by inputs (draft_answer contract table list buffer) (drafting_says r.answer) (draft_stages contract table list buffer)
+          answered_by inputs (draft_answer contract table list buffer) (says r.answer) (draft_stages contract table list buffer)
           (table_holds.draft contract table list buffer)
           (located_then inputs (list_stages_by name_rule list) (drafting_stages contract table list buffer) (list_located_by inputs name_rule list third)
           (λ _. drafting_located inputs contract table list buffer here second fourth)) promised.says;
       unchanged = draft_unchanged contract table list buffer r promised;
     }
 
-pub compare_answered : (text list blocks : List ℕ) (r : Agreement) → ComparePromised text list blocks r → CompareAnswered text list blocks r
+pub compare_answered : (text list blocks : List ℕ) (r : Result Agreement Refused) → ComparePromised text list blocks r → CompareAnswered text list blocks r
 compare_answered text list blocks r promised =
     let inputs = lent in_text text ∷ lent in_list list ∷ lent in_blocks blocks ∷ [] in
     answered_by inputs (compare_answer text list blocks) (agreement_says r) (compare_stages text list blocks) (table_holds.compare text list blocks)
@@ -190,9 +188,9 @@ count_answered text list entries numbers r promised =
           (table_holds.count text list entries)
           (located_then inputs (check_stages text list) (entries_stages list entries) (check_located inputs text list here second)
           (λ _. entries_located inputs list entries third)) promised.says;
-      unchanged = λ n at e.
+      unchanged = λ v e.
           promised.holds
-          ∙ count_unchanged text list entries numbers n (input_of at) (offset_of at) (sym promised.says ∙ ap counting_says e);
+          ∙ count_unchanged text list entries numbers v.number (input_of v.place) (offset_of v.place) (sym promised.says ∙ ap counting_says e);
     }
 
 pub run_all_answered : (list blocks entries answers : List ℕ) (r : RunAllResult) → RunAllPromised list blocks entries answers r
@@ -205,12 +203,12 @@ run_all_answered list blocks entries answers r promised =
           (table_holds.run_all list blocks entries answers)
           (located_then inputs (load_stages list blocks) (table_stages list entries answers) (load_located inputs list blocks here second)
           (λ _. table_located inputs list entries answers third fourth)) promised.says;
-      unchanged = λ n at e.
+      unchanged = λ v e.
           promised.holds
-          ∙ run_all_unchanged list blocks entries answers n (input_of at) (offset_of at) (sym promised.says ∙ ap running_all_says e);
+          ∙ run_all_unchanged list blocks entries answers v.number (input_of v.place) (offset_of v.place) (sym promised.says ∙ ap running_all_says e);
     }
 
-pub summarize_answered : (text list : List ℕ) (r : Summarizing) → SummarizePromised text list r → SummarizeAnswered text list r
+pub summarize_answered : (text list : List ℕ) (r : Result Summary Refused) → SummarizePromised text list r → SummarizeAnswered text list r
 summarize_answered text list r promised =
     let inputs = lent in_text text ∷ lent in_list list ∷ [] in
     answered_by inputs (summary_answer text list) (summarizing_says r) (check_stages text list) (table_holds.summarize text list)

@@ -1,17 +1,16 @@
 -- Demand 3: with programs that keep the promises, the blocks of a text load and say what the text says, in the steps counted over its tree,
 -- and all blocks that load run.
 use Prim.Native.Nat.{ℕ, ◌*◌}
+use Rattle.std.specs.Prelude.{Result, Ok}
+use Rattle.paper.specs.declared.Refusal.{Refusal}
+use Rattle.paper.specs.declared.Ended.{Ended}
 use mathlib.Core.Path.{◌≡◌, sym, ap, ◌∙◌}
 use mathlib.Core.Bool.{Bool}
 use mathlib.Core.List.{List}
 use lib.ListN.{length}
 use borrow.Author.Tests.{le-leb, lt-leb}
 use Rattle.paper.specs.declared.Place.TheVariants as P
-use Rattle.paper.specs.declared.Checking.TheVariants as C
-use Rattle.paper.specs.declared.Translation.TheVariants as T
-use Rattle.paper.specs.declared.Loading.TheVariants as L
-use Rattle.paper.specs.declared.Running.{Running}
-use Rattle.paper.specs.Answers.{ok, Ran, checking_says, translation_says, loading_says, running_says}
+use Rattle.paper.specs.Answers.{ok, Ran, says, running_says, refusal}
 use Rattle.paper.specs.Keys.{Key, keys}
 use Rattle.paper.specs.Entry.{Entry, entry_of}
 use Rattle.paper.specs.Meaning.{is_true, value_of}
@@ -23,7 +22,7 @@ use Rattle.paper.specs.Promised.{verdict_in, judgement_of_run, Bytes, Programs, 
 use Rattle.paper.specs.Demands.{Judgeable, Translates, blocks_written, Carried, Judged, DemandThree, DemandThreeMet}
 use Rattle.paper.proofs.Stages.{ok_same}
 use Rattle.paper.proofs.TranslationCorrect.{translation_carries, checked_count, loaded_answers}
-use Rattle.paper.proofs.Promised.{ran_says, judgement_of_run_lem, judgement_same, translation_same, loading_same, running_same}
+use Rattle.paper.proofs.Promised.{ran_says, judgement_of_run_lem, judgement_same, says_same, running_same}
 use Rattle.paper.proofs.ByteLists.{take_bytes, buffer_bytes}
 use Rattle.paper.proofs.DemandTwo.{checkable_restriction}
 
@@ -39,17 +38,17 @@ unfolding judged_in_steps
 judgeable_steps {text} {list} j = rw (checkable_restriction text list j.passes, j.conforms)
 
 module _ (p : Programs) (kept : Kept p) where
-  translates : (text list : List ℕ) → Bytes text → Bytes list → p.check text list ≡ C.Passed → Translates p text list
+  translates : (text list : List ℕ) → Bytes text → Bytes list → p.check text list ≡ Ok tt → Translates p text list
   translates text list t l e =
-      let (n, few, answer) = checked_count text list (sym (kept.check text list t l) ∙ ap checking_says e) in
+      let (n, few, answer) = checked_count text list (sym (kept.check text list t l) ∙ ap says e) in
       record {
         count = n;
         few = few;
         enough = λ buffer b room.
-            translation_same (p.translate text list buffer).answer (T.Written n)
+            says_same (p.translate text list buffer).answer (Ok n)
             ((kept.translate text list buffer t l b).says ∙ answer buffer ∙ rw (le-leb (block_size * blocks_needed n) (length buffer) room));
         short = λ buffer b little.
-            translation_same (p.translate text list buffer).answer (T.Refused 15 (P.Buffer (length buffer)))
+            says_same (p.translate text list buffer).answer (refusal 15 (P.Buffer (length buffer)))
             ((kept.translate text list buffer t l b).says ∙ answer buffer ∙ rw (lt-leb (block_size * blocks_needed n) (length buffer) little));
       }
 
@@ -57,7 +56,7 @@ module _ (p : Programs) (kept : Kept p) where
   bytes_there text list buffer t l b = rw (kept.translate text list buffer t l b).holds (buffer_bytes text list buffer b)
 
   module _ (text list buffer : List ℕ) (t : Bytes text) (l : Bytes list) (b : Bytes buffer) (n : ℕ)
-      (e : (p.translate text list buffer).answer ≡ T.Written n) where
+      (e : (p.translate text list buffer).answer ≡ Ok n) where
     abbrev blocks : List ℕ
     blocks = blocks_written n (translate_buffer text list buffer)
 
@@ -65,7 +64,7 @@ module _ (p : Programs) (kept : Kept p) where
     blocks_there = take_bytes (block_size * blocks_needed n) (translate_buffer text list buffer) (buffer_bytes text list buffer b)
 
     filled : Filled text list buffer n
-    filled = translation_carries text list buffer n (sym (kept.translate text list buffer t l b).says ∙ ap translation_says e)
+    filled = translation_carries text list buffer n (sym (kept.translate text list buffer t l b).says ∙ ap says e)
 
     abbrev exit : (p.translate text list buffer).buffer ≡ translate_buffer text list buffer
     exit = (kept.translate text list buffer t l b).holds
@@ -74,12 +73,12 @@ module _ (p : Programs) (kept : Kept p) where
     carried =
         record {
           room = filled.room;
-          loads = rw exit (loading_same (p.load list blocks) (L.Loaded n) (kept.load list blocks l blocks_there ∙ filled.carries.loads));
+          loads = rw exit (says_same (p.load list blocks) (Ok n) (kept.load list blocks l blocks_there ∙ filled.carries.loads));
           later = rw exit filled.later;
         }
 
     -- the run of the blocks
-    abbrev running : List ℕ → Running
+    abbrev running : List ℕ → Result Ended Refusal
     running entry = p.run list (blocks_written n (p.translate text list buffer).buffer) entry
 
     ran : (entry : List ℕ) → Bytes entry → running_says (running entry) ≡ run_answer list blocks entry
@@ -103,11 +102,11 @@ module _ (p : Programs) (kept : Kept p) where
         sym (ran_says b m) ∙ sym (ap running_says h) ∙ runs_in_steps entry en ∙ judgeable_steps j in
         ap (λ a. a.steps) (ok_same (record { accepted = b; steps = m }) (judged_on j) told)
 
-  answered : (list blocks : List ℕ) → Bytes list → Bytes blocks → (n : ℕ) → p.load list blocks ≡ L.Loaded n
+  answered : (list blocks : List ℕ) → Bytes list → Bytes blocks → (n : ℕ) → p.load list blocks ≡ Ok n
       → (ks : List Key) → keys list ≡ ok ks → (entry : List ℕ) → Bytes entry → (e : Entry) → entry_of ks entry ≡ ok e
       → Judged p list blocks entry ks e n
   answered list blocks l s n h ks listed entry en e conforms =
-      let a = loaded_answers list blocks entry ks e n (sym (kept.load list blocks l s) ∙ ap loading_says h) listed conforms in
+      let a = loaded_answers list blocks entry ks e n (sym (kept.load list blocks l s) ∙ ap says h) listed conforms in
       record {
         goes = a.run;
         answer =

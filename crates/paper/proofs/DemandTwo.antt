@@ -1,6 +1,14 @@
 -- Demand 2: programs that keep the promises refuse texts and entries exactly as the documents say, and else accept exactly when the
 -- restriction holds.
 use Prim.Native.Nat.{ℕ, ◌+◌, ◌*◌, ◌≤◌}
+use Rattle.std.specs.Prelude.{Result, Ok, Err}
+use Rattle.paper.specs.declared.Refusal.{Refusal}
+use Rattle.paper.specs.declared.Summary as C
+use Rattle.paper.specs.declared.RanAll.{RanAll}
+use Rattle.paper.specs.declared.Counted.{Counted}
+use Rattle.paper.specs.declared.Agreement.{Agreement}
+use Rattle.paper.specs.declared.Verdict.TheVariants.{Accepted, Violated}
+use Rattle.paper.specs.declared.Agreement.TheVariants.{Agrees, Differs}
 use mathlib.Core.Path.{◌≡◌, refl, sym, ap, subst, ◌∙◌}
 use mathlib.Core.Logic.{◌↔◌, ◌⊎◌, inl, inr}
 use mathlib.Core.Bool.{Bool, true, false, true≢false}
@@ -10,25 +18,10 @@ use lib.ListN.{length}
 use lib.Dec.{leb}
 use borrow.Author.Tests.{leb-true, le-leb}
 use Rattle.paper.specs.declared.Place.{Place}
-use Rattle.paper.specs.declared.Reading.{Reading}
-use Rattle.paper.specs.declared.Reading.TheVariants as R
-use Rattle.paper.specs.declared.Checking.{Checking}
-use Rattle.paper.specs.declared.Checking.TheVariants as C
-use Rattle.paper.specs.declared.Judgement.{Judgement}
-use Rattle.paper.specs.declared.Judgement.TheVariants as J
-use Rattle.paper.specs.declared.Translation.TheVariants as T
-use Rattle.paper.specs.declared.Agreement.{Agreement}
-use Rattle.paper.specs.declared.Agreement.TheVariants as A
-use Rattle.paper.specs.declared.Counting.{Counting}
-use Rattle.paper.specs.declared.Counting.TheVariants as E
-use Rattle.paper.specs.declared.RunningAll.{RunningAll}
-use Rattle.paper.specs.declared.RunningAll.TheVariants as U
 use Rattle.paper.specs.declared.Explanation.{Explanation}
-use Rattle.paper.specs.declared.Summarizing.{Summarizing}
-use Rattle.paper.specs.declared.Summarizing.TheVariants as S
 use Rattle.paper.specs.declared.Rechecking.{Rechecking}
 use Rattle.paper.specs.declared.Rechecking.TheVariants as K
-use Rattle.paper.specs.Answers.{in_text, Answer, ok, ◌>>=◌, reading_says, checking_says, judgement_says, translation_says}
+use Rattle.paper.specs.Answers.{in_text, Answer, ok, ◌>>=◌, says, judgement_says, Judgement}
 use Rattle.paper.specs.Tokens.{most_text}
 use Rattle.paper.specs.Keys.{keys}
 use Rattle.paper.specs.Entry.{entry_of}
@@ -39,7 +32,7 @@ use Rattle.paper.specs.Blocks.{block_size, blocks_needed}
 use Rattle.paper.specs.Translating.{code_of, conversions, joins}
 use Rattle.paper.specs.Calls.{sized, tree, Restriction, restriction, check_answer, judge_answer, over}
 use Rattle.paper.specs.Explained.{explanation_says}
-use Rattle.paper.specs.Named.{names, marked, set_of, Summary, summary_answer, summarizing_says}
+use Rattle.paper.specs.Named.{names, marked, set_of, Summary, summary_answer, summarizing_says, summed}
 use Rattle.paper.specs.Rechecking.{said_by, rechecking_says}
 use Rattle.paper.specs.RecheckedRight.{Summarizes}
 use Rattle.paper.specs.Loading.{loaded}
@@ -47,14 +40,14 @@ use Rattle.paper.specs.TranslationCorrect.{verdict_of}
 use Rattle.paper.specs.Comparing.{compare_answer, agreement_says, agreement}
 use Rattle.paper.specs.ComparedRight as Q
 use Rattle.paper.specs.Counting.{whole_in, most_entries, counted as countsThere, Totals, totals_of, count_answer, noted, count_numbers, counting_says}
-use Rattle.paper.specs.RunAll.{AllRan, all_ran, ran_all, run_all_answer, answered, run_all_bytes, running_all_says}
+use Rattle.paper.specs.RunAll.{AllRan, all_ran, ran_all, run_all_answer, answered, run_all_bytes, running_all_says, ran_over}
 use Rattle.paper.specs.Promised.{verdict, judgement_of_run, Bytes, Programs, Kept, ComparePromised, CountResult, CountPromised, RunAllResult, RunAllPromised, ReadPromised, CheckPromised, JudgePromised, TranslateResult, TranslatePromised, ExplainPromised, SummarizePromised, RecheckPromised}
 use Rattle.paper.specs.Demands.{Checkable, Judgeable, Refuses, ReadRight, CheckedRight, JudgedRight, TranslatedRight, Comparable, CompareRight, AgreementMeans, Countable, counts_in, CountRight, AllRunnable, verdicts_in, RunAllRight, ExplainRight, SummarizeRight, judgement_in, RecheckRight, DemandTwoMet}
 use Rattle.paper.proofs.Stages.{never_ok, ok_same, bind_ok, require_ok}
 use Rattle.paper.proofs.LoadedBlocksRun.{conforming}
 use Rattle.paper.proofs.TypeSoundness.{judged, bool_root}
 use Rattle.paper.proofs.TranslationCorrect.{passing, counted, translating, translates, translated}
-use Rattle.paper.proofs.Promised.{verdict_says, reading_same, checking_same, judgement_of_run_lem, judgement_same, translation_same, agreement_says_lem, agreement_same, summarizing_same}
+use Rattle.paper.proofs.Promised.{verdict_says, says_same, judgement_of_run_lem, judgement_same, agreement_says_lem, agreement_same, summarizing_same}
 use Rattle.paper.proofs.WellFormed.{formed_tree, tree_formed, formed_answer, answer_formed}
 use Rattle.paper.proofs.PrintDemands.{printed_right}
 use Rattle.paper.proofs.FixDemands.{fixes_right}
@@ -144,12 +137,12 @@ module _ (Fit X : Type 0) (tell : Bool → X) (read : X → Bool) (reads : (b : 
   said r e = sym promised ∙ ap judgement_says e
 
   refused_when : (r : Judgement) → got ≡ r → ¬ Fit → Refuses r
-  refused_when J.Accepted e unfit = absurd (unfit (fits true (said J.Accepted e)))
-  refused_when J.Violated e unfit = absurd (unfit (fits false (said J.Violated e)))
-  refused_when (J.Refused n at) e unfit = (n, at, refl)
+  refused_when (Ok Accepted) e unfit = absurd (unfit (fits true (said (Ok Accepted) e)))
+  refused_when (Ok Violated) e unfit = absurd (unfit (fits false (said (Ok Violated) e)))
+  refused_when (Err v) e unfit = (v, refl)
 
   not_fit : Refuses got → ¬ Fit
-  not_fit (n, at, e) j = never_ok (sym (ap judgement_says e) ∙ promised ∙ answers j)
+  not_fit (v, e) j = never_ok (sym (ap judgement_says e) ∙ promised ∙ answers j)
 
   pub refused_exactly : Refuses got ↔ ¬ Fit
   refused_exactly = (not_fit, refused_when got refl)
@@ -166,16 +159,16 @@ module _ (Fit X : Type 0) (tell : Bool → X) (read : X → Bool) (reads : (b : 
 
 -- by what is promised of one call's result
 
-pub read_right : (text : List ℕ) (r : Reading) → ReadPromised text r → ReadRight text r
+pub read_right : (text : List ℕ) (r : Result ℕ Refusal) → ReadPromised text r → ReadRight text r
 read_right text r promised n = (
-  λ e. answer_formed text n (sym promised ∙ ap reading_says e),
-  λ (root, formed, same). reading_same r (R.Read n) (promised ∙ formed_answer text root formed ∙ ap (λ x. ok x) same),
+  λ e. answer_formed text n (sym promised ∙ ap says e),
+  λ (root, formed, same). says_same r (Ok n) (promised ∙ formed_answer text root formed ∙ ap (λ x. ok x) same),
 )
 
-pub checked_right : (text list : List ℕ) (r : Checking) → CheckPromised text list r → CheckedRight text list r
+pub checked_right : (text list : List ℕ) (r : Result (Unit {0}) Refusal) → CheckPromised text list r → CheckedRight text list r
 checked_right text list r promised = (
-  λ e. answer_checkable text list (sym promised ∙ ap checking_says e),
-  λ c. checking_same r C.Passed (promised ∙ checkable_answer text list c),
+  λ e. answer_checkable text list (sym promised ∙ ap says e),
+  λ c. says_same r (Ok tt) (promised ∙ checkable_answer text list c),
 )
 
 pub judged_right : (text list entry : List ℕ) (r : Judgement) → JudgePromised text list entry r → JudgedRight text list entry r
@@ -197,7 +190,7 @@ pub translated_right : (text list buffer : List ℕ) (r : TranslateResult) → T
     → TranslatedRight text list buffer r
 translated_right text list buffer r promised n = (
   λ e.
-      let answer = sym (translates text list buffer) ∙ sym promised.says ∙ ap translation_says e in
+      let answer = sym (translates text list buffer) ∙ sym promised.says ∙ ap says e in
       let (q, passed, rest) = bind_ok (restriction text list) (translating buffer) n answer in
       let (count, room) = translated buffer q n rest in
       let (c, same) = restriction_checkable text list q passed in
@@ -213,7 +206,7 @@ translated_right text list buffer r promised n = (
       let q = restricts text list t.passes in
       let passed = checkable_restriction text list t.passes in
       let count : length (code_of q.keys q.root) ≡ n = counted text list q passed ∙ sym t.count in
-      translation_same r.answer (T.Written n)
+      says_same r.answer (Ok n)
       (promised.says ∙ translates text list buffer ∙ ap (λ x. x >>= translating buffer) passed
       ∙ rw (count, le-leb (block_size * blocks_needed n) (length buffer) t.room)),
 )
@@ -223,7 +216,7 @@ explain_right text list entry r promised = (explained_is_right text list entry (
 
 -- a summary: that of the restriction of a text that passes
 
-module _ (text list : List ℕ) (r : Summarizing) (promised : SummarizePromised text list r) where
+module _ (text list : List ℕ) (r : Result C.Summary Refusal) (promised : SummarizePromised text list r) where
   summary_checkable : (s : Summary) → summary_answer text list ≡ ok s → Checkable text list
   unfolding summary_answer
   summary_checkable s e =
@@ -244,7 +237,7 @@ module _ (text list : List ℕ) (r : Summarizing) (promised : SummarizePromised 
           λ (keys, priority, e). summary_checkable (record { keys = keys; priority = priority }) (sym promised ∙ ap summarizing_says e),
           λ c.
               let (s, there, _) = checkable_summary c in
-              (s.keys, s.priority, summarizing_same r (S.Summary s.keys s.priority) (promised ∙ there)),
+              (s.keys, s.priority, summarizing_same r (summed s.keys s.priority) (promised ∙ there)),
         );
         summary = λ keys priority e c.
             let (s, there, right) = checkable_summary c in
@@ -278,18 +271,18 @@ module _ (text list blocks : List ℕ) where
         loads = ap (λ (r : Restriction). loaded r.keys blocks) same ∙ q.loads;
       }
 
-  either_way : (r : Agreement) (b : Bool) → r ≡ agreement b → (r ≡ A.Agrees) ⊎ (r ≡ A.Differs)
+  either_way : (r : Result Agreement Refusal) (b : Bool) → r ≡ agreement b → (r ≡ Ok Agrees) ⊎ (r ≡ Ok Differs)
   either_way r true e = inl e
   either_way r false e = inr e
 
-  module _ (s : Bytes blocks) (r : Agreement) (promised : ComparePromised text list blocks r) where
+  module _ (s : Bytes blocks) (r : Result Agreement Refusal) (promised : ComparePromised text list blocks r) where
     said_compared : (b : Bool) → r ≡ agreement b → compare_answer text list blocks ≡ ok b
     said_compared b e = sym promised ∙ ap agreement_says e ∙ agreement_says_lem b
 
     compared_said : (b : Bool) → compare_answer text list blocks ≡ ok b → r ≡ agreement b
     compared_said b e = agreement_same r (agreement b) (promised ∙ e ∙ sym (agreement_says_lem b))
 
-    one_said : (r ≡ A.Agrees) ⊎ (r ≡ A.Differs) → Comparable text list blocks
+    one_said : (r ≡ Ok Agrees) ⊎ (r ≡ Ok Differs) → Comparable text list blocks
     one_said (inl e) = answer_comparable true (said_compared true e)
     one_said (inr e) = answer_comparable false (said_compared false e)
 
@@ -304,8 +297,8 @@ module _ (text list blocks : List ℕ) where
 
   -- what a result that is right says
 
-  module _ (s : Bytes blocks) (r : Agreement) (right : CompareRight text list blocks r) where
-    right_agrees : Comparable text list blocks → (r ≡ A.Agrees) ↔ (compare_answer text list blocks ≡ ok true)
+  module _ (s : Bytes blocks) (r : Result Agreement Refusal) (right : CompareRight text list blocks r) where
+    right_agrees : Comparable text list blocks → (r ≡ Ok Agrees) ↔ (compare_answer text list blocks ≡ ok true)
     right_agrees c =
         let (there, back) = agrees_exactly text list blocks s (with_rule c) in
         let (ours, said) = right.agrees c in
@@ -315,7 +308,7 @@ module _ (text list blocks : List ℕ) where
     right_compared true e = (right_agrees (answer_comparable true e)).1 e
     right_compared false e = let c = answer_comparable false e in go (right_agrees c).0 (right.compares.1 c)
       where
-        go : (r ≡ A.Agrees → compare_answer text list blocks ≡ ok true) → (r ≡ A.Agrees) ⊎ (r ≡ A.Differs) → r ≡ A.Differs
+        go : (r ≡ Ok Agrees → compare_answer text list blocks ≡ ok true) → (r ≡ Ok Agrees) ⊎ (r ≡ Ok Differs) → r ≡ Ok Differs
         go agreed (inl h) = absurd (true≢false (ok_same true false (sym (agreed h) ∙ e)))
         go agreed (inr h) = h
 
@@ -356,16 +349,16 @@ module _ (text list entries : List ℕ) where
         few = subst (λ (x : Restriction). whole_in x.keys entries ≤ most_entries) (sym same) q.few;
       }
 
-  refused_else : (a : Counting) → counting_says a ≡ count_answer text list entries → ¬ Countable text list entries
-      → (n : ℕ) × (at : Place) × (a ≡ E.Refused n at)
-  refused_else (E.Counted n a v f c) says unfit = absurd (unfit (answer_countable _ (sym says)))
-  refused_else (E.Refused n at) says unfit = (n, at, refl)
+  refused_else : (a : Result Counted Refusal) → counting_says a ≡ count_answer text list entries → ¬ Countable text list entries
+      → (v : Refusal) × (a ≡ Err v)
+  refused_else (Ok t) says unfit = absurd (unfit (answer_countable _ (sym says)))
+  refused_else (Err v) says unfit = (v, refl)
 
   pub count_right : (numbers : List ℕ) (r : CountResult) → CountPromised text list entries numbers r → CountRight text list entries numbers r
   count_right numbers r promised =
       record {
         refuses = (
-          λ (n, at, e) c. never_ok (sym (ap counting_says e) ∙ promised.says ∙ countable_answer c),
+          λ (v, e) c. never_ok (sym (ap counting_says e) ∙ promised.says ∙ countable_answer c),
           refused_else r.answer promised.says,
         );
         totals = λ c. promised.says ∙ countable_answer c;
@@ -392,16 +385,16 @@ module _ (list blocks entries answers : List ℕ) where
       let (v, there, _) = bind_ok (ran_all list blocks entries answers) (λ v. ok (all_ran v)) a e in
       (all_runnable list blocks entries answers v there).0
 
-  refused_unless : (a : RunningAll) → running_all_says a ≡ run_all_answer list blocks entries answers → ¬ CanRun
-      → (n : ℕ) × (at : Place) × (a ≡ U.Refused n at)
-  refused_unless (U.Ran n s) says unfit = absurd (unfit (totals_runnable _ (sym says)))
-  refused_unless (U.Refused n at) says unfit = (n, at, refl)
+  refused_unless : (a : Result RanAll Refusal) → running_all_says a ≡ run_all_answer list blocks entries answers → ¬ CanRun
+      → (v : Refusal) × (a ≡ Err v)
+  refused_unless (Ok t) says unfit = absurd (unfit (totals_runnable _ (sym says)))
+  refused_unless (Err v) says unfit = (v, refl)
 
   pub run_all_right : (r : RunAllResult) → RunAllPromised list blocks entries answers r → RunAllRight list blocks entries answers r
   run_all_right r promised =
       record {
         refuses = (
-          λ (n, at, e) j. never_ok (sym (ap running_all_says e) ∙ promised.says ∙ runnable_totals j),
+          λ (v, e) j. never_ok (sym (ap running_all_says e) ∙ promised.says ∙ runnable_totals j),
           refused_unless r.answer promised.says,
         );
         totals = λ j. promised.says ∙ runnable_totals j;

@@ -6,7 +6,6 @@ use mathlib.Core.Path.{◌≡◌, refl, sym, ap, ap₂, subst, ◌∙◌}
 use mathlib.Core.Bool.{Bool, cond}
 use mathlib.Core.Option.{Option, some}
 use mathlib.Core.List.{List, [], ◌∷◌}
-use Rattle.paper.specs.declared.Summarizing.TheVariants as S
 use Rattle.paper.specs.Answers.{Answer, ok, refused, ◌>>=◌}
 use Rattle.paper.specs.Tokens.{sequel}
 use Rattle.paper.specs.Keys.{Key, keys}
@@ -21,7 +20,7 @@ use Rattle.paper.specs.TranslationCorrect.{judged_in_steps}
 use Rattle.paper.specs.Parts.{Part, parts}
 use Rattle.paper.specs.PartsDecide.{JoinedLeft, alone, then, roots}
 use Rattle.paper.specs.Explained.{holds_on, first_false, false_part, reason_for, explain_answer}
-use Rattle.paper.specs.Named.{names, marked, set_of, Summary, summary_answer, summarizing_says}
+use Rattle.paper.specs.Named.{names, marked, set_of, Summary, summary_answer, summarizing_says, summed}
 use Rattle.paper.specs.RecheckedRight.{bit_at, SameNamed, BothConform}
 use Rattle.paper.specs.Promised.{Bytes, Programs, Kept}
 use Rattle.paper.specs.Dependence.{Alike, UnnamedDoesNotMatter, SummaryTellsAll, SummaryTellsNoMore, spell_out, with_record, SpelledOutDoesNotMatter}
@@ -102,7 +101,7 @@ unnamed_does_not_matter p kept text list entry other t l en ot both same =
 -- what the summary of a text and a list that pass tells
 
 module _ (p : Programs) (kept : Kept p) (text list : List ℕ) (t : Bytes text) (l : Bytes list) (set : ℕ) (mark : Bool)
-    (says : p.summarize text list ≡ S.Summary set mark) where
+    (says : p.summarize text list ≡ summed set mark) where
   abbrev told : Summary
   told = record { keys = set; priority = mark }
 

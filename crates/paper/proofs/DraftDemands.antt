@@ -1,6 +1,8 @@
 -- A result that keeps the promise of `pact` leaves the buffer as it is where it is a refusal; else the text of a contract that has a meaning
 -- stands there, exactly where it is within the limits and may be lent; of an empty contract that is "true".
 use Prim.Native.Nat.{ℕ, ◌≤◌}
+use Rattle.std.specs.Prelude.{Ok, Err}
+use Rattle.paper.specs.declared.Refusal.{Refusal}
 use native.Mathlib.Omega.{arith}
 use mathlib.Core.Path.{◌≡◌, refl, sym, ap, ◌∙◌}
 use mathlib.Core.Bool.{true, ◌&&◌, and-eq-true_iff}
@@ -9,8 +11,7 @@ use lib.ListN.{length}
 use lib.Dec.{leb}
 use borrow.Author.Tests.{leb-true, le-leb}
 use Rattle.paper.specs.declared.Place.{Place}
-use Rattle.paper.specs.declared.Drafting.TheVariants as D
-use Rattle.paper.specs.Answers.{in_table, in_buffer, ok, ◌>>=◌, require, input_of, offset_of}
+use Rattle.paper.specs.Answers.{in_table, in_buffer, ok, ◌>>=◌, require, input_of, offset_of, says}
 use Rattle.paper.specs.Tokens.{bytes, most_text, most_tokens}
 use Rattle.paper.specs.Keys.{Key}
 use Rattle.paper.specs.Grammar.{Tree, truth, most_levels}
@@ -19,14 +20,14 @@ use Rattle.paper.specs.Sized.{levels, count}
 use Rattle.paper.specs.Calls.{lends, laid}
 use Rattle.paper.specs.Pact.{most_indices, Clause}
 use Rattle.paper.specs.Contract.{clauses_from, clauses}
-use Rattle.paper.specs.Drafting.{contract_tree, names_of, table_sized, drafted, lends_text, draftable, draft_answer, draft_buffer, drafting_says}
+use Rattle.paper.specs.Drafting.{contract_tree, names_of, table_sized, drafted, lends_text, draftable, draft_answer, draft_buffer}
 use Rattle.paper.specs.Promised.{DraftResult, DraftPromised}
 use Rattle.paper.specs.Demands.{Draftable, DraftsRight}
 use Rattle.paper.specs.DraftedRight.{EmptyGivesTrue}
 use Rattle.paper.proofs.Stages.{ok_same, bind_ok, require_ok}
 use Rattle.paper.proofs.ContractRead.{contracts_read}
 use Rattle.paper.proofs.Lending.{lends_has, lends_all, refused_before}
-use Rattle.paper.proofs.Promised.{drafting_same}
+use Rattle.paper.proofs.Promised.{says_same}
 
 -- the tree that is made of a contract which passes
 
@@ -143,19 +144,19 @@ module _ (contract table list buffer : List ℕ) where
       rw (draftable_is, has_drafted contract table list d.root made) (has_text d.root buffer (print d.root) lent)
 
   module _ (r : DraftResult) (promised : DraftPromised contract table list buffer r) where
-    pub draft_unchanged : (n : ℕ) (at : Place) → r.answer ≡ D.Refused n at → r.buffer ≡ buffer
-    draft_unchanged n at e =
+    pub draft_unchanged : (v : Refusal) → r.answer ≡ Err v → r.buffer ≡ buffer
+    draft_unchanged v e =
         promised.holds ∙ buffer_is
-        ∙ refused_before buffer (draftable contract table list buffer) n (input_of at) (offset_of at)
-        (sym answer_is ∙ sym promised.says ∙ ap drafting_says e)
+        ∙ refused_before buffer (draftable contract table list buffer) v.number (input_of v.place) (offset_of v.place)
+        (sym answer_is ∙ sym promised.says ∙ ap says e)
 
     pub drafts_right : DraftsRight contract table list buffer r
     drafts_right =
         record {
           drafts = λ n. (
-            λ e. answer_draftable n (sym promised.says ∙ ap drafting_says e),
+            λ e. answer_draftable n (sym promised.says ∙ ap says e),
             λ d.
-                drafting_same r.answer (D.Drafted n)
+                says_same r.answer (Ok n)
                 (promised.says ∙ answer_is ∙ ap (λ x. x >>= λ s. ok (length s)) (draftable_bytes n d) ∙ ap (λ m. ok m) (sym d.size)),
           );
           written = λ n d. promised.holds ∙ buffer_is ∙ ap (λ x. laid x buffer) (draftable_bytes n d);

@@ -1,11 +1,11 @@
 -- What programs that keep the promises make of a contract: the text that stands in the buffer is bytes, passes with the names, and is judged
 -- on an entry as the contract says of the entry's numbers.
 use Prim.Native.Nat.{ℕ}
+use Rattle.std.specs.Prelude.{Ok}
 use mathlib.Core.Path.{◌≡◌, sym, ap, subst, ◌∙◌}
 use mathlib.Core.List.{List}
 use lib.ListN.{length, take}
 use lib.Seq.{take_at}
-use Rattle.paper.specs.declared.Checking.TheVariants as C
 use Rattle.paper.specs.Answers.{ok}
 use Rattle.paper.specs.Entry.{Entry, entry_of}
 use Rattle.paper.specs.Print.{print}
@@ -13,7 +13,7 @@ use Rattle.paper.specs.Sized.{Clean}
 use Rattle.paper.specs.Pact.{contract_holds}
 use Rattle.paper.specs.Promised.{verdict, Bytes, UserNumbers, Programs, Kept}
 use Rattle.paper.specs.Demands.{Draftable, DraftMeans, inputs_of}
-use Rattle.paper.proofs.Promised.{verdict_says, checking_same, judgement_same}
+use Rattle.paper.proofs.Promised.{verdict_says, says_same, judgement_same}
 use Rattle.paper.proofs.PrintBytes.{print_bytes}
 use Rattle.paper.proofs.ContractRead.{contracts_read}
 use Rattle.paper.proofs.DraftDemands.{draftable_bytes, drafts_right}
@@ -35,9 +35,9 @@ module _ (p : Programs) (kept : Kept p) (contract table list buffer : List ℕ) 
     are_bytes =
         print_bytes d.root (subst Clean (sym d.made) (clean_contract list d.ks d.named table small d.clauses d.indexed))
 
-    text_passes : p.check text list ≡ C.Passed
+    text_passes : p.check text list ≡ Ok tt
     text_passes =
-        checking_same (p.check text list) C.Passed
+        says_same (p.check text list) (Ok tt)
         (kept.check text list are_bytes l ∙ texts_mean.passes contract table list buffer text small (draftable_bytes contract table list buffer n d))
 
     text_judged : (entry : List ℕ) (e : Entry) → Bytes entry → entry_of d.ks entry ≡ ok e
@@ -56,7 +56,7 @@ pub draft_means : (p : Programs) → Kept p → (contract table list buffer : Li
 draft_means p kept contract table list buffer c small l b =
     record {
       passes = λ n d.
-          subst (λ s. p.check s list ≡ C.Passed) (sym (in_buffer p kept contract table list buffer c small l b n d))
+          subst (λ s. p.check s list ≡ Ok tt) (sym (in_buffer p kept contract table list buffer c small l b n d))
           (text_passes p kept contract table list buffer c small l b n d);
       judged = λ n d entry e en conforms.
           subst (λ s. p.judge s list entry ≡ verdict (contract_holds (inputs_of e) table d.clauses))

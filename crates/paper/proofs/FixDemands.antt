@@ -2,6 +2,8 @@
 -- stands there, exactly where the text is cut into tokens by the old rules and the bytes fit: what the pass makes is no longer than the
 -- text, and so within the limit.
 use Prim.Native.Nat.{ℕ, ◌≤◌}
+use Rattle.std.specs.Prelude.{Ok, Err}
+use Rattle.paper.specs.declared.Refusal.{Refusal}
 use native.Mathlib.Omega.{arith}
 use mathlib.Core.Path.{◌≡◌, refl, sym, ap, ◌∙◌}
 use mathlib.Core.List.{List}
@@ -9,17 +11,16 @@ use lib.ListN.{length}
 use lib.Dec.{leb}
 use borrow.Author.Tests.{leb-true, le-leb}
 use Rattle.paper.specs.declared.Place.{Place}
-use Rattle.paper.specs.declared.Fixing.TheVariants as F
-use Rattle.paper.specs.Answers.{in_text, ok, ◌>>=◌, input_of, offset_of}
+use Rattle.paper.specs.Answers.{in_text, ok, ◌>>=◌, input_of, offset_of, says}
 use Rattle.paper.specs.Tokens.{most_text}
 use Rattle.paper.specs.Calls.{sized, lends, laid}
-use Rattle.paper.specs.Fixing.{old_tokens, fixed, fixable, fix_answer, fix_buffer, fixing_says}
+use Rattle.paper.specs.Fixing.{old_tokens, fixed, fixable, fix_answer, fix_buffer}
 use Rattle.paper.specs.Promised.{FixResult, FixPromised}
 use Rattle.paper.specs.Demands.{Fixable, FixesRight}
 use Rattle.paper.proofs.Stages.{ok_same, bind_ok, require_ok}
 use Rattle.paper.proofs.Lending.{lends_has, lends_all, refused_before}
 use Rattle.paper.proofs.TokenFaults.{old_tokens_are_cut}
-use Rattle.paper.proofs.Promised.{fixing_same}
+use Rattle.paper.proofs.Promised.{says_same}
 use Rattle.paper.proofs.NeverLonger.{never_longer}
 
 module _ (text buffer : List ℕ) where
@@ -58,18 +59,18 @@ module _ (text buffer : List ℕ) where
       (lends_all (fixed text) buffer within (rw (← f.count) f.room))
 
   module _ (r : FixResult) (promised : FixPromised text buffer r) where
-    pub fix_unchanged : (n : ℕ) (at : Place) → r.answer ≡ F.Refused n at → r.buffer ≡ buffer
-    fix_unchanged n at e =
+    pub fix_unchanged : (v : Refusal) → r.answer ≡ Err v → r.buffer ≡ buffer
+    fix_unchanged v e =
         promised.holds ∙ buffer_is
-        ∙ refused_before buffer (fixable text buffer) n (input_of at) (offset_of at) (sym answer_is ∙ sym promised.says ∙ ap fixing_says e)
+        ∙ refused_before buffer (fixable text buffer) v.number (input_of v.place) (offset_of v.place) (sym answer_is ∙ sym promised.says ∙ ap says e)
 
     pub fixes_right : FixesRight text buffer r
     fixes_right =
         record {
           fixes = λ n. (
-            λ e. answer_fixable n (sym promised.says ∙ ap fixing_says e),
+            λ e. answer_fixable n (sym promised.says ∙ ap says e),
             λ f.
-                fixing_same r.answer (F.Fixed n)
+                says_same r.answer (Ok n)
                 (promised.says ∙ answer_is ∙ ap (λ x. x >>= λ s. ok (length s)) (fixable_bytes n f) ∙ ap (λ m. ok m) (sym f.count)),
           );
           written = λ n f. promised.holds ∙ buffer_is ∙ ap (λ x. laid x buffer) (fixable_bytes n f);

@@ -1,14 +1,15 @@
 -- A result that keeps the promise of `print` leaves the buffer as it is where it is a refusal; else the print of a well-formed text stands
 -- there, exactly where that may be lent.
 use Prim.Native.Nat.{ℕ}
+use Rattle.std.specs.Prelude.{Ok, Err}
+use Rattle.paper.specs.declared.Refusal.{Refusal}
 use mathlib.Core.Path.{◌≡◌, refl, sym, ap, ◌∙◌}
 use mathlib.Core.List.{List}
 use lib.ListN.{length}
 use lib.Dec.{leb}
 use borrow.Author.Tests.{leb-true, le-leb}
 use Rattle.paper.specs.declared.Place.{Place}
-use Rattle.paper.specs.declared.Printing.TheVariants as W
-use Rattle.paper.specs.Answers.{in_text, ok, ◌>>=◌, input_of, offset_of, printing_says}
+use Rattle.paper.specs.Answers.{in_text, ok, ◌>>=◌, input_of, offset_of, says}
 use Rattle.paper.specs.Tokens.{most_text}
 use Rattle.paper.specs.Print.{print}
 use Rattle.paper.specs.Calls.{printable, print_answer, laid, print_buffer}
@@ -16,7 +17,7 @@ use Rattle.paper.specs.Promised.{PrintResult, PrintPromised}
 use Rattle.paper.specs.Demands.{Printable, PrintedRight}
 use Rattle.paper.proofs.Stages.{ok_same, bind_ok, require_ok}
 use Rattle.paper.proofs.Lending.{refused_before}
-use Rattle.paper.proofs.Promised.{printing_same}
+use Rattle.paper.proofs.Promised.{says_same}
 use Rattle.paper.proofs.WellFormed.{formed_tree, tree_formed}
 use Rattle.paper.proofs.PrintReadsBack.{printable_is, lent_has}
 
@@ -55,18 +56,18 @@ module _ (text buffer : List ℕ) where
       }
 
   module _ (r : PrintResult) (promised : PrintPromised text buffer r) where
-    pub print_unchanged : (n : ℕ) (at : Place) → r.answer ≡ W.Refused n at → r.buffer ≡ buffer
-    print_unchanged n at e =
+    pub print_unchanged : (v : Refusal) → r.answer ≡ Err v → r.buffer ≡ buffer
+    print_unchanged v e =
         promised.holds ∙ buffer_is
-        ∙ refused_before buffer (printable text buffer) n (input_of at) (offset_of at) (sym answer_is ∙ sym promised.says ∙ ap printing_says e)
+        ∙ refused_before buffer (printable text buffer) v.number (input_of v.place) (offset_of v.place) (sym answer_is ∙ sym promised.says ∙ ap says e)
 
     pub printed_right : PrintedRight text buffer r
     printed_right =
         record {
           prints = λ n. (
-            λ e. answer_printable n (sym promised.says ∙ ap printing_says e),
+            λ e. answer_printable n (sym promised.says ∙ ap says e),
             λ p.
-                printing_same r.answer (W.Printed n)
+                says_same r.answer (Ok n)
                 (promised.says ∙ answer_is ∙ ap (λ x. x >>= λ s. ok (length s)) (printable_bytes n p) ∙ ap (λ m. ok m) (sym p.count)),
           );
           written = λ n p. promised.holds ∙ buffer_is ∙ ap (λ x. laid x buffer) (printable_bytes n p);

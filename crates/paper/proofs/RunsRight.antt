@@ -1,15 +1,17 @@
 -- Demand 2 of a run: it is refused exactly when the list does not pass, the blocks do not load or the entry does not conform; and else it says
 -- the bool that is left, and how many steps were taken.
 use Prim.Native.Nat.{ℕ}
+use Rattle.paper.specs.declared.Verdict.TheVariants.{Accepted, Violated}
+use Rattle.std.specs.Prelude.{Result, Err, Ok}
+use Rattle.paper.specs.declared.Refusal.{Refusal}
+use Rattle.paper.specs.declared.Ended.{Ended}
 use mathlib.Core.Path.{◌≡◌, refl, sym, ap, ◌∙◌}
 use mathlib.Core.Logic.{◌↔◌}
 use mathlib.Core.Bool.{Bool, true, false}
 use mathlib.Core.List.{List, [], ◌∷◌}
 use lib.ListN.{length}
 use Rattle.paper.specs.declared.Place.{Place}
-use Rattle.paper.specs.declared.Running.{Running}
-use Rattle.paper.specs.declared.Running.TheVariants as N
-use Rattle.paper.specs.Answers.{Answer, ok, ◌>>=◌, Ran, running_says}
+use Rattle.paper.specs.Answers.{Answer, ok, ◌>>=◌, Ran, running_says, ended}
 use Rattle.paper.specs.Keys.{Key, keys}
 use Rattle.paper.specs.Entry.{Entry, entry_of}
 use Rattle.paper.specs.Meaning.{truth}
@@ -46,14 +48,13 @@ module _ (list blocks entry : List ℕ) where
   runnable_truth j = loaded_runs j.ks blocks j.count j.loads j.on (conforming j.ks entry j.on j.conforms)
 
   -- so what a run says is that bool, and its steps
-  module _ (r : Running) (promised : RunPromised list blocks entry r) where
-    run_refuses : (got : Running) → r ≡ got → ¬ Runnable list blocks entry → (n : ℕ) × (at : Place) × (got ≡ N.Refused n at)
-    run_refuses (N.Accepted n) e unfit = absurd (unfit (answer_runnable _ (sym promised ∙ ap running_says e)))
-    run_refuses (N.Violated n) e unfit = absurd (unfit (answer_runnable _ (sym promised ∙ ap running_says e)))
-    run_refuses (N.Refused n at) e unfit = (n, at, refl)
+  module _ (r : Result Ended Refusal) (promised : RunPromised list blocks entry r) where
+    run_refuses : (got : Result Ended Refusal) → r ≡ got → ¬ Runnable list blocks entry → (v : Refusal) × (got ≡ Err v)
+    run_refuses (Ok a) e unfit = absurd (unfit (answer_runnable _ (sym promised ∙ ap running_says e)))
+    run_refuses (Err v) e unfit = (v, refl)
 
-    runnable_runs : ((n : ℕ) × (at : Place) × (r ≡ N.Refused n at)) → ¬ Runnable list blocks entry
-    runnable_runs (n, at, e) j = never_ok (sym (ap running_says e) ∙ promised ∙ runnable_answer j)
+    runnable_runs : ((v : Refusal) × (r ≡ Err v)) → ¬ Runnable list blocks entry
+    runnable_runs (v, e) j = never_ok (sym (ap running_says e) ∙ promised ∙ runnable_answer j)
 
     told_in_steps : (j : Runnable list blocks entry) (b : Bool) (n : ℕ) → (r ≡ verdict_in b n) ↔ LeavesIn list blocks entry j b n
     told_in_steps j b n =
@@ -70,7 +71,7 @@ module _ (list blocks entry : List ℕ) where
               (promised ∙ answered path b there ∙ ap (λ (m : ℕ). ok (record { accepted = b; steps = m })) size ∙ sym (ran_says b n)),
         )
 
-pub ran_right : (list blocks entry : List ℕ) (r : Running) → RunPromised list blocks entry r → RanRight list blocks entry r
+pub ran_right : (list blocks entry : List ℕ) (r : Result Ended Refusal) → RunPromised list blocks entry r → RanRight list blocks entry r
 ran_right list blocks entry r promised =
     record {
       refuses = (runnable_runs list blocks entry r promised, run_refuses list blocks entry r promised r refl);

@@ -1,12 +1,12 @@
 -- Laws of answers in stages: what is known of a call that passes.
 use Prim.Native.Nat.{ℕ}
+use Rattle.std.specs.Prelude.{Result, Ok, Err}
+use Rattle.paper.specs.declared.Refusal.{Refusal}
 use native.Mathlib.Omega.{arith}
 use mathlib.Core.Path.{◌≡◌, refl}
 use mathlib.Core.Bool.{Bool, true, false}
 use Rattle.paper.specs.declared.Place.{Place}
-use Rattle.paper.specs.declared.Counted.{Counted}
-use Rattle.paper.specs.declared.Counted.TheVariants.{Count, Refused}
-use Rattle.paper.specs.Answers.{Answer, ok, refused, ◌>>=◌, require, Input, input_of, offset_of, counted_says}
+use Rattle.paper.specs.Answers.{Answer, ok, refused, ◌>>=◌, require, Input, input_of, offset_of, says, refused_by}
 
 -- a property of what is answered, if anything is
 abbrev pub Of : {A : Type 0} → (A → Type 0) → Answer A → Type 0
@@ -55,9 +55,9 @@ of_bind P Q (ok a) f h k = k a h
 of_bind P Q (refused n i at) f h k = tt
 
 -- a stage that refused, and one that counted: what the stages after it come to
-module _ {B : Type 0} {o : Answer ℕ} (f : ℕ → Answer B) (r : Counted) (says : counted_says r ≡ o) where
-  pub refused_up : {k : ℕ} {p : Place} → r ≡ Refused k p → refused k (input_of p) (offset_of p) ≡ (o >>= f)
+module _ {B : Type 0} {o : Answer ℕ} (f : ℕ → Answer B) (r : Result ℕ Refusal) (says : says r ≡ o) where
+  pub refused_up : {v : Refusal} → r ≡ Err v → refused_by v ≡ (o >>= f)
   refused_up e = rw (← says, e)
 
-  pub counted_on : {n : ℕ} → r ≡ Count n → f n ≡ (o >>= f)
+  pub counted_on : {n : ℕ} → r ≡ Ok n → f n ≡ (o >>= f)
   counted_on e = rw (← says, e)

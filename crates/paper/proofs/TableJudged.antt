@@ -1,10 +1,13 @@
 -- A table by the blocks of a text: byte i is what `run` says of entry i, and that is what the text is judged to say of it.
-use Prim.Native.Nat.{◌*◌}
+use Prim.Native.Nat.{ℕ, ◌*◌}
+use Rattle.paper.specs.declared.Verdict.{Verdict}
+use Rattle.paper.specs.declared.Verdict.TheVariants.{Accepted, Violated}
+use Rattle.std.specs.Prelude.{Result, Err, Ok}
+use Rattle.paper.specs.declared.Refusal.{Refusal}
+use Rattle.paper.specs.declared.Ended.{Ended}
 use mathlib.Core.Path.{◌≡◌, refl, ap, ◌∙◌}
 use lib.ListN.{drop}
-use Rattle.paper.specs.declared.Running.{Running}
-use Rattle.paper.specs.declared.Running.TheVariants as N
-use Rattle.paper.specs.Answers.{running_says}
+use Rattle.paper.specs.Answers.{running_says, ended}
 use Rattle.paper.specs.Blocks.{block_size, blocks_needed}
 use Rattle.paper.specs.Counting.{entry_size}
 use Rattle.paper.specs.RunAll.{verdict_byte}
@@ -15,10 +18,13 @@ use Rattle.paper.proofs.ByteLists.{take_bytes, drop_bytes}
 use Rattle.paper.proofs.DemandThree.{demand_three_met}
 use Rattle.paper.proofs.RunAllRight.{table_is_its_runs}
 
-byte_of_run : (r : Running) → verdict_byte (running_says r) ≡ judgement_byte (judgement_of_run r)
-byte_of_run (N.Accepted n) = refl
-byte_of_run (N.Violated n) = refl
-byte_of_run (N.Refused n at) = refl
+byte_of : (v : Verdict) (steps : ℕ) → verdict_byte (running_says (ended v steps)) ≡ judgement_byte (Ok v)
+byte_of Accepted steps = refl
+byte_of Violated steps = refl
+
+byte_of_run : (r : Result Ended Refusal) → verdict_byte (running_says r) ≡ judgement_byte (judgement_of_run r)
+byte_of_run (Ok e) = byte_of e.verdict e.steps
+byte_of_run (Err v) = refl
 
 pub table_is_judged : TableIsJudged
 table_is_judged p kept text list buffer t l b m written entries answers e a n s answer ks listed i inside =

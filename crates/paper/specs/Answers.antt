@@ -1,24 +1,12 @@
 -- 01, "Refusal numbers": "A refusal's place says which input it lies in (text, key list, entry, blocks, buffer) and a byte
 -- offset." 02 k: "Places may now lie in the contract or the number table." And for the enum of every call and stage, this paper's number and values for each of its cases.
-use Rattle.std.specs.Prelude.{ℕ, zero, suc, Bool, true, false}
+use Rattle.std.specs.Prelude.{ℕ, zero, suc, Bool, true, false, Result, Ok, Err}
+use Rattle.paper.specs.declared.Refusal.{Refusal}
+use Rattle.paper.specs.declared.Ended.{Ended}
+use Rattle.paper.specs.declared.Verdict.{Verdict}
+use Rattle.paper.specs.declared.Verdict.TheVariants.{Accepted, Violated}
 use Rattle.paper.specs.declared.Place.{Place}
 use Rattle.paper.specs.declared.Place.TheVariants as P
-use Rattle.paper.specs.declared.Reading.{Reading}
-use Rattle.paper.specs.declared.Reading.TheVariants as R
-use Rattle.paper.specs.declared.Checking.{Checking}
-use Rattle.paper.specs.declared.Checking.TheVariants as C
-use Rattle.paper.specs.declared.Judgement.{Judgement}
-use Rattle.paper.specs.declared.Judgement.TheVariants as J
-use Rattle.paper.specs.declared.Translation.{Translation}
-use Rattle.paper.specs.declared.Translation.TheVariants as T
-use Rattle.paper.specs.declared.Loading.{Loading}
-use Rattle.paper.specs.declared.Loading.TheVariants as L
-use Rattle.paper.specs.declared.Running.{Running}
-use Rattle.paper.specs.declared.Running.TheVariants as N
-use Rattle.paper.specs.declared.Printing.{Printing}
-use Rattle.paper.specs.declared.Printing.TheVariants as W
-use Rattle.paper.specs.declared.Counted.{Counted}
-use Rattle.paper.specs.declared.Counted.TheVariants as S
 
 pub data Input : Type 0 where
   in_text in_list in_entry in_blocks in_buffer in_contract in_table : Input
@@ -62,43 +50,44 @@ offset_of (P.Buffer at) = at
 offset_of (P.Contract at) = at
 offset_of (P.Table at) = at
 
-abbrev pub reading_says : Reading → Answer ℕ
-reading_says (R.Read n) = ok n
-reading_says (R.Refused n p) = refused n (input_of p) (offset_of p)
+-- a refusal, in the paper's number and place
+abbrev pub refused_by : {A : Type 0} → Refusal → Answer A
+refused_by v = refused v.number (input_of v.place) (offset_of v.place)
 
-abbrev pub checking_says : Checking → Answer (Unit {0})
-checking_says C.Passed = ok tt
-checking_says (C.Refused n p) = refused n (input_of p) (offset_of p)
+-- what a call or a stage of one answers with what was asked for, read by f; and as it is
+abbrev pub says_as : {A B : Type 0} → (A → B) → Result A Refusal → Answer B
+says_as f (Ok a) = ok (f a)
+says_as f (Err v) = refused_by v
+
+abbrev pub says : {A : Type 0} → Result A Refusal → Answer A
+says (Ok a) = ok a
+says (Err v) = refused_by v
+
+-- such an answer with a refusal of this number at this place
+abbrev pub refusal : {A : Type 0} → ℕ → Place → Result A Refusal
+refusal n p = Err (record { number = n; place = p })
 
 -- accepted: true; violated: false
+abbrev pub accepts : Verdict → Bool
+accepts Accepted = true
+accepts Violated = false
+
+abbrev pub Judgement : Type 0
+Judgement = Result Verdict Refusal
+
 abbrev pub judgement_says : Judgement → Answer Bool
-judgement_says J.Accepted = ok true
-judgement_says J.Violated = ok false
-judgement_says (J.Refused n p) = refused n (input_of p) (offset_of p)
-
-abbrev pub translation_says : Translation → Answer ℕ
-translation_says (T.Written n) = ok n
-translation_says (T.Refused n p) = refused n (input_of p) (offset_of p)
-
-abbrev pub loading_says : Loading → Answer ℕ
-loading_says (L.Loaded n) = ok n
-loading_says (L.Refused n p) = refused n (input_of p) (offset_of p)
+judgement_says = says_as accepts
 
 -- 02 g: whether the entry is accepted, and "the steps taken"
 pub record Ran : Type 0 where
   pub accepted : Bool
   pub steps : ℕ
 
-abbrev pub running_says : Running → Answer Ran
-running_says (N.Accepted steps) = ok (record { accepted = true; steps = steps })
-running_says (N.Violated steps) = ok (record { accepted = false; steps = steps })
-running_says (N.Refused n p) = refused n (input_of p) (offset_of p)
+abbrev pub ran : Ended → Ran
+ran e = record { accepted = accepts e.verdict; steps = e.steps }
 
-abbrev pub printing_says : Printing → Answer ℕ
-printing_says (W.Printed n) = ok n
-printing_says (W.Refused n p) = refused n (input_of p) (offset_of p)
+abbrev pub ended : Verdict → ℕ → Result Ended Refusal
+ended v n = Ok (record { verdict = v; steps = n })
 
--- a stage of a call
-abbrev pub counted_says : Counted → Answer ℕ
-counted_says (S.Count n) = ok n
-counted_says (S.Refused n p) = refused n (input_of p) (offset_of p)
+abbrev pub running_says : Result Ended Refusal → Answer Ran
+running_says = says_as ran

@@ -4,11 +4,12 @@
 --
 -- First what it is to agree; then how it is found, from the end of the code, where it is never in doubt which part comes last. ComparedRight
 -- says that the one is the other.
-use Rattle.std.specs.Prelude.{ℕ, zero, suc, ◌+◌, ◌-◌, ◌≡◌, Bool, true, false, ◌&&◌, List, [], ◌∷◌, ◌++◌, map, length, take, drop, leb}
-use Rattle.std.proofs.Math.Option.{Option, none, some}
+use Rattle.std.specs.Prelude.{ℕ, zero, suc, ◌+◌, ◌-◌, ◌≡◌, Bool, true, false, ◌&&◌, List, [], ◌∷◌, ◌++◌, map, length, take, drop, leb, Result, Ok, Err}
+use Rattle.paper.specs.declared.Refusal.{Refusal}
 use Rattle.paper.specs.declared.Agreement.{Agreement}
-use Rattle.paper.specs.declared.Agreement.TheVariants as A
-use Rattle.paper.specs.Answers.{Answer, ok, refused, ◌>>=◌, input_of, offset_of}
+use Rattle.paper.specs.declared.Agreement.TheVariants.{Agrees, Differs}
+use Rattle.std.proofs.Math.Option.{Option, none, some}
+use Rattle.paper.specs.Answers.{Answer, ok, refused, ◌>>=◌, input_of, offset_of, refused_by, says_as}
 use Rattle.paper.specs.Numbers.{bytes_at}
 use Rattle.paper.specs.Tokens.{same_bytes}
 use Rattle.paper.specs.Keys.{Key}
@@ -118,11 +119,16 @@ compare_answer text list blocks =
     >>= λ ps. loaded r.keys blocks
     >>= λ _. ok (fits (length ps - 1) (part_codes r.keys ps) (records_in blocks))
 
-abbrev pub agreement_says : Agreement → Answer Bool
-agreement_says A.Agrees = ok true
-agreement_says A.Differs = ok false
-agreement_says (A.Refused n p) = refused n (input_of p) (offset_of p)
+abbrev pub agrees : Agreement → Bool
+agrees Agrees = true
+agrees Differs = false
 
-abbrev pub agreement : Bool → Agreement
-agreement true = A.Agrees
-agreement false = A.Differs
+abbrev pub agreement_says : Result Agreement Refusal → Answer Bool
+agreement_says = says_as agrees
+
+abbrev pub agreement_for : Bool → Agreement
+agreement_for true = Agrees
+agreement_for false = Differs
+
+abbrev pub agreement : Bool → Result Agreement Refusal
+agreement b = Ok (agreement_for b)

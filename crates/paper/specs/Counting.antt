@@ -3,11 +3,11 @@
 -- the number of whole entries; a cut last entry enters no total. Beyond 1,000,000 whole entries it writes only "refusal 25" (new); a refused
 -- list or text comes before that and gives only "refusal", its number and its offset. .. Each number equals a definition over the list of
 -- entries."
-use Rattle.std.specs.Prelude.{ℕ, zero, suc, ◌+◌, ◌*◌, ◌/◌, ◌%◌, Bool, true, false, cond, List, [], ◌∷◌, ◌++◌, map, length, take, drop, eqb, leb}
+use Rattle.std.specs.Prelude.{ℕ, zero, suc, ◌+◌, ◌*◌, ◌/◌, ◌%◌, Bool, true, false, cond, List, [], ◌∷◌, ◌++◌, map, length, take, drop, eqb, leb, Result, Err}
+use Rattle.paper.specs.declared.Refusal.{Refusal}
+use Rattle.paper.specs.declared.Counted.{Counted}
 use Prim.Native.String as S
-use Rattle.paper.specs.declared.Counting.{Counting}
-use Rattle.paper.specs.declared.Counting.TheVariants as C
-use Rattle.paper.specs.Answers.{Answer, ok, refused, ◌>>=◌, require, in_entry, input_of, offset_of}
+use Rattle.paper.specs.Answers.{Answer, ok, refused, ◌>>=◌, require, in_entry, input_of, offset_of, refused_by, says_as}
 use Rattle.paper.specs.Tokens.{bytes}
 use Rattle.paper.specs.Keys.{Key}
 use Rattle.paper.specs.Entry.{head_size, match_size, entry_of}
@@ -127,9 +127,11 @@ unfoldable pub count_numbers : List ℕ → List ℕ → List ℕ → List ℕ �
 unfolding counted
 count_numbers text list entries numbers = noted (counted text list entries) numbers
 
-abbrev pub counting_says : Counting → Answer Totals
-counting_says (C.Counted n a v r c) = ok (record { parts = n; accepted = a; violated = v; refused = r; cut = c })
-counting_says (C.Refused n p) = refused n (input_of p) (offset_of p)
+abbrev pub totals : Counted → Totals
+totals c = record { parts = c.parts; accepted = c.accepted; violated = c.violated; refused = c.refused; cut = c.cut }
+
+abbrev pub counting_says : Result Counted Refusal → Answer Totals
+counting_says = says_as totals
 
 -- What the program writes: ""part 1 0", "part 2 2", "accepted 0", "violated 2", "refused 0", "cut 3"; the last stands only where an entry is
 -- cut", each a line

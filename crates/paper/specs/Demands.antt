@@ -7,35 +7,21 @@
 -- 3. "For every text and list that pass, the blocks written load with that list, and running them gives demand 2's answer. Any other
 --    blocks that load, whoever made them, run on every conforming entry to accepted or violated, each instruction once, never missing an
 --    operand, never holding more than 384 values." With 02 g: "In demand 3 "each once" becomes "each at most once"."
-use Rattle.std.specs.Prelude.{ℕ, ◌+◌, ◌*◌, ◌≤◌, ◌<◌, ◌≡◌, ◌↔◌, ◌⊎◌, Bool, true, false, length, take, drop}
+use Rattle.std.specs.Prelude.{ℕ, ◌+◌, ◌*◌, ◌≤◌, ◌<◌, ◌≡◌, ◌↔◌, ◌⊎◌, Bool, true, false, length, take, drop, Result, Ok, Err}
+use Rattle.paper.specs.declared.Refusal.{Refusal as Refused}
+use Rattle.paper.specs.declared.Ended.{Ended}
+use Rattle.paper.specs.declared.Summary.{Summary}
+use Rattle.paper.specs.declared.Agreement.{Agreement}
+use Rattle.paper.specs.declared.Verdict.TheVariants.{Accepted, Violated}
+use Rattle.paper.specs.declared.Agreement.TheVariants.{Agrees, Differs}
 use Rattle.std.proofs.Math.Option.{some}
 use mathlib.Core.List.{List, [], ◌∷◌, map, Memᴰ}
 use Rattle.paper.specs.declared.Place.{Place}
 use Rattle.paper.specs.declared.Place.TheVariants as P
-use Rattle.paper.specs.declared.Reading.{Reading}
-use Rattle.paper.specs.declared.Reading.TheVariants as R
-use Rattle.paper.specs.declared.Checking.{Checking}
-use Rattle.paper.specs.declared.Checking.TheVariants as C
-use Rattle.paper.specs.declared.Judgement.{Judgement}
-use Rattle.paper.specs.declared.Judgement.TheVariants as J
-use Rattle.paper.specs.declared.Translation.TheVariants as T
-use Rattle.paper.specs.declared.Loading.{Loading}
-use Rattle.paper.specs.declared.Loading.TheVariants as L
-use Rattle.paper.specs.declared.Running.{Running}
-use Rattle.paper.specs.declared.Running.TheVariants as N
-use Rattle.paper.specs.declared.Printing.TheVariants as W
-use Rattle.paper.specs.declared.Fixing.TheVariants as F
-use Rattle.paper.specs.declared.Drafting.TheVariants as D
-use Rattle.paper.specs.declared.Agreement.{Agreement}
-use Rattle.paper.specs.declared.Agreement.TheVariants as A
-use Rattle.paper.specs.declared.Counting.TheVariants as E
-use Rattle.paper.specs.declared.RunningAll.TheVariants as U
 use Rattle.paper.specs.declared.Explanation.{Explanation}
-use Rattle.paper.specs.declared.Summarizing.{Summarizing}
-use Rattle.paper.specs.declared.Summarizing.TheVariants as S
 use Rattle.paper.specs.declared.Rechecking.{Rechecking}
 use Rattle.paper.specs.declared.Rechecking.TheVariants as K
-use Rattle.paper.specs.Answers.{Input, in_text, in_list, in_entry, in_blocks, in_buffer, in_contract, in_table, Answer, ok, refused, reading_says, checking_says, judgement_says, translation_says, loading_says, running_says, printing_says}
+use Rattle.paper.specs.Answers.{Input, in_text, in_list, in_entry, in_blocks, in_buffer, in_contract, in_table, Answer, ok, refused, says, judgement_says, running_says, refusal, Judgement, ended}
 use Rattle.paper.specs.Tokens.{Token, most_text, most_tokens}
 use Rattle.paper.specs.Keys.{Key, keys}
 use Rattle.paper.specs.Entry.{Match, Entry, entry_of}
@@ -51,11 +37,11 @@ use Rattle.paper.specs.Sized.{levels, count}
 use Rattle.paper.specs.Calls.{over}
 use Rattle.paper.specs.Explained.{explanation_says}
 use Rattle.paper.specs.ExplainedRight.{Explains, judgement_of}
-use Rattle.paper.specs.Named.{summarizing_says}
+use Rattle.paper.specs.Named.{summarizing_says, summed}
 use Rattle.paper.specs.Rechecking.{rechecking_says}
-use Rattle.paper.specs.Fixing.{old_scan, fixed, fixing_says}
+use Rattle.paper.specs.Fixing.{old_scan, fixed}
 use Rattle.paper.specs.Pact.{most_indices, Clause, contract_holds, contract_bytes, AllIndexed}
-use Rattle.paper.specs.Drafting.{contract_tree, names_of, drafting_says}
+use Rattle.paper.specs.Drafting.{contract_tree, names_of}
 use Rattle.paper.specs.Parts.{Part, parts}
 use Rattle.paper.specs.PartsDecide.{roots}
 use Rattle.paper.specs.Comparing.{Ours, agreement_says}
@@ -96,11 +82,11 @@ pub record Answered {A : Type 0} (inputs : List Lent) (stages : List Stage) (a :
 
 -- for the inputs of each call, and what it answers for them
 
-abbrev pub ReadAnswered : List ℕ → Reading → Type 0
-ReadAnswered text r = Answered (lent in_text text ∷ []) (read_stages text) (reading_says r)
+abbrev pub ReadAnswered : List ℕ → Result ℕ Refused → Type 0
+ReadAnswered text r = Answered (lent in_text text ∷ []) (read_stages text) (says r)
 
-abbrev pub CheckAnswered : List ℕ → List ℕ → Checking → Type 0
-CheckAnswered text list r = Answered (lent in_text text ∷ lent in_list list ∷ []) (check_stages text list) (checking_says r)
+abbrev pub CheckAnswered : List ℕ → List ℕ → Result (Unit {0}) Refused → Type 0
+CheckAnswered text list r = Answered (lent in_text text ∷ lent in_list list ∷ []) (check_stages text list) (says r)
 
 -- by judging, or by explaining
 abbrev pub EntryAnswered : List ℕ → List ℕ → List ℕ → Answer Bool → Type 0
@@ -115,45 +101,45 @@ ExplainAnswered text list entry r = EntryAnswered text list entry (judgement_of 
 -- and the buffer, which a refusal leaves as it is
 pub record TranslateAnswered (text list buffer : List ℕ) (r : TranslateResult) : Type 0 where
   pub says : Answered (lent in_text text ∷ lent in_list list ∷ lent in_buffer buffer ∷ []) (translate_stages text list buffer)
-      (translation_says r.answer)
-  pub unchanged : (n : ℕ) (at : Place) → r.answer ≡ T.Refused n at → r.buffer ≡ buffer
+      (says r.answer)
+  pub unchanged : (v : Refused) → r.answer ≡ Err v → r.buffer ≡ buffer
 
-abbrev pub LoadAnswered : List ℕ → List ℕ → Loading → Type 0
-LoadAnswered list blocks r = Answered (lent in_list list ∷ lent in_blocks blocks ∷ []) (load_stages list blocks) (loading_says r)
+abbrev pub LoadAnswered : List ℕ → List ℕ → Result ℕ Refused → Type 0
+LoadAnswered list blocks r = Answered (lent in_list list ∷ lent in_blocks blocks ∷ []) (load_stages list blocks) (says r)
 
-abbrev pub RunAnswered : List ℕ → List ℕ → List ℕ → Running → Type 0
+abbrev pub RunAnswered : List ℕ → List ℕ → List ℕ → Result Ended Refused → Type 0
 RunAnswered list blocks entry r =
     Answered (lent in_list list ∷ lent in_blocks blocks ∷ lent in_entry entry ∷ []) (run_stages list blocks entry) (running_says r)
 
 pub record PrintAnswered (text buffer : List ℕ) (r : PrintResult) : Type 0 where
-  pub says : Answered (lent in_text text ∷ lent in_buffer buffer ∷ []) (print_stages text buffer) (printing_says r.answer)
-  pub unchanged : (n : ℕ) (at : Place) → r.answer ≡ W.Refused n at → r.buffer ≡ buffer
+  pub says : Answered (lent in_text text ∷ lent in_buffer buffer ∷ []) (print_stages text buffer) (says r.answer)
+  pub unchanged : (v : Refused) → r.answer ≡ Err v → r.buffer ≡ buffer
 
 pub record FixAnswered (text buffer : List ℕ) (r : FixResult) : Type 0 where
-  pub says : Answered (lent in_text text ∷ lent in_buffer buffer ∷ []) (fix_stages text buffer) (fixing_says r.answer)
-  pub unchanged : (n : ℕ) (at : Place) → r.answer ≡ F.Refused n at → r.buffer ≡ buffer
+  pub says : Answered (lent in_text text ∷ lent in_buffer buffer ∷ []) (fix_stages text buffer) (says r.answer)
+  pub unchanged : (v : Refused) → r.answer ≡ Err v → r.buffer ≡ buffer
 
 -- the offset in a table counts its numbers
 pub record DraftAnswered (contract table list buffer : List ℕ) (r : DraftResult) : Type 0 where
   pub says : Answered (lent in_contract contract ∷ lent in_table table ∷ lent in_list list ∷ lent in_buffer buffer ∷ [])
-      (draft_stages contract table list buffer) (drafting_says r.answer)
-  pub unchanged : (n : ℕ) (at : Place) → r.answer ≡ D.Refused n at → r.buffer ≡ buffer
+      (draft_stages contract table list buffer) (says r.answer)
+  pub unchanged : (v : Refused) → r.answer ≡ Err v → r.buffer ≡ buffer
 
-abbrev pub CompareAnswered : List ℕ → List ℕ → List ℕ → Agreement → Type 0
+abbrev pub CompareAnswered : List ℕ → List ℕ → List ℕ → Result Agreement Refused → Type 0
 CompareAnswered text list blocks r =
     Answered (lent in_text text ∷ lent in_list list ∷ lent in_blocks blocks ∷ []) (compare_stages text list blocks) (agreement_says r)
 
 pub record CountAnswered (text list entries numbers : List ℕ) (r : CountResult) : Type 0 where
   pub says : Answered (lent in_text text ∷ lent in_list list ∷ lent in_entry entries ∷ []) (count_stages text list entries)
       (counting_says r.answer)
-  pub unchanged : (n : ℕ) (at : Place) → r.answer ≡ E.Refused n at → r.numbers ≡ numbers
+  pub unchanged : (v : Refused) → r.answer ≡ Err v → r.numbers ≡ numbers
 
 pub record RunAllAnswered (list blocks entries answers : List ℕ) (r : RunAllResult) : Type 0 where
   pub says : Answered (lent in_list list ∷ lent in_blocks blocks ∷ lent in_entry entries ∷ lent in_buffer answers ∷ [])
       (run_all_stages list blocks entries answers) (running_all_says r.answer)
-  pub unchanged : (n : ℕ) (at : Place) → r.answer ≡ U.Refused n at → r.bytes ≡ answers
+  pub unchanged : (v : Refused) → r.answer ≡ Err v → r.bytes ≡ answers
 
-abbrev pub SummarizeAnswered : List ℕ → List ℕ → Summarizing → Type 0
+abbrev pub SummarizeAnswered : List ℕ → List ℕ → Result Summary Refused → Type 0
 SummarizeAnswered text list r = Answered (lent in_text text ∷ lent in_list list ∷ []) (check_stages text list) (summarizing_says r)
 
 abbrev pub RecheckAnswered : List ℕ → List ℕ → Judgement → List ℕ → Rechecking → Type 0
@@ -219,22 +205,22 @@ pub record Runnable (list blocks entry : List ℕ) : Type 0 where
   pub conforms : entry_of ks entry ≡ ok on
 
 abbrev pub Refuses : Judgement → Type 0
-Refuses r = (n : ℕ) × (at : Place) × (r ≡ J.Refused n at)
+Refuses r = (v : Refused) × (r ≡ Err v)
 
 -- for the inputs of each call, and what it answers for them
 
-abbrev pub ReadRight : List ℕ → Reading → Type 0
-ReadRight text r = (n : ℕ) → (r ≡ R.Read n) ↔ ((root : Tree) × WellFormed text root × (nodes root ≡ n))
+abbrev pub ReadRight : List ℕ → Result ℕ Refused → Type 0
+ReadRight text r = (n : ℕ) → (r ≡ Ok n) ↔ ((root : Tree) × WellFormed text root × (nodes root ≡ n))
 
-abbrev pub CheckedRight : List ℕ → List ℕ → Checking → Type 0
-CheckedRight text list r = (r ≡ C.Passed) ↔ Checkable text list
+abbrev pub CheckedRight : List ℕ → List ℕ → Result (Unit {0}) Refused → Type 0
+CheckedRight text list r = (r ≡ Ok tt) ↔ Checkable text list
 
 pub record JudgedRight (text list entry : List ℕ) (r : Judgement) : Type 0 where
   pub refuses : Refuses r ↔ ¬ Judgeable text list entry
   pub accepts : (j : Judgeable text list entry)
-      → (r ≡ J.Accepted) ↔ (value_of j.passes.ks j.on j.passes.root ≡ some (truth true))
+      → (r ≡ Ok Accepted) ↔ (value_of j.passes.ks j.on j.passes.root ≡ some (truth true))
   pub violates : (j : Judgeable text list entry)
-      → (r ≡ J.Violated) ↔ (value_of j.passes.ks j.on j.passes.root ≡ some (truth false))
+      → (r ≡ Ok Violated) ↔ (value_of j.passes.ks j.on j.passes.root ≡ some (truth false))
 
 -- n instructions, as 01 and 02 g count them, for a buffer that their blocks fit in
 pub record Translatable (text list buffer : List ℕ) (n : ℕ) : Type 0 where
@@ -243,7 +229,7 @@ pub record Translatable (text list buffer : List ℕ) (n : ℕ) : Type 0 where
   pub room : block_size * blocks_needed n ≤ length buffer
 
 abbrev pub TranslatedRight : List ℕ → List ℕ → List ℕ → TranslateResult → Type 0
-TranslatedRight text list buffer r = (n : ℕ) → (r.answer ≡ T.Written n) ↔ Translatable text list buffer n
+TranslatedRight text list buffer r = (n : ℕ) → (r.answer ≡ Ok n) ↔ Translatable text list buffer n
 
 -- n bytes, the print of a text that is well-formed, for a buffer that they fit in
 pub record Printable (text buffer : List ℕ) (n : ℕ) : Type 0 where
@@ -255,7 +241,7 @@ pub record Printable (text buffer : List ℕ) (n : ℕ) : Type 0 where
 
 -- they are written, and "Bytes after a print .. stay"
 pub record PrintedRight (text buffer : List ℕ) (r : PrintResult) : Type 0 where
-  pub prints : (n : ℕ) → (r.answer ≡ W.Printed n) ↔ Printable text buffer n
+  pub prints : (n : ℕ) → (r.answer ≡ Ok n) ↔ Printable text buffer n
   pub written : (n : ℕ) (p : Printable text buffer n) → r.buffer ≡ over (print p.root) buffer
 
 -- n bytes, what 02 h's pass makes of a text that is cut into tokens by the old rules, for a buffer that they fit in
@@ -268,7 +254,7 @@ pub record Fixable (text buffer : List ℕ) (n : ℕ) : Type 0 where
 
 -- they are written, and the bytes after them stay
 pub record FixesRight (text buffer : List ℕ) (r : FixResult) : Type 0 where
-  pub fixes : (n : ℕ) → (r.answer ≡ F.Fixed n) ↔ Fixable text buffer n
+  pub fixes : (n : ℕ) → (r.answer ≡ Ok n) ↔ Fixable text buffer n
   pub written : (n : ℕ) → Fixable text buffer n → r.buffer ≡ over (fixed text) buffer
 
 -- n bytes, the text of a contract that has a meaning with those names and user numbers, within 01's limits, for a buffer that they fit in
@@ -289,7 +275,7 @@ pub record Draftable (contract table list buffer : List ℕ) (n : ℕ) : Type 0 
 
 -- they are written, and the bytes after them stay
 pub record DraftsRight (contract table list buffer : List ℕ) (r : DraftResult) : Type 0 where
-  pub drafts : (n : ℕ) → (r.answer ≡ D.Drafted n) ↔ Draftable contract table list buffer n
+  pub drafts : (n : ℕ) → (r.answer ≡ Ok n) ↔ Draftable contract table list buffer n
   pub written : (n : ℕ) (d : Draftable contract table list buffer n) → r.buffer ≡ over (print d.root) buffer
 
 -- the numbers of the inputs in an entry
@@ -299,7 +285,7 @@ inputs_of e = map (λ (m : Match). m.first) e.matches
 -- "The text judged on an entry with those inputs equals the contract's own meaning, written from 000."; it passes with those names
 pub record DraftMeans (p : Programs) (contract table list buffer : List ℕ) : Type 0 where
   pub passes : (n : ℕ) → Draftable contract table list buffer n
-      → p.check (take n (p.draft contract table list buffer).buffer) list ≡ C.Passed
+      → p.check (take n (p.draft contract table list buffer).buffer) list ≡ Ok tt
   pub judged : (n : ℕ) (d : Draftable contract table list buffer n) (entry : List ℕ) (e : Entry) → Bytes entry → entry_of d.ks entry ≡ ok e
       → p.judge (take n (p.draft contract table list buffer).buffer) list entry ≡ verdict (contract_holds (inputs_of e) table d.clauses)
 
@@ -313,14 +299,14 @@ pub record Comparable (text list blocks : List ℕ) : Type 0 where
 
 -- ""agrees" exactly when the blocks load and are our translation of the same top-level parts .. Blocks that load and do not fit give
 -- "differs".": every other text, list or blocks is refused
-pub record CompareRight (text list blocks : List ℕ) (r : Agreement) : Type 0 where
-  pub compares : ((r ≡ A.Agrees) ⊎ (r ≡ A.Differs)) ↔ Comparable text list blocks
-  pub agrees : (c : Comparable text list blocks) → (r ≡ A.Agrees) ↔ Ours c.passes.ks (roots c.ps) blocks
+pub record CompareRight (text list blocks : List ℕ) (r : Result Agreement Refused) : Type 0 where
+  pub compares : ((r ≡ Ok Agrees) ⊎ (r ≡ Ok Differs)) ↔ Comparable text list blocks
+  pub agrees : (c : Comparable text list blocks) → (r ≡ Ok Agrees) ↔ Ours c.passes.ks (roots c.ps) blocks
 
 -- "Agreement means equal answers on every conforming entry.", and the same refusals of every other
 abbrev pub AgreementMeans : Programs → List ℕ → List ℕ → List ℕ → Type 0
 AgreementMeans p text list blocks =
-    p.compare text list blocks ≡ A.Agrees
+    p.compare text list blocks ≡ Ok Agrees
     → (entry : List ℕ) → Bytes entry → judgement_of_run (p.run list blocks entry) ≡ p.judge text list entry
 
 -- a text that passes with a list, its parts, and no more entries than are counted
@@ -335,7 +321,7 @@ counts_in text list entries c = counts_of c.passes.ks c.passes.root c.ps entries
 
 -- "Each number equals a definition over the list of entries.": every other text, list or file is refused
 pub record CountRight (text list entries numbers : List ℕ) (r : CountResult) : Type 0 where
-  pub refuses : ((n : ℕ) × (at : Place) × (r.answer ≡ E.Refused n at)) ↔ ¬ Countable text list entries
+  pub refuses : ((v : Refused) × (r.answer ≡ Err v)) ↔ ¬ Countable text list entries
   pub totals : (c : Countable text list entries)
       → counting_says r.answer ≡ ok (totals_of (counts_in text list entries c))
   pub written : (c : Countable text list entries) → r.numbers ≡ over (counts_in text list entries c).parts numbers
@@ -347,10 +333,10 @@ LeavesIn list blocks entry j b n =
 
 -- "The entry is accepted exactly when the bool left at the end is true, else violated; this holds for all blocks that load"; "Running
 -- reports the steps taken"
-pub record RanRight (list blocks entry : List ℕ) (r : Running) : Type 0 where
-  pub refuses : ((n : ℕ) × (at : Place) × (r ≡ N.Refused n at)) ↔ ¬ Runnable list blocks entry
-  pub accepts : (j : Runnable list blocks entry) (n : ℕ) → (r ≡ N.Accepted n) ↔ LeavesIn list blocks entry j true n
-  pub violates : (j : Runnable list blocks entry) (n : ℕ) → (r ≡ N.Violated n) ↔ LeavesIn list blocks entry j false n
+pub record RanRight (list blocks entry : List ℕ) (r : Result Ended Refused) : Type 0 where
+  pub refuses : ((v : Refused) × (r ≡ Err v)) ↔ ¬ Runnable list blocks entry
+  pub accepts : (j : Runnable list blocks entry) (n : ℕ) → (r ≡ ended Accepted n) ↔ LeavesIn list blocks entry j true n
+  pub violates : (j : Runnable list blocks entry) (n : ℕ) → (r ≡ ended Violated n) ↔ LeavesIn list blocks entry j false n
 
 -- blocks that load, entries of which none is cut, and an answer for each
 pub record AllRunnable (list blocks entries answers : List ℕ) : Type 0 where
@@ -367,7 +353,7 @@ verdicts_in list blocks entries answers j = verdicts_on j.ks blocks entries
 -- "loads once, then a byte for each entry laid end to end (accepted, violated, refused 20); later bytes of the answers stay": every other list,
 -- blocks, entries or answers are refused
 pub record RunAllRight (list blocks entries answers : List ℕ) (r : RunAllResult) : Type 0 where
-  pub refuses : ((n : ℕ) × (at : Place) × (r.answer ≡ U.Refused n at)) ↔ ¬ AllRunnable list blocks entries answers
+  pub refuses : ((v : Refused) × (r.answer ≡ Err v)) ↔ ¬ AllRunnable list blocks entries answers
   pub totals : (j : AllRunnable list blocks entries answers)
       → running_all_says r.answer ≡ ok (all_ran (verdicts_in list blocks entries answers j))
   pub written : (j : AllRunnable list blocks entries answers)
@@ -378,9 +364,9 @@ abbrev pub ExplainRight : List ℕ → List ℕ → List ℕ → Explanation →
 ExplainRight text list entry r = Explains text list entry (explanation_says r)
 
 -- "one bit for each key the text names, and a mark for ::priority", of every text and list that pass
-pub record SummarizeRight (text list : List ℕ) (r : Summarizing) : Type 0 where
-  pub passes : ((keys : ℕ) × (priority : Bool) × (r ≡ S.Summary keys priority)) ↔ Checkable text list
-  pub summary : (keys : ℕ) (priority : Bool) → r ≡ S.Summary keys priority → (c : Checkable text list)
+pub record SummarizeRight (text list : List ℕ) (r : Result Summary Refused) : Type 0 where
+  pub passes : ((keys : ℕ) × (priority : Bool) × (r ≡ summed keys priority)) ↔ Checkable text list
+  pub summary : (keys : ℕ) (priority : Bool) → r ≡ summed keys priority → (c : Checkable text list)
       → Summarizes c.ks c.root (record { keys = keys; priority = priority })
 
 -- the judgement that a recheck comes to
@@ -428,17 +414,17 @@ pub record Translates (p : Programs) (text list : List ℕ) : Type 0 where
   pub count : ℕ
   pub few : count ≤ most_translated
   pub enough : (buffer : List ℕ) → Bytes buffer → block_size * blocks_needed count ≤ length buffer
-      → (p.translate text list buffer).answer ≡ T.Written count
+      → (p.translate text list buffer).answer ≡ Ok count
   pub short : (buffer : List ℕ) → Bytes buffer → length buffer < block_size * blocks_needed count
-      → (p.translate text list buffer).answer ≡ T.Refused 15 (P.Buffer (length buffer))
+      → (p.translate text list buffer).answer ≡ refusal 15 (P.Buffer (length buffer))
 
 abbrev pub blocks_written : ℕ → List ℕ → List ℕ
 blocks_written n exit = take (block_size * blocks_needed n) exit
 
 -- n instructions written to a buffer, which then holds `exit`, and what loading the blocks there answers
-pub record Carried (buffer exit : List ℕ) (n : ℕ) (loaded : Loading) : Type 0 where
+pub record Carried (buffer exit : List ℕ) (n : ℕ) (loaded : Result ℕ Refused) : Type 0 where
   pub room : block_size * blocks_needed n ≤ length buffer
-  pub loads : loaded ≡ L.Loaded n
+  pub loads : loaded ≡ Ok n
   pub later : drop (block_size * blocks_needed n) exit ≡ drop (block_size * blocks_needed n) buffer
 
 pub record Judged (p : Programs) (list blocks entry : List ℕ) (ks : List Key) (e : Entry) (n : ℕ) : Type 0 where
@@ -446,19 +432,19 @@ pub record Judged (p : Programs) (list blocks entry : List ℕ) (ks : List Key) 
   pub answer : p.run list blocks entry ≡ verdict_in goes.bit (length goes.path)
 
 pub record DemandThree (p : Programs) : Type 0 where
-  pub translates : (text list : List ℕ) → Bytes text → Bytes list → p.check text list ≡ C.Passed → Translates p text list
+  pub translates : (text list : List ℕ) → Bytes text → Bytes list → p.check text list ≡ Ok tt → Translates p text list
   pub bytes : (text list buffer : List ℕ) → Bytes text → Bytes list → Bytes buffer → Bytes (p.translate text list buffer).buffer
   pub carries : (text list buffer : List ℕ) → Bytes text → Bytes list → Bytes buffer → (n : ℕ)
-      → (p.translate text list buffer).answer ≡ T.Written n
+      → (p.translate text list buffer).answer ≡ Ok n
       → Carried buffer (p.translate text list buffer).buffer n (p.load list (blocks_written n (p.translate text list buffer).buffer))
   pub runs_alike : (text list buffer : List ℕ) → Bytes text → Bytes list → Bytes buffer → (n : ℕ)
-      → (p.translate text list buffer).answer ≡ T.Written n → (entry : List ℕ) → Bytes entry
+      → (p.translate text list buffer).answer ≡ Ok n → (entry : List ℕ) → Bytes entry
       → judgement_of_run (p.run list (blocks_written n (p.translate text list buffer).buffer) entry) ≡ p.judge text list entry
   pub steps_counted : (text list buffer : List ℕ) → Bytes text → Bytes list → Bytes buffer → (n : ℕ)
-      → (p.translate text list buffer).answer ≡ T.Written n → (entry : List ℕ) → Bytes entry → (j : Judgeable text list entry) → (b : Bool) (m : ℕ)
+      → (p.translate text list buffer).answer ≡ Ok n → (entry : List ℕ) → Bytes entry → (j : Judgeable text list entry) → (b : Bool) (m : ℕ)
       → p.run list (blocks_written n (p.translate text list buffer).buffer) entry ≡ verdict_in b m
       → m ≡ steps_of j.passes.ks j.on j.passes.root
-  pub runs : (list blocks : List ℕ) → Bytes list → Bytes blocks → (n : ℕ) → p.load list blocks ≡ L.Loaded n
+  pub runs : (list blocks : List ℕ) → Bytes list → Bytes blocks → (n : ℕ) → p.load list blocks ≡ Ok n
       → (ks : List Key) → keys list ≡ ok ks → (entry : List ℕ) → Bytes entry → (e : Entry) → entry_of ks entry ≡ ok e
       → Judged p list blocks entry ks e n
 

@@ -2,12 +2,10 @@
 -- to the same list, hold equal records for every key the text names, and have equal priority where it names ::priority, get the same answer
 -- and reason. Show too that replacing a conforming entry's absent record by the present one that spells out its reading changes no answer.
 -- Refused entries are not covered." Each is said of any programs that keep the promises. And it says something: what is named can matter.
-use Rattle.std.specs.Prelude.{ℕ, suc, ◌+◌, ◌*◌, ◌-◌, ◌^◌, ◌≡◌, ◌≢◌, Bool, true, false, List, [], ◌∷◌, ◌++◌, take, drop, eqb}
+use Rattle.std.specs.Prelude.{ℕ, suc, ◌+◌, ◌*◌, ◌-◌, ◌^◌, ◌≡◌, ◌≢◌, Bool, true, false, List, [], ◌∷◌, ◌++◌, take, drop, eqb, Ok}
+use Rattle.paper.specs.declared.Verdict.TheVariants.{Accepted, Violated}
 use Rattle.std.proofs.Math.Option.{some}
 use Rattle.std.proofs.Math.ListN.{get_elem?}
-use Rattle.paper.specs.declared.Judgement.TheVariants as J
-use Rattle.paper.specs.declared.Translation.TheVariants as T
-use Rattle.paper.specs.declared.Summarizing.TheVariants as S
 use Rattle.paper.specs.Answers.{ok}
 use Rattle.paper.specs.Numbers.{byte_at}
 use Rattle.paper.specs.Tokens.{bytes}
@@ -17,7 +15,7 @@ use Rattle.paper.specs.Grammar.{Tree, truth, number, key, field, attribute, pref
 use Rattle.paper.specs.Print.{print}
 use Rattle.paper.specs.BlocksRoundTrip.{All}
 use Rattle.paper.specs.Calls.{Restriction, restriction}
-use Rattle.paper.specs.Named.{names, marked}
+use Rattle.paper.specs.Named.{names, marked, summed}
 use Rattle.paper.specs.RecheckedRight.{bit_at, SameNamed, BothConform}
 use Rattle.paper.specs.Promised.{Bytes, Programs, Kept}
 use Rattle.paper.specs.Demands.{blocks_written}
@@ -26,7 +24,7 @@ use Rattle.paper.specs.Demands.{blocks_written}
 pub record Alike (p : Programs) (text list entry other : List ℕ) : Type 0 where
   pub judged : p.judge text list entry ≡ p.judge text list other
   pub explained : p.explain text list entry ≡ p.explain text list other
-  pub ran : (buffer : List ℕ) (n : ℕ) → Bytes buffer → (p.translate text list buffer).answer ≡ T.Written n
+  pub ran : (buffer : List ℕ) (n : ℕ) → Bytes buffer → (p.translate text list buffer).answer ≡ Ok n
       → let blocks = blocks_written n (p.translate text list buffer).buffer in
       p.run list blocks entry ≡ p.run list blocks other
 
@@ -41,7 +39,7 @@ UnnamedDoesNotMatter =
 abbrev pub SummaryTellsAll : Type 0
 SummaryTellsAll =
     (p : Programs) → Kept p → (text list entry other : List ℕ) → Bytes text → Bytes list → Bytes entry → Bytes other
-    → BothConform text list entry other → (named : ℕ) (mark : Bool) → p.summarize text list ≡ S.Summary named mark
+    → BothConform text list entry other → (named : ℕ) (mark : Bool) → p.summarize text list ≡ summed named mark
     → ((k : ℕ) → bit_at named k ≡ true → match_at entry k ≡ match_at other k) → (mark ≡ true → priority_of entry ≡ priority_of other)
     → Alike p text list entry other
 
@@ -101,8 +99,8 @@ pub record CanMatter (p : Programs) (list : List ℕ) (o : Tree) (k : ℕ) : Typ
   pub unmarked : marked both.rule.root ≡ false
   pub elsewhere : (j : ℕ) → j ≢ k → match_at entry j ≡ match_at other j
   pub priority : priority_of entry ≡ priority_of other
-  pub accepted : p.judge (against_zero o) list entry ≡ J.Accepted
-  pub violated : p.judge (against_zero o) list other ≡ J.Violated
+  pub accepted : p.judge (against_zero o) list entry ≡ Ok Accepted
+  pub violated : p.judge (against_zero o) list other ≡ Ok Violated
 
 -- of a text and a list that pass: each operand, and the key that it names
 abbrev pub EachNamedCanMatter : Type 0
@@ -114,4 +112,4 @@ EachNamedCanMatter =
 abbrev pub SummaryTellsNoMore : Type 0
 SummaryTellsNoMore =
     (p : Programs) → Kept p → (text list : List ℕ) → Bytes text → Bytes list → (named : ℕ) (mark : Bool)
-    → p.summarize text list ≡ S.Summary named mark → (k : ℕ) → bit_at named k ≡ true → (o : Tree) × CanMatter p list o k
+    → p.summarize text list ≡ summed named mark → (k : ℕ) → bit_at named k ≡ true → (o : Tree) × CanMatter p list o k

@@ -1,10 +1,9 @@
 -- 02 k, "Take in Pact contracts": "Translate a contract, with a table of up to 16 user numbers below 2^64 and names for up to 16 inputs,
 -- all exact keys of width 64, into a text. .. clauses are joined by ";". Exclusive or becomes "!=" of two bools. NOT becomes "!" over its
 -- comparison or join. The text is the tree so made, printed as in a). .. An empty contract gives "true"."
-use Rattle.std.specs.Prelude.{ℕ, Bool, true, false, ◌&&◌, List, [], ◌∷◌, map, length, get_or, eqb, ltb, leb}
-use Rattle.paper.specs.declared.Drafting.{Drafting}
-use Rattle.paper.specs.declared.Drafting.TheVariants as D
-use Rattle.paper.specs.Answers.{Answer, ok, refused, ◌>>=◌, require, in_table, in_buffer, input_of, offset_of}
+use Rattle.std.specs.Prelude.{ℕ, Bool, true, false, ◌&&◌, List, [], ◌∷◌, map, length, get_or, eqb, ltb, leb, Result, Ok, Err}
+use Rattle.paper.specs.declared.Refusal.{Refusal}
+use Rattle.paper.specs.Answers.{Answer, ok, refused, ◌>>=◌, require, in_table, in_buffer, input_of, offset_of, refused_by}
 use Rattle.paper.specs.Numbers.{byte_at}
 use Rattle.paper.specs.Tokens.{decimal, literal_in, not_sign, sequel, or_else, and_also, Comparison, equal, unequal, greater, at_least, most_tokens}
 use Rattle.paper.specs.Keys.{Key, record_ok, RecordRule, keys_by}
@@ -99,7 +98,3 @@ draft_answer contract table list buffer = draftable contract table list buffer >
 unfoldable pub draft_buffer : List ℕ → List ℕ → List ℕ → List ℕ → List ℕ
 unfolding draftable
 draft_buffer contract table list buffer = laid (draftable contract table list buffer) buffer
-
-abbrev pub drafting_says : Drafting → Answer ℕ
-drafting_says (D.Drafted n) = ok n
-drafting_says (D.Refused n p) = refused n (input_of p) (offset_of p)

@@ -1,10 +1,9 @@
 -- 02 h, "Supply a pass for texts on file that copies a text and turns each octal numeral into "0x" and lower-case hex of the same number without
 -- leading zeros, with all other bytes as they stood, strings and comments included. It refuses first with 1, 5, 6 or 7 by the old rules, then
 -- a result over the lent buffer with 21".
-use Rattle.std.specs.Prelude.{ℕ, zero, suc, List, [], ◌∷◌, ◌++◌, length, take}
-use Rattle.paper.specs.declared.Fixing.{Fixing}
-use Rattle.paper.specs.declared.Fixing.TheVariants as F
-use Rattle.paper.specs.Answers.{Answer, ok, refused, ◌>>=◌, input_of, offset_of}
+use Rattle.std.specs.Prelude.{ℕ, zero, suc, List, [], ◌∷◌, ◌++◌, length, take, Result, Ok, Err}
+use Rattle.paper.specs.declared.Refusal.{Refusal}
+use Rattle.paper.specs.Answers.{Answer, ok, refused, ◌>>=◌, input_of, offset_of, refused_by}
 use Rattle.paper.specs.Tokens.{bytes, hex, Token, Scan, blank, token, octal_numeral, no_token, too_large, taken, literal_scan, scan, Scanner, tokens_by, most_tokens}
 use Rattle.paper.specs.Grammar.{Tree, parsed}
 use Rattle.paper.specs.Print.{numeral_in}
@@ -64,7 +63,3 @@ fix_answer text buffer = fixable text buffer >>= λ s. ok (length s)
 unfoldable pub fix_buffer : List ℕ → List ℕ → List ℕ
 unfolding fixable
 fix_buffer text buffer = laid (fixable text buffer) buffer
-
-abbrev pub fixing_says : Fixing → Answer ℕ
-fixing_says (F.Fixed n) = ok n
-fixing_says (F.Refused n p) = refused n (input_of p) (offset_of p)

@@ -1,10 +1,10 @@
 -- 02 f: "Keep with a text a 32-bit set with one bit for each key the text names, and a mark for ::priority. Report how many keys it
 -- names. .. We make summaries from text and list; none is taken from a caller."
-use Rattle.std.specs.Prelude.{ℕ, zero, suc, ◌+◌, ◌*◌, Bool, true, false, ◌||◌, List, eqb}
+use Rattle.std.specs.Prelude.{ℕ, zero, suc, ◌+◌, ◌*◌, Bool, true, false, ◌||◌, List, eqb, Result, Err, Ok}
+use Rattle.paper.specs.declared.Refusal.{Refusal}
+use Rattle.paper.specs.declared.Summary as C
 use Rattle.std.proofs.Math.Option.{Option, none, some}
-use Rattle.paper.specs.declared.Summarizing.{Summarizing}
-use Rattle.paper.specs.declared.Summarizing.TheVariants as S
-use Rattle.paper.specs.Answers.{Answer, ok, refused, ◌>>=◌, input_of, offset_of}
+use Rattle.paper.specs.Answers.{Answer, ok, refused, ◌>>=◌, input_of, offset_of, refused_by, says_as}
 use Rattle.paper.specs.Keys.{Key, find, most_keys}
 use Rattle.paper.specs.Grammar.{Tree, truth, number, key, field, attribute, prefixed, joined, compared}
 use Rattle.paper.specs.Calls.{restriction}
@@ -70,6 +70,11 @@ summary_answer text list =
     restriction text list
     >>= λ r. ok (record { keys = set_of (names r.keys r.root); priority = marked r.root })
 
-abbrev pub summarizing_says : Summarizing → Answer Summary
-summarizing_says (S.Summary keys priority) = ok (record { keys = keys; priority = priority })
-summarizing_says (S.Refused n p) = refused n (input_of p) (offset_of p)
+abbrev pub summary : C.Summary → Summary
+summary s = record { keys = s.keys; priority = s.priority }
+
+abbrev pub summed : ℕ → Bool → Result C.Summary Refusal
+summed keys priority = Ok (record { keys = keys; priority = priority })
+
+abbrev pub summarizing_says : Result C.Summary Refusal → Answer Summary
+summarizing_says = says_as summary

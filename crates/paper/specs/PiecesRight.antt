@@ -9,8 +9,7 @@ use Rattle.std.proofs.Math.ListN.{get_elem?}
 use Rattle.std.specs.Borrow.{Bor}
 use Rattle.paper.specs.declared.Explanation.{Explanation}
 use Rattle.paper.specs.declared.Explanation.TheVariants as X
-use Rattle.paper.specs.declared.Judgement.{Judgement}
-use Rattle.paper.specs.Answers.{ok}
+use Rattle.paper.specs.Answers.{ok, Judgement}
 use Rattle.paper.specs.Numbers.{bytes_at}
 use Rattle.paper.specs.Keys.{Key, keys}
 use Rattle.paper.specs.Explained.{key_index, stretch_from}

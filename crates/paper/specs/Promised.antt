@@ -1,31 +1,24 @@
 -- 01, "Holding the promises to account": "Each public function states its result in full for all inputs, and what each lent byte
 -- holds afterwards, refused calls included. .. Show that no second result satisfies it".
-use Rattle.std.specs.Prelude.{ℕ, ◌^◌, ◌<◌, ◌≡◌, Bool, true, false, List, length}
-use Rattle.paper.specs.declared.Reading.{Reading}
-use Rattle.paper.specs.declared.Checking.{Checking}
-use Rattle.paper.specs.declared.Judgement.{Judgement}
-use Rattle.paper.specs.declared.Judgement.TheVariants as J
-use Rattle.paper.specs.declared.Translation.{Translation}
-use Rattle.paper.specs.declared.Loading.{Loading}
-use Rattle.paper.specs.declared.Running.{Running}
-use Rattle.paper.specs.declared.Running.TheVariants as N
-use Rattle.paper.specs.declared.Printing.{Printing}
-use Rattle.paper.specs.declared.Fixing.{Fixing}
-use Rattle.paper.specs.declared.Drafting.{Drafting}
+use Rattle.std.specs.Prelude.{ℕ, ◌^◌, ◌<◌, ◌≡◌, Bool, true, false, List, length, Result, Ok, Err}
+use Rattle.paper.specs.declared.Verdict.{Verdict}
+use Rattle.paper.specs.declared.Refusal.{Refusal}
+use Rattle.paper.specs.declared.Ended.{Ended}
+use Rattle.paper.specs.declared.RanAll.{RanAll}
+use Rattle.paper.specs.declared.Counted.{Counted}
+use Rattle.paper.specs.declared.Summary.{Summary}
 use Rattle.paper.specs.declared.Agreement.{Agreement}
-use Rattle.paper.specs.declared.Counting.{Counting}
-use Rattle.paper.specs.declared.RunningAll.{RunningAll}
+use Rattle.paper.specs.declared.Verdict.TheVariants.{Accepted, Violated}
 use Rattle.paper.specs.declared.Explanation.{Explanation}
-use Rattle.paper.specs.declared.Summarizing.{Summarizing}
 use Rattle.paper.specs.declared.Rechecking.{Rechecking}
-use Rattle.paper.specs.Answers.{reading_says, checking_says, judgement_says, translation_says, loading_says, running_says, printing_says}
+use Rattle.paper.specs.Answers.{says, judgement_says, running_says, refusal, Judgement, ended}
 use Rattle.paper.specs.BlocksRoundTrip.{All}
 use Rattle.paper.specs.Parts.{most_parts}
 use Rattle.paper.specs.Explained.{explain_answer, explanation_says}
 use Rattle.paper.specs.Named.{summary_answer, summarizing_says}
 use Rattle.paper.specs.Rechecking.{recheck_answer, rechecking_says}
-use Rattle.paper.specs.Fixing.{fix_answer, fix_buffer, fixing_says}
-use Rattle.paper.specs.Drafting.{draft_answer, draft_buffer, drafting_says}
+use Rattle.paper.specs.Fixing.{fix_answer, fix_buffer}
+use Rattle.paper.specs.Drafting.{draft_answer, draft_buffer}
 use Rattle.paper.specs.Comparing.{compare_answer, agreement_says}
 use Rattle.paper.specs.Counting.{count_answer, count_numbers, counting_says}
 use Rattle.paper.specs.RunAll.{run_all_answer, run_all_bytes, running_all_says}
@@ -33,63 +26,63 @@ use Rattle.paper.specs.Calls.{read_answer, check_answer, judge_answer, translate
 
 -- what is promised of the result of each call, for the bytes that are lent to it
 
-abbrev pub ReadPromised : List ℕ → Reading → Type 0
-ReadPromised text r = reading_says r ≡ read_answer text
+abbrev pub ReadPromised : List ℕ → Result ℕ Refusal → Type 0
+ReadPromised text r = says r ≡ read_answer text
 
-abbrev pub CheckPromised : List ℕ → List ℕ → Checking → Type 0
-CheckPromised text list r = checking_says r ≡ check_answer text list
+abbrev pub CheckPromised : List ℕ → List ℕ → Result (Unit {0}) Refusal → Type 0
+CheckPromised text list r = says r ≡ check_answer text list
 
 abbrev pub JudgePromised : List ℕ → List ℕ → List ℕ → Judgement → Type 0
 JudgePromised text list entry r = judgement_says r ≡ judge_answer text list entry
 
 -- what `translate` returns, and what the buffer holds at its exit
 pub record TranslateResult : Type 0 where
-  pub answer : Translation
+  pub answer : Result ℕ Refusal
   pub buffer : List ℕ
 
 pub record TranslatePromised (text list buffer : List ℕ) (r : TranslateResult) : Type 0 where
-  pub says : translation_says r.answer ≡ translate_answer text list buffer
+  pub says : says r.answer ≡ translate_answer text list buffer
   pub holds : r.buffer ≡ translate_buffer text list buffer
 
-abbrev pub LoadPromised : List ℕ → List ℕ → Loading → Type 0
-LoadPromised list blocks r = loading_says r ≡ load_answer list blocks
+abbrev pub LoadPromised : List ℕ → List ℕ → Result ℕ Refusal → Type 0
+LoadPromised list blocks r = says r ≡ load_answer list blocks
 
-abbrev pub RunPromised : List ℕ → List ℕ → List ℕ → Running → Type 0
+abbrev pub RunPromised : List ℕ → List ℕ → List ℕ → Result Ended Refusal → Type 0
 RunPromised list blocks entry r = running_says r ≡ run_answer list blocks entry
 
 -- what `print` returns, and what the buffer holds at its exit
 pub record PrintResult : Type 0 where
-  pub answer : Printing
+  pub answer : Result ℕ Refusal
   pub buffer : List ℕ
 
 pub record PrintPromised (text buffer : List ℕ) (r : PrintResult) : Type 0 where
-  pub says : printing_says r.answer ≡ print_answer text buffer
+  pub says : says r.answer ≡ print_answer text buffer
   pub holds : r.buffer ≡ print_buffer text buffer
 
 -- what `fix_octal` returns, and what the buffer holds at its exit
 pub record FixResult : Type 0 where
-  pub answer : Fixing
+  pub answer : Result ℕ Refusal
   pub buffer : List ℕ
 
 pub record FixPromised (text buffer : List ℕ) (r : FixResult) : Type 0 where
-  pub says : fixing_says r.answer ≡ fix_answer text buffer
+  pub says : says r.answer ≡ fix_answer text buffer
   pub holds : r.buffer ≡ fix_buffer text buffer
 
 -- what `pact` returns, and what the buffer holds at its exit
 pub record DraftResult : Type 0 where
-  pub answer : Drafting
+  pub answer : Result ℕ Refusal
   pub buffer : List ℕ
 
 pub record DraftPromised (contract table list buffer : List ℕ) (r : DraftResult) : Type 0 where
-  pub says : drafting_says r.answer ≡ draft_answer contract table list buffer
+  pub says : says r.answer ≡ draft_answer contract table list buffer
   pub holds : r.buffer ≡ draft_buffer contract table list buffer
 
-abbrev pub ComparePromised : List ℕ → List ℕ → List ℕ → Agreement → Type 0
+abbrev pub ComparePromised : List ℕ → List ℕ → List ℕ → Result Agreement Refusal → Type 0
 ComparePromised text list blocks r = agreement_says r ≡ compare_answer text list blocks
 
 -- what `count` returns, and what the numbers that are lent to it are at its exit
 pub record CountResult : Type 0 where
-  pub answer : Counting
+  pub answer : Result Counted Refusal
   pub numbers : List ℕ
 
 pub record CountPromised (text list entries numbers : List ℕ) (r : CountResult) : Type 0 where
@@ -98,7 +91,7 @@ pub record CountPromised (text list entries numbers : List ℕ) (r : CountResult
 
 -- what `run_all` returns, and what the bytes that are lent to it for its answers are at its exit
 pub record RunAllResult : Type 0 where
-  pub answer : RunningAll
+  pub answer : Result RanAll Refusal
   pub bytes : List ℕ
 
 pub record RunAllPromised (list blocks entries answers : List ℕ) (r : RunAllResult) : Type 0 where
@@ -109,27 +102,28 @@ pub record RunAllPromised (list blocks entries answers : List ℕ) (r : RunAllRe
 abbrev pub ExplainPromised : List ℕ → List ℕ → List ℕ → Explanation → Type 0
 ExplainPromised text list entry r = explanation_says r ≡ explain_answer text list entry
 
-abbrev pub SummarizePromised : List ℕ → List ℕ → Summarizing → Type 0
+abbrev pub SummarizePromised : List ℕ → List ℕ → Result Summary Refusal → Type 0
 SummarizePromised text list r = summarizing_says r ≡ summary_answer text list
 
 -- of the old entry, its earlier answer and the new entry
 abbrev pub RecheckPromised : List ℕ → List ℕ → List ℕ → Judgement → List ℕ → Rechecking → Type 0
 RecheckPromised text list old earlier new r = rechecking_says r ≡ recheck_answer text list old (judgement_says earlier) new
 
+abbrev pub verdict_for : Bool → Verdict
+verdict_for true = Accepted
+verdict_for false = Violated
+
 abbrev pub verdict : Bool → Judgement
-verdict true = J.Accepted
-verdict false = J.Violated
+verdict b = Ok (verdict_for b)
 
 -- the verdict of a run, and so many steps
-abbrev pub verdict_in : Bool → ℕ → Running
-verdict_in true steps = N.Accepted steps
-verdict_in false steps = N.Violated steps
+abbrev pub verdict_in : Bool → ℕ → Result Ended Refusal
+verdict_in b = ended (verdict_for b)
 
 -- a run, its steps aside
-abbrev pub judgement_of_run : Running → Judgement
-judgement_of_run (N.Accepted steps) = J.Accepted
-judgement_of_run (N.Violated steps) = J.Violated
-judgement_of_run (N.Refused n at) = J.Refused n at
+abbrev pub judgement_of_run : Result Ended Refusal → Judgement
+judgement_of_run (Ok e) = Ok e.verdict
+judgement_of_run (Err v) = refusal v.number v.place
 
 -- one result satisfies it, and no second
 pub record Sole {R : Type 0} (Promised : R → Type 0) : Type 0 where
@@ -170,19 +164,19 @@ pub record PartNumbers (numbers : List ℕ) : Type 0 where
 -- the calls as programs: any that return such results, and those that keep their promises on all bytes
 
 pub record Programs : Type 0 where
-  pub read : List ℕ → Reading
-  pub check : List ℕ → List ℕ → Checking
+  pub read : List ℕ → Result ℕ Refusal
+  pub check : List ℕ → List ℕ → Result (Unit {0}) Refusal
   pub judge : List ℕ → List ℕ → List ℕ → Judgement
   pub translate : List ℕ → List ℕ → List ℕ → TranslateResult
-  pub load : List ℕ → List ℕ → Loading
-  pub run : List ℕ → List ℕ → List ℕ → Running
+  pub load : List ℕ → List ℕ → Result ℕ Refusal
+  pub run : List ℕ → List ℕ → List ℕ → Result Ended Refusal
   pub print : List ℕ → List ℕ → PrintResult
   pub explain : List ℕ → List ℕ → List ℕ → Explanation
-  pub summarize : List ℕ → List ℕ → Summarizing
+  pub summarize : List ℕ → List ℕ → Result Summary Refusal
   pub recheck : List ℕ → List ℕ → List ℕ → Judgement → List ℕ → Rechecking
   pub fix : List ℕ → List ℕ → FixResult
   pub draft : List ℕ → List ℕ → List ℕ → List ℕ → DraftResult
-  pub compare : List ℕ → List ℕ → List ℕ → Agreement
+  pub compare : List ℕ → List ℕ → List ℕ → Result Agreement Refusal
   pub count : List ℕ → List ℕ → List ℕ → List ℕ → CountResult
   pub run_all : List ℕ → List ℕ → List ℕ → List ℕ → RunAllResult
 

@@ -1,10 +1,10 @@
 -- Beyond 02: "A controller sends tables, not entries; a switch should load once and judge many." The call `run_all` of a list, blocks, entries and
 -- answers "loads once, then a byte for each entry laid end to end (accepted, violated, refused 20); later bytes of the answers stay; a wrong length
 -- is 19 at its length, too few answer bytes 15. .. byte i is what `run` says of entry i. .. steps are summed".
-use Rattle.std.specs.Prelude.{ℕ, ◌+◌, ◌%◌, ◌^◌, cond, List, [], ◌∷◌, map, length, eqb, leb}
-use Rattle.paper.specs.declared.RunningAll.{RunningAll}
-use Rattle.paper.specs.declared.RunningAll.TheVariants as A
-use Rattle.paper.specs.Answers.{Answer, ok, refused, ◌>>=◌, require, in_entry, in_buffer, input_of, offset_of, Ran}
+use Rattle.std.specs.Prelude.{ℕ, ◌+◌, ◌%◌, ◌^◌, cond, List, [], ◌∷◌, map, length, eqb, leb, Result, Err, Ok}
+use Rattle.paper.specs.declared.Refusal.{Refusal}
+use Rattle.paper.specs.declared.RanAll.{RanAll}
+use Rattle.paper.specs.Answers.{Answer, ok, refused, ◌>>=◌, require, in_entry, in_buffer, input_of, offset_of, Ran, refused_by, says_as}
 use Rattle.paper.specs.Keys.{Key, keys}
 use Rattle.paper.specs.Entry.{entry_of}
 use Rattle.paper.specs.Loading.{program, loaded, run_along}
@@ -83,6 +83,11 @@ unfoldable pub run_all_bytes : List ℕ → List ℕ → List ℕ → List ℕ �
 unfolding ran_all
 run_all_bytes list blocks entries answers = answered (ran_all list blocks entries answers) answers
 
-abbrev pub running_all_says : RunningAll → Answer AllRan
-running_all_says (A.Ran n s) = ok (record { entries = n; steps = s })
-running_all_says (A.Refused n p) = refused n (input_of p) (offset_of p)
+abbrev pub all_ran_by : RanAll → AllRan
+all_ran_by a = record { entries = a.entries; steps = a.steps }
+
+abbrev pub ran_over : ℕ → ℕ → Result RanAll Refusal
+ran_over n s = Ok (record { entries = n; steps = s })
+
+abbrev pub running_all_says : Result RanAll Refusal → Answer AllRan
+running_all_says = says_as all_ran_by

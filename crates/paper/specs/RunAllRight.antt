@@ -1,15 +1,12 @@
 -- The call of a table against `run` on each of its entries: "byte i is what `run` says of entry i. .. steps are summed"; and against itself, on the
 -- stretches of a table.
-use Rattle.std.specs.Prelude.{ℕ, ◌+◌, ◌*◌, ◌%◌, ◌^◌, ◌≤◌, ◌<◌, ◌≡◌, ◌↔◌, true, false, List, [], ◌∷◌, ◌++◌, map, length, take, drop, get_or}
-use Rattle.paper.specs.declared.Judgement.{Judgement}
-use Rattle.paper.specs.declared.Judgement.TheVariants as J
-use Rattle.paper.specs.declared.Translation.TheVariants as T
-use Rattle.paper.specs.declared.RunningAll.TheVariants as U
-use Rattle.paper.specs.Answers.{Answer, ok, refused, in_entry, Ran, running_says}
+use Rattle.std.specs.Prelude.{ℕ, ◌+◌, ◌*◌, ◌%◌, ◌^◌, ◌≤◌, ◌<◌, ◌≡◌, ◌↔◌, true, false, List, [], ◌∷◌, ◌++◌, map, length, take, drop, get_or, Ok, Err}
+use Rattle.paper.specs.declared.Verdict.TheVariants.{Accepted, Violated}
+use Rattle.paper.specs.Answers.{Answer, ok, refused, in_entry, Ran, running_says, Judgement}
 use Rattle.paper.specs.Keys.{Key, keys}
 use Rattle.paper.specs.Calls.{run_answer}
 use Rattle.paper.specs.Counting.{entry_size, whole_in, cut_in, entries_in}
-use Rattle.paper.specs.RunAll.{verdict_byte, steps_on, sum, Verdicts, verdicts_on, ran_all, run_all_bytes}
+use Rattle.paper.specs.RunAll.{verdict_byte, steps_on, sum, Verdicts, verdicts_on, ran_all, run_all_bytes, ran_over}
 use Rattle.paper.specs.Promised.{Bytes, Programs, Kept}
 use Rattle.paper.specs.Demands.{blocks_written}
 
@@ -82,23 +79,23 @@ abbrev pub TableIsItsRuns : Type 0
 TableIsItsRuns =
     (p : Programs) → Kept p
     → (list blocks entries answers : List ℕ) → Bytes list → Bytes blocks → Bytes entries → Bytes answers
-    → (n s : ℕ) → (p.run_all list blocks entries answers).answer ≡ U.Ran n s
+    → (n s : ℕ) → (p.run_all list blocks entries answers).answer ≡ ran_over n s
     → (ks : List Key) → keys list ≡ ok ks → AsRun p list blocks entries answers ks n s
 
 -- and where the blocks are those that a text was translated into, what the text is judged to say of each entry
 
 abbrev pub judgement_byte : Judgement → ℕ
-judgement_byte J.Accepted = 1
-judgement_byte J.Violated = 2
-judgement_byte (J.Refused n at) = 0
+judgement_byte (Ok Accepted) = 1
+judgement_byte (Ok Violated) = 2
+judgement_byte (Err v) = 0
 
 abbrev pub TableIsJudged : Type 0
 TableIsJudged =
     (p : Programs) → Kept p
-    → (text list buffer : List ℕ) → Bytes text → Bytes list → Bytes buffer → (m : ℕ) → (p.translate text list buffer).answer ≡ T.Written m
+    → (text list buffer : List ℕ) → Bytes text → Bytes list → Bytes buffer → (m : ℕ) → (p.translate text list buffer).answer ≡ Ok m
     → (let blocks = blocks_written m (p.translate text list buffer).buffer in
     (entries answers : List ℕ) → Bytes entries → Bytes answers
-    → (n s : ℕ) → (p.run_all list blocks entries answers).answer ≡ U.Ran n s
+    → (n s : ℕ) → (p.run_all list blocks entries answers).answer ≡ ran_over n s
     → (ks : List Key) → keys list ≡ ok ks → (i : ℕ) → i < n
     → get_or (p.run_all list blocks entries answers).bytes i 0 ≡ judgement_byte (p.judge text list (entry_at ks entries i)))
 

@@ -21,76 +21,35 @@ pub enum Place {
     Table(usize),
 }
 
-// A text alone: how many nodes its tree has.
+// A refusal: its number in the documents' tables (`refused`), and where it lies.
 #[derive(Clone, Copy)]
-pub enum Reading {
-    Read(usize),
-    Refused(u8, Place),
+pub struct Refusal {
+    pub number: u8,
+    pub place: Place,
 }
 
-// A text against a key list; and any stage of a call that only checks.
+// What a restriction says of an entry that conforms.
 #[derive(Clone, Copy)]
-pub enum Checking {
-    Passed,
-    Refused(u8, Place),
-}
-
-// An entry against a restriction, from its text.
-#[derive(Clone, Copy)]
-pub enum Judgement {
+pub enum Verdict {
     Accepted,
     Violated,
-    Refused(u8, Place),
 }
 
-// A text into blocks: how many instructions were written.
-#[derive(Clone, Copy)]
-pub enum Translation {
-    Written(usize),
-    Refused(u8, Place),
-}
+// An entry against a restriction.
+pub type Judgement = Result<Verdict, Refusal>;
 
-// Blocks against a key list: how many instructions they hold.
+// An entry against a restriction, from its blocks: the verdict, and how many instructions were carried out.
 #[derive(Clone, Copy)]
-pub enum Loading {
-    Loaded(usize),
-    Refused(u8, Place),
-}
-
-// An entry against a restriction, from its blocks: how many instructions were carried out.
-#[derive(Clone, Copy)]
-pub enum Running {
-    Accepted(usize),
-    Violated(usize),
-    Refused(u8, Place),
+pub struct Ended {
+    pub verdict: Verdict,
+    pub steps: usize,
 }
 
 // Entries end to end against a restriction, from its blocks: how many entries there are, and how many instructions were carried out for all of them.
 #[derive(Clone, Copy)]
-pub enum RunningAll {
-    Ran(usize, u64),
-    Refused(u8, Place),
-}
-
-// A text in house style: how many bytes were written.
-#[derive(Clone, Copy)]
-pub enum Printing {
-    Printed(usize),
-    Refused(u8, Place),
-}
-
-// A text without octal numerals, each in hex: how many bytes were written.
-#[derive(Clone, Copy)]
-pub enum Fixing {
-    Fixed(usize),
-    Refused(u8, Place),
-}
-
-// A Pact contract into a text: how many bytes were written.
-#[derive(Clone, Copy)]
-pub enum Drafting {
-    Drafted(usize),
-    Refused(u8, Place),
+pub struct RanAll {
+    pub entries: usize,
+    pub steps: u64,
 }
 
 // Blocks against a text and a list: whether they are its translation, its parts in some order.
@@ -98,15 +57,17 @@ pub enum Drafting {
 pub enum Agreement {
     Agrees,
     Differs,
-    Refused(u8, Place),
 }
 
 // Entries end to end against a restriction: how many parts the text has; how many entries are accepted, violated and refused; and how many bytes
 // of a last one that is cut.
 #[derive(Clone, Copy)]
-pub enum Counting {
-    Counted(usize, u64, u64, u64, usize),
-    Refused(u8, Place),
+pub struct Counted {
+    pub parts: usize,
+    pub accepted: u64,
+    pub violated: u64,
+    pub refused: u64,
+    pub cut: usize,
 }
 
 // What broke for an entry: a part of the text, by its number from 1, its root's place, and its stretch from one byte up to another; the key of
@@ -120,9 +81,9 @@ pub enum Explanation {
 
 // The keys that a text names, bit k (2^k) for record k of the list, and whether it names ::priority.
 #[derive(Clone, Copy)]
-pub enum Summarizing {
-    Summary(u32, bool),
-    Refused(u8, Place),
+pub struct Summary {
+    pub keys: u32,
+    pub priority: bool,
 }
 
 // A new entry against a restriction, by the judgement of an old one: that judgement, where it still holds, or one worked out afresh.
@@ -130,11 +91,4 @@ pub enum Summarizing {
 pub enum Rechecking {
     Reused(Judgement),
     Judged(Judgement),
-}
-
-// A stage of a call that counts: keys, tokens, nodes, parts or instructions. Each stage passes the refusal of the one before it up as it is.
-#[derive(Clone, Copy)]
-pub enum Counted {
-    Count(usize),
-    Refused(u8, Place),
 }

@@ -14,7 +14,7 @@ use Rattle.paper.specs.TranslationCorrect.{verdict_of}
 use Rattle.paper.specs.Promised.{judgement_of_run, JudgePromised, TranslatePromised, LoadPromised, RunPromised}
 use Rattle.paper.specs.Demands.{blocks_written}
 use Rattle.paper.proofs.TranslationCorrect.{translation_carries}
-use Rattle.paper.proofs.Promised.{judgement_same, judgement_of_run_lem, loading_same}
+use Rattle.paper.proofs.Promised.{judgement_same, judgement_of_run_lem, says_same}
 use Rattle.promises.specs.Held.{gave, Held}
 
 module _ (text list buffer exit : List ℕ) (n : ℕ) (t : TranslatePromised text list buffer (gave (T.Written n) exit)) where
@@ -36,7 +36,7 @@ module _ (text list buffer exit : List ℕ) (n : ℕ) (t : TranslatePromised tex
         carried =
             record {
               room = f.room;
-              loads = loading_same loaded (L.Loaded n) (l ∙ rw t.holds f.carries.loads);
+              loads = says_same loaded (L.Loaded n) (l ∙ rw t.holds f.carries.loads);
               later = rw t.holds f.later;
             };
         alike =

@@ -1,11 +1,11 @@
 -- Each wrong checker fails at a text with the marked keys, of which v is of 1 bit: `v == 3` and `3 == v`, where the number loses bits, and
 -- `v == -1`, where it does not. Each is real: it answers what its rule says.
 use Prim.Native.Nat.{ℕ}
+use Rattle.std.specs.Prelude.{Ok}
 use native.Mathlib.Omega.{arith}
 use mathlib.Core.Path.{◌≡◌, refl, sym, ap, ◌∙◌}
 use mathlib.Core.List.{List}
-use Rattle.paper.specs.declared.Checking.TheVariants as C
-use Rattle.paper.specs.Answers.{Answer, ok, refused, ◌>>=◌, in_text, checking_says}
+use Rattle.paper.specs.Answers.{Answer, ok, refused, ◌>>=◌, in_text, says}
 use Rattle.paper.specs.Tokens.{bytes}
 use Rattle.paper.specs.Calls.{check_answer}
 use Rattle.tried.specs.MarkedJudgements.{the_keys}
@@ -13,7 +13,7 @@ use Rattle.paper.specs.Promised.{Bytes}
 use Rattle.paper.specs.BitsKept.{ComparisonRule, rule_before, restriction_by}
 use Rattle.tried.specs.WrongCheckers.{Checker, ChecksAllRight, ChecksAsPromised, TypesBy, ReducesStill, right_alone, LooksRight, at_operator, PlacesAtOperator, above_zero, TakesNoneBelowZero, WrongCheckersFail}
 use Rattle.paper.proofs.Stages.{never_ok}
-use Rattle.paper.proofs.Promised.{checking_same, one_checking}
+use Rattle.paper.proofs.Promised.{says_same, one_said}
 use Rattle.paper.proofs.ByteLists.{all_bytes_lem}
 use Rattle.paper.proofs.DemandTwo.{checkable_answer, answer_checkable}
 
@@ -33,11 +33,11 @@ module _ (rule : ComparisonRule) (x : Checker) (types : TypesBy rule x) (good : 
   passes_right : says rule text ≡ ok tt → right text ≡ ok tt
   passes_right e =
       checkable_answer text the_keys
-      ((good text the_keys t keys_bytes).0 (checking_same (x text the_keys) C.Passed (types text the_keys t keys_bytes ∙ e)))
+      ((good text the_keys t keys_bytes).0 (says_same (x text the_keys) (Ok tt) (types text the_keys t keys_bytes ∙ e)))
 
   right_passes : right text ≡ ok tt → says rule text ≡ ok tt
   right_passes e =
-      sym (types text the_keys t keys_bytes) ∙ ap checking_says ((good text the_keys t keys_bytes).1 (answer_checkable text the_keys e))
+      sym (types text the_keys t keys_bytes) ∙ ap says ((good text the_keys t keys_bytes).1 (answer_checkable text the_keys e))
 
 -- the three texts
 
@@ -112,4 +112,4 @@ wrong_checkers_fail =
 pub checker_real : (rule : ComparisonRule) → (x : Checker) × TypesBy rule x
 checker_real rule =
     let answer : List ℕ → List ℕ → Answer (Unit {0}) = λ text list. restriction_by rule text list >>= λ _. ok tt in
-    (λ text list. (one_checking (answer text list)).result, λ text list _ _. (one_checking (answer text list)).satisfies)
+    (λ text list. (one_said (answer text list)).result, λ text list _ _. (one_said (answer text list)).satisfies)

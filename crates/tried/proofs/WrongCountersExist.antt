@@ -1,12 +1,13 @@
 -- The wrong counts are real: each says what another does, but for the numbers of the parts, which go by a rule of its own, or for the refused
 -- entries, of which a cut one is one more.
 use Prim.Native.Nat.{ℕ, zero, suc, ◌<◌}
+use Rattle.std.specs.Prelude.{Result, Err}
+use Rattle.paper.specs.declared.Refusal.{Refusal}
+use Rattle.paper.specs.declared.Counted.{Counted}
 use native.Mathlib.Omega.{arith}
 use mathlib.Core.Path.{◌≡◌, refl, ap, ◌∙◌}
 use mathlib.Core.List.{List}
-use Rattle.paper.specs.declared.Counting.{Counting}
-use Rattle.paper.specs.declared.Counting.TheVariants as C
-use Rattle.paper.specs.Answers.{Answer, ok, refused, ◌>>=◌}
+use Rattle.paper.specs.Answers.{Answer, ok, refused, ◌>>=◌, refusal}
 use Rattle.paper.specs.Calls.{restriction, over}
 use Rattle.paper.specs.Parts.{parts}
 use Rattle.paper.specs.Counting.{entries_in, Counts, counts_of, Totals, totals_of, counting_says}
@@ -44,17 +45,17 @@ abbrev with_cut : ℕ → ℕ → ℕ
 with_cut zero n = n
 with_cut (suc cut) n = suc n
 
-abbrev one_more : Counting → Counting
+abbrev one_more : Result Counted Refusal → Result Counted Refusal
 one_more (C.Counted n a v r c) = C.Counted n a v (with_cut c r) c
-one_more (C.Refused n at) = C.Refused n at
+one_more (Err v) = refusal v.number v.place
 
 abbrev cut_added : Totals → Totals
 cut_added t =
     record { parts = t.parts; accepted = t.accepted; violated = t.violated; refused = with_cut t.cut t.refused; cut = t.cut }
 
-says_more : (a : Counting) → counting_says (one_more a) ≡ (counting_says a >>= λ t. ok (cut_added t))
+says_more : (a : Result Counted Refusal) → counting_says (one_more a) ≡ (counting_says a >>= λ t. ok (cut_added t))
 says_more (C.Counted n a v r c) = refl
-says_more (C.Refused n at) = refl
+says_more (Err v) = refl
 
 is_more : (c : Counts) → 0 < c.cut → cut_added (totals_of c) ≡ one_more_refused c
 is_more c cut = ap (λ (n : ℕ). record { parts = (totals_of c).parts; accepted = c.accepted; violated = c.violated; refused = n; cut = c.cut }) (go c.cut cut)

@@ -1,6 +1,7 @@
 -- Each wrong translation fails at a short contract of two names and one number: `a == 1` NAND `b == 1`, `a == 1` OR `b == 1` AND `a == 1`,
 -- `a == 1` XOR `b == 1`, and `a == 1` with `b == 1` in a clause of its own. Its text is not the one that demand 2 has there.
 use Prim.Native.Nat.{ℕ, ◌≤◌}
+use Rattle.std.specs.Prelude.{Ok}
 use native.Mathlib.Omega.{arith}
 use mathlib.Core.Path.{◌≡◌, refl, sym, ap, ◌∙◌}
 use mathlib.Core.Bool.{false}
@@ -9,8 +10,7 @@ use lib.ListN.{length, get_or, take, replicate, length-replicate}
 use lib.Seq.{take_at}
 use lib.Dec.{lit<}
 use borrow.Author.Tests.{le-leb}
-use Rattle.paper.specs.declared.Drafting.TheVariants as D
-use Rattle.paper.specs.Answers.{Answer, ok, refused, ◌>>=◌}
+use Rattle.paper.specs.Answers.{Answer, ok, refused, ◌>>=◌, refusal}
 use Rattle.paper.specs.Tokens.{bytes, most_text, most_tokens}
 use Rattle.paper.specs.Keys.{Key, key_record, exact}
 use Rattle.paper.specs.Grammar.{most_levels}
@@ -157,8 +157,8 @@ wrong_drafters_fail =
 -- and each is real: one that goes through the stages of the call, and makes its own tree of the clauses
 
 abbrev lent : Answer (List ℕ) → List ℕ → DraftResult
-lent (ok s) buffer = record { answer = D.Drafted (length s); buffer = over s buffer }
-lent (refused n i at) buffer = record { answer = D.Refused n (place_at i at); buffer = buffer }
+lent (ok s) buffer = record { answer = Ok (length s); buffer = over s buffer }
+lent (refused n i at) buffer = record { answer = refusal n (place_at i at); buffer = buffer }
 
 drafter : Maker → Drafter
 drafter made contract table list buffer =

@@ -1,5 +1,6 @@
 -- The wrong passes are real: each takes a text of one form for its own, where the buffer has room, and leaves every other to a pass that is right.
 use Prim.Native.Nat.{ℕ, zero, suc, ◌+◌, ◌-◌, ◌<◌}
+use Rattle.std.specs.Prelude.{Ok}
 use native.Mathlib.Omega.{arith}
 use mathlib.Core.Path.{◌≡◌, sym, ap, ap₂, subst, ◌∙◌}
 use mathlib.Core.Bool.{Bool, true, cond, ◌&&◌}
@@ -8,7 +9,6 @@ use lib.ListN.{length, take, drop, replicate, length-append, length-replicate}
 use lib.Seq.{take_at, drop-append_seam}
 use lib.Dec.{eqb, ltb, leb}
 use borrow.Author.Tests.{eq-eqb, ne_eqb, lt-ltb, le-leb}
-use Rattle.paper.specs.declared.Fixing.TheVariants as F
 use Rattle.paper.specs.Numbers.{in_base}
 use Rattle.paper.specs.Tokens.{bytes, same_bytes, span, within, digit_of, most_text}
 use Rattle.paper.specs.Print.{numeral_in}
@@ -50,7 +50,7 @@ module _ (front back : List ℕ) where
     abbrev wrong : Fixer
     wrong text buffer =
         let new = made (between text) in
-        cond (takes text (between text) buffer) (record { answer = F.Fixed (length new); buffer = over new buffer }) (fix text buffer)
+        cond (takes text (between text) buffer) (record { answer = Ok (length new); buffer = over new buffer }) (fix text buffer)
 
     wrong_makes : (middle : List ℕ) → is_octal (digits middle) ≡ true → Makes wrong (around middle) (made middle)
     unfolding takes

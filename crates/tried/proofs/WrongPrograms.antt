@@ -4,6 +4,8 @@
 -- translations the contracts of WrongDrafters, for comparisons the texts and blocks of WrongComparers, for counts the files of WrongCounters, and for
 -- tables those of WrongTables.
 use Prim.Native.Nat.{ℕ, zero, suc, ◌+◌, ◌*◌, ◌≤◌}
+use Rattle.std.specs.Prelude.{Ok}
+use Rattle.paper.specs.declared.Verdict.TheVariants.{Accepted, Violated}
 use native.Mathlib.Omega.{arith}
 use mathlib.Core.Path.{◌≡◌, refl, sym, ap, subst, ◌∙◌}
 use mathlib.Core.Bool.{Bool, true, false, true≢false}
@@ -12,11 +14,7 @@ use mathlib.Core.List.{List, [], ◌∷◌}
 use lib.ListN.{length, take, replicate, length-replicate}
 use lib.Dec.{leb, lit<}
 use borrow.Author.Tests.{leb-true}
-use Rattle.paper.specs.declared.Checking.TheVariants as C
-use Rattle.paper.specs.declared.Judgement.TheVariants as J
-use Rattle.paper.specs.declared.Loading.TheVariants as L
-use Rattle.paper.specs.declared.Translation.TheVariants as T
-use Rattle.paper.specs.Answers.{ok, refused, in_blocks, judgement_says, translation_says, loading_says, printing_says}
+use Rattle.paper.specs.Answers.{ok, refused, in_blocks, judgement_says, says}
 use Rattle.paper.specs.Named.{Summary, summarizing_says}
 use Rattle.paper.specs.Numbers.{byte_at}
 use Rattle.paper.specs.Tokens.{bytes, most_text}
@@ -43,7 +41,7 @@ use Rattle.paper.proofs.Stages.{never_ok, ok_same}
 use Rattle.paper.proofs.LayoutPassed.{first_counted}
 use Rattle.paper.proofs.Table.{table_holds}
 use Rattle.paper.proofs.DamageDetected.{called}
-use Rattle.paper.proofs.Promised.{checking_same}
+use Rattle.paper.proofs.Promised.{says_same}
 use Rattle.paper.proofs.ByteLists.{take_bytes, zero_bytes, all_bytes_lem, blocks_bytes}
 use Rattle.paper.proofs.DemandOne.{demand_one_met}
 use Rattle.paper.proofs.DemandTwo.{restricts, checkable_restriction, restriction_checkable, worth as value, judgeable_answer, answer_judgeable, judgeable_truth, demand_two_met}
@@ -77,7 +75,7 @@ by_demand_two p two text list entry bt bl be b e = go b e
     go true e = ((two.judges text list entry bt bl be).accepts (answer_judgeable text list entry true e)).1 (worth true e)
     go false e = ((two.judges text list entry bt bl be).violates (answer_judgeable text list entry false e)).1 (worth false e)
 
-not_both : J.Accepted ≡ J.Violated → ⊥
+not_both : (Ok Accepted) ≡ Ok Violated → ⊥
 not_both e = true≢false (ok_same true false (ap judgement_says e))
 
 entry_bytes : Bytes the_entry
@@ -122,13 +120,13 @@ unfolding zeros
 zeros_bytes = zero_bytes 41984
 
 passes : (p : Programs) → KeepsCheck p → (text list : List ℕ) → Bytes text → Bytes list → check_answer text list ≡ ok tt
-    → p.check text list ≡ C.Passed
+    → p.check text list ≡ Ok tt
 passes p checks text list t l e =
-    checking_same (p.check text list) C.Passed (checks text list t l ∙ e)
+    says_same (p.check text list) (Ok tt) (checks text list t l ∙ e)
 
 -- a text that passes is written there
 written_there : (p : Programs) → KeepsCheck p → DemandThree p → (text list : List ℕ) → Bytes text → Bytes list
-    → check_answer text list ≡ ok tt → (n : ℕ) × ((p.translate text list zeros).answer ≡ T.Written n)
+    → check_answer text list ≡ ok tt → (n : ℕ) × ((p.translate text list zeros).answer ≡ Ok n)
 written_there p checks three text list t l e =
     let w = three.translates text list t l (passes p checks text list t l e) in
     (w.count, w.enough zeros zeros_bytes (omega (arith, w.few, enough)))
@@ -161,8 +159,8 @@ idle_fails p checks loads three idle =
     let t : Bytes (bytes "true") = all_bytes_lem (bytes "true") refl in
     let (n, written) = written_there p checks three (bytes "true") [] t tt plain_passes in
     let there = (three.carries (bytes "true") [] zeros t tt zeros_bytes n written).loads in
-    let same : p.load [] (take (block_size * blocks_needed n) zeros) ≡ L.Loaded n = rw (idle (bytes "true") [] zeros t tt zeros_bytes) at there in
-    zeros_refused [] (block_size * blocks_needed n) n (sym (loads [] (take (block_size * blocks_needed n) zeros) tt (take_bytes (block_size * blocks_needed n) zeros zeros_bytes)) ∙ ap loading_says same)
+    let same : p.load [] (take (block_size * blocks_needed n) zeros) ≡ Ok n = rw (idle (bytes "true") [] zeros t tt zeros_bytes) at there in
+    zeros_refused [] (block_size * blocks_needed n) n (sym (loads [] (take (block_size * blocks_needed n) zeros) tt (take_bytes (block_size * blocks_needed n) zeros zeros_bytes)) ∙ ap says same)
 
 barring_fails : (p : Programs) → KeepsCheck p → DemandThree p → ¬ PassesNothing p
 barring_fails p checks three None-passes =
@@ -173,7 +171,7 @@ barring_fails p checks three None-passes =
     let (m, at, e) =
     None-passes [] (take (block_size * blocks_needed n) exit) tt (take_bytes (block_size * blocks_needed n) exit (three.bytes (bytes "true") [] zeros t tt zeros_bytes))
     in
-    never_ok (ap loading_says (sym e ∙ there.loads))
+    never_ok (ap says (sym e ∙ there.loads))
 
 -- `true; v == 0`
 
@@ -234,7 +232,7 @@ admitting_fails : (p : Programs) → KeepsLoad p → ¬ PassesAll p
 admitting_fails p loads all =
     let b : Bytes lone = blocks_bytes 0 (invert ∷ []) in
     let (n, e) = all [] lone tt b [] no_keys lone_laid in
-    never_ok (sym lone_refused ∙ sym (loads [] lone tt b) ∙ ap loading_says e)
+    never_ok (sym lone_refused ∙ sym (loads [] lone tt b) ∙ ap says e)
 
 -- one block is enough for `true`
 
@@ -252,7 +250,7 @@ wanting_fails p one wants =
     let (n, at, e) = wants (bytes "true") [] little t tt b (lit< tt) in
     let clear = (table_holds.translate (bytes "true") [] little).passes.0 (1, plain_written) in
     let (v, said) = (one.translate (bytes "true") [] little t tt b).says.table.passes.1 clear in
-    never_ok (sym (ap translation_says e) ∙ said)
+    never_ok (sym (ap says e) ∙ said)
 
 -- the count
 
@@ -278,7 +276,7 @@ same_count p two made lends text b t read short few small =
     ((two.prints text little b zero).prints (length (print t))).1
     (record { root = t; formed = tree_formed text t under read; count = refl; short = omega (arith, printed); room = omega (arith, printed, room) })
     in
-    ok_same (length (made text t)) (length (print t)) (ap (λ (r : PrintResult). printing_says r.answer) (sym lent) ∙ ap printing_says right)
+    ok_same (length (made text t)) (length (print t)) (ap (λ (r : PrintResult). says r.answer) (sym lent) ∙ ap says right)
 
 copying_fails : (p : Programs) → DemandTwo p → ¬ CopiesText p
 unfolding print

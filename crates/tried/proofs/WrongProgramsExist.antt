@@ -1,5 +1,9 @@
 -- The wrong programs are real: each is made from programs that keep all promises, with another in the place of one call.
 use Prim.Native.Nat.{ℕ, suc, ◌+◌, ◌*◌}
+use Rattle.std.specs.Prelude.{Result, Ok, Err}
+use Rattle.paper.specs.declared.Refusal.{Refusal}
+use Rattle.paper.specs.declared.Ended.{Ended}
+use Rattle.paper.specs.declared.Verdict.TheVariants.{Accepted, Violated}
 use native.Mathlib.Omega.{arith}
 use mathlib.Core.Path.{◌≡◌, refl, sym, ap, subst, ◌∙◌}
 use mathlib.Core.Bool.{Bool, true, false, cond}
@@ -8,17 +12,8 @@ use lib.ListN.{length}
 use lib.Dec.{ltb}
 use borrow.Author.Tests.{lt-ltb, le-leb}
 use Rattle.paper.specs.declared.Place.TheVariants as P
-use Rattle.paper.specs.declared.Judgement.{Judgement}
-use Rattle.paper.specs.declared.Judgement.TheVariants as J
-use Rattle.paper.specs.declared.Loading.{Loading}
-use Rattle.paper.specs.declared.Loading.TheVariants as L
-use Rattle.paper.specs.declared.Translation.{Translation}
-use Rattle.paper.specs.declared.Translation.TheVariants as T
-use Rattle.paper.specs.declared.Running.{Running}
-use Rattle.paper.specs.declared.Running.TheVariants as N
-use Rattle.paper.specs.declared.Printing.TheVariants as W
 use Rattle.paper.specs.declared.Explanation.{Explanation}
-use Rattle.paper.specs.Answers.{Answer, ok, refused, ◌>>=◌}
+use Rattle.paper.specs.Answers.{Answer, ok, refused, ◌>>=◌, refusal, Judgement, ended}
 use Rattle.paper.specs.Tokens.{bytes, is, most_text}
 use Rattle.paper.specs.Keys.{keys}
 use Rattle.paper.specs.Entry.{entry_of}
@@ -45,7 +40,7 @@ use Rattle.tried.specs.WrongCounters.{Counter, NumbersBy, first_only, with_refus
 use Rattle.tried.specs.WrongTables as Q
 use Rattle.tried.specs.WrongTables.{TableRunner, WritesBy, first_for_all, until_refused, clearing_later, refused_as_violated}
 use Rattle.tried.specs.WrongPrograms.{FirstPartOnly, WantsAllBlocks, StepsByCode, CountsRight, Lends, part_of, checking, judging, translating, loading, running, printing, explaining, summarizing, rechecking, fixing, drafting, comparing, totalling, tabling, OthersKept, ThereIs, WrongProgramsExist}
-use Rattle.paper.proofs.Promised.{place_at, explanation_for, translation_same, can_be_kept}
+use Rattle.paper.proofs.Promised.{place_at, explanation_for, says_same, can_be_kept}
 use Rattle.paper.proofs.ByteLists.{zero_bytes, all_bytes_lem}
 use Rattle.paper.proofs.LoadedBlocksRun.{load_counts}
 use Rattle.paper.proofs.RunsRight.{ran_right}
@@ -195,10 +190,10 @@ module _ (q : Programs) (kept : Kept q) where
   )
 
   -- with another loader
-  loaders : (List ℕ → List ℕ → Loading) → Programs
+  loaders : (List ℕ → List ℕ → Result ℕ Refusal) → Programs
   loaders load = with_calls q.judge q.translate load q.run q.print
 
-  others_than_load : (load : List ℕ → List ℕ → Loading) → OthersKept loading (loaders load)
+  others_than_load : (load : List ℕ → List ℕ → Result ℕ Refusal) → OthersKept loading (loaders load)
   unfolding loaders
   others_than_load load = (
     (kept.read, kept.check, kept.judge, kept.translate, kept.run),
@@ -353,7 +348,7 @@ module _ (q : Programs) (kept : Kept q) where
   cutter_cuts first rest list buffer f s l b whole _ _ n e entry en =
       subst
       (λ (x : List ℕ).
-      (q.translate x list buffer).answer ≡ T.Written n
+      (q.translate x list buffer).answer ≡ Ok n
       → judgement_of_run (q.run list (blocks_written n (q.translate x list buffer).buffer) entry) ≡ q.judge first list entry)
       (sym (part_first first rest whole))
       (λ w. (demand_three_met q kept).runs_alike first list buffer f l b n w entry en) e
@@ -363,7 +358,7 @@ module _ (q : Programs) (kept : Kept q) where
   greedy : List ℕ → List ℕ → List ℕ → TranslateResult
   greedy text list buffer =
       cond (ltb (length buffer) (most_blocks * block_size))
-      (record { answer = T.Refused 15 (P.Buffer (length buffer)); buffer = buffer })
+      (record { answer = refusal 15 (P.Buffer (length buffer)); buffer = buffer })
       (q.translate text list buffer)
 
   greedy_wants : WantsAllBlocks (translators greedy)
@@ -372,9 +367,9 @@ module _ (q : Programs) (kept : Kept q) where
 
   -- the one that counts an instruction more
 
-  abbrev one_more : Translation → Translation
-  one_more (T.Written n) = T.Written (suc n)
-  one_more (T.Refused n at) = T.Refused n at
+  abbrev one_more : Result ℕ Refusal → Result ℕ Refusal
+  one_more (Ok n) = Ok (suc n)
+  one_more (Err v) = refusal v.number v.place
 
   inventor : List ℕ → List ℕ → List ℕ → TranslateResult
   inventor text list buffer =
@@ -386,15 +381,15 @@ module _ (q : Programs) (kept : Kept q) where
   inventor_invents right =
       let t : Bytes (bytes "true") = all_bytes_lem (bytes "true") refl in
       let b : Bytes little = zero_bytes 512 in
-      let one = translation_same (q.translate (bytes "true") [] little).answer (T.Written 1) ((kept.translate (bytes "true") [] little t tt b).says ∙ plain_written) in
+      let one = says_same (q.translate (bytes "true") [] little).answer (Ok 1) ((kept.translate (bytes "true") [] little t tt b).says ∙ plain_written) in
       let two = right (bytes "true") [] little t tt b 2 (ap one_more one) plain plain_restricts in
       omega (arith, two, plain_counts)
 
   -- one that lends other bytes than the print, by the stages of `print`
 
   abbrev lent : Answer (List ℕ) → List ℕ → PrintResult
-  lent (ok s) buffer = record { answer = W.Printed (length s); buffer = over s buffer }
-  lent (refused n i at) buffer = record { answer = W.Refused n (place_at i at); buffer = buffer }
+  lent (ok s) buffer = record { answer = Ok (length s); buffer = over s buffer }
+  lent (refused n i at) buffer = record { answer = refusal n (place_at i at); buffer = buffer }
 
   lender : (List ℕ → Tree → List ℕ) → List ℕ → List ℕ → PrintResult
   lender made text buffer = lent (sized text >>= λ _. tree text >>= λ t. lends (made text t) buffer) buffer
@@ -414,10 +409,10 @@ module _ (q : Programs) (kept : Kept q) where
 
   -- the one that reports the instructions of the code
 
-  abbrev in_steps : ℕ → Running → Running
-  in_steps n (N.Accepted m) = N.Accepted n
-  in_steps n (N.Violated m) = N.Violated n
-  in_steps n (N.Refused m at) = N.Refused m at
+  abbrev in_steps : ℕ → Result Ended Refusal → Result Ended Refusal
+  in_steps n (ended Accepted m) = ended Accepted n
+  in_steps n (ended Violated m) = ended Violated n
+  in_steps n (Err v) = refusal v.number v.place
 
   counter : Runner
   counter list blocks entry = in_steps (total_of blocks) (q.run list blocks entry)
@@ -426,16 +421,16 @@ module _ (q : Programs) (kept : Kept q) where
   unfolding runners counter
   counter_reports list blocks entry l s e j = go (q.run list blocks entry) refl
     where
-      go : (r : Running) → q.run list blocks entry ≡ r → (b : Bool) × (in_steps (total_of blocks) r ≡ verdict_in b j.count)
-      go (N.Accepted m) h = (true, ap N.Accepted (sym (load_counts j.ks blocks j.count j.loads)))
-      go (N.Violated m) h = (false, ap N.Violated (sym (load_counts j.ks blocks j.count j.loads)))
-      go (N.Refused m at) h = absurd ((ran_right list blocks entry _ (kept.run list blocks entry l s e)).refuses.0 (m, at, h) j)
+      go : (r : Result Ended Refusal) → q.run list blocks entry ≡ r → (b : Bool) × (in_steps (total_of blocks) r ≡ verdict_in b j.count)
+      go (ended Accepted m) h = (true, ap ended Accepted (sym (load_counts j.ks blocks j.count j.loads)))
+      go (ended Violated m) h = (false, ap ended Violated (sym (load_counts j.ks blocks j.count j.loads)))
+      go (Err v) h = absurd ((ran_right list blocks entry _ (kept.run list blocks entry l s e)).refuses.0 (v.number, v.place, h) j)
 
 -- the one whose skips leave the old bool, by the stages of `run`
 
-abbrev ran_for : Answer Running → Running
+abbrev ran_for : Answer Result Ended Refusal → Result Ended Refusal
 ran_for (ok r) = r
-ran_for (refused n i at) = N.Refused n (place_at i at)
+ran_for (refused n i at) = refusal n (place_at i at)
 
 keeper : Runner
 keeper list blocks entry =
@@ -447,9 +442,9 @@ keeper_keeps list blocks entry _ _ _ j = rw (j.listed, j.loads, j.conforms)
 
 -- the one that compares heights, by the stages of `load`
 
-abbrev loaded_for : Answer ℕ → Loading
-loaded_for (ok n) = L.Loaded n
-loaded_for (refused n i at) = L.Refused n (place_at i at)
+abbrev loaded_for : Answer ℕ → Result ℕ Refusal
+loaded_for (ok n) = Ok n
+loaded_for (refused n i at) = refusal n (place_at i at)
 
 leveler : Loader
 leveler list blocks =
@@ -475,13 +470,13 @@ pub wrong_programs_exist : WrongProgramsExist
 unfolding judges translators loaders runners explainers summarizers recheckers fixers comparers counters tables
 wrong_programs_exist =
     let (q, kept) = can_be_kept in
-    let refuses : List ℕ → List ℕ → List ℕ → Judgement = λ text list entry. J.Refused 20 (P.Entry 0) in
-    let accepts : List ℕ → List ℕ → List ℕ → Judgement = λ text list entry. J.Accepted in
+    let refuses : List ℕ → List ℕ → List ℕ → Judgement = λ text list entry. refusal 20 (P.Entry 0) in
+    let accepts : List ℕ → List ℕ → List ℕ → Judgement = λ text list entry. (Ok Accepted) in
     let idles : List ℕ → List ℕ → List ℕ → TranslateResult = λ text list buffer.
     record { answer = (q.translate text list buffer).answer; buffer = buffer }
     in
-    let bars : List ℕ → List ℕ → Loading = λ list blocks. L.Refused 18 (P.Blocks 0) in
-    let admits : List ℕ → List ℕ → Loading = λ list blocks. L.Loaded (total_of blocks) in
+    let bars : List ℕ → List ℕ → Result ℕ Refusal = λ list blocks. refusal 18 (P.Blocks 0) in
+    let admits : List ℕ → List ℕ → Result ℕ Refusal = λ list blocks. Ok (total_of blocks) in
     record {
       refusing = (
         judges q kept refuses,

@@ -2,12 +2,13 @@
 -- conform, `::priority < 10` from 9 to 10, `d::mask == 0` from an absent record to one that spells it out. And each wrong summary:
 -- `::priority < 10` names no key, `d::mask == 0` names one.
 use Prim.Native.Nat.{ℕ, ◌^◌}
+use Rattle.std.specs.Prelude.{Ok}
+use Rattle.paper.specs.declared.Verdict.TheVariants.{Accepted}
 use native.Mathlib.Omega.{arith}
 use mathlib.Core.Path.{◌≡◌, refl, sym, ap, ◌∙◌}
 use mathlib.Core.Bool.{Bool, true, false, not, true≢false}
 use mathlib.Core.List.{List, [], ◌∷◌, ◌++◌}
 use lib.Dec.{lit<}
-use Rattle.paper.specs.declared.Judgement.TheVariants as J
 use Rattle.paper.specs.Answers.{Answer, ok, refused, in_entry, judgement_says}
 use Rattle.paper.specs.Numbers.{big_endian}
 use Rattle.paper.specs.Tokens.{bytes, plain, equal, less}
@@ -27,18 +28,18 @@ use Rattle.paper.proofs.RecheckedRight.{reused_exactly}
 -- what a right one says is what the definition says
 
 module _ (x : Rechecker) (right : RechecksRight x) (text list old new : List ℕ) (lendable : Lendable text list old new) where
-  told : recheck_answer text list old (judgement_says J.Accepted) new ≡ rechecking_says (x text list old J.Accepted new)
-  told = (reused_exactly text list old (ok true) new _).1 (right text list old J.Accepted new lendable)
+  told : recheck_answer text list old (judgement_says (Ok Accepted)) new ≡ rechecking_says (x text list old (Ok Accepted) new)
+  told = (reused_exactly text list old (ok true) new _).1 (right text list old (Ok Accepted) new lendable)
 
   not_judged : recheck_answer text list old (ok true) new ≡ reused (ok true) → ¬ Judges x text list old new
   not_judged shown judges =
-      let (j, e) = judges J.Accepted in
+      let (j, e) = judges (Ok Accepted) in
       let z : ◌≡◌ {A = ℕ} 0 1 = cc (sym shown ∙ told ∙ ap rechecking_says e) in
       omega arith
 
   not_reused : (a : Answer Bool) → recheck_answer text list old (ok true) new ≡ judged a → ¬ Reuses x text list old new
   not_reused a shown reuses =
-      let z : ◌≡◌ {A = ℕ} 0 1 = cc (sym shown ∙ told ∙ ap rechecking_says (reuses J.Accepted)) in
+      let z : ◌≡◌ {A = ℕ} 0 1 = cc (sym shown ∙ told ∙ ap rechecking_says (reuses (Ok Accepted))) in
       omega arith
 
 module _ (x : Summarizer) (right : SummarizesRight x) (text list : List ℕ) (t : Bytes text) (l : Bytes list) (r : Restriction)

@@ -1,5 +1,8 @@
 -- The wrong rechecks and summaries are real: each asks another test of the two entries, or takes other keys into the set.
 use Prim.Native.Nat.{ℕ, zero, suc, ◌<◌}
+use Rattle.std.specs.Prelude.{Result}
+use Rattle.paper.specs.declared.Refusal.{Refusal}
+use Rattle.paper.specs.declared.Summary.{Summary}
 use mathlib.Core.Path.{◌≡◌, refl, sym, ap, ◌∙◌}
 use mathlib.Core.Bool.{Bool, true, false, not, cond, ◌&&◌, ◌||◌, and-eq-true_iff, or-true}
 use mathlib.Core.Option.{Option, none, some}
@@ -7,17 +10,14 @@ use mathlib.Core.List.{List}
 use lib.ListN.{length, get_elem?}
 use lib.Dec.{eqb, ltb}
 use borrow.Author.Tests.{eq-eqb, ltb-true, ltb-false}
-use Rattle.paper.specs.declared.Judgement.{Judgement}
-use Rattle.paper.specs.declared.Summarizing.{Summarizing}
-use Rattle.paper.specs.declared.Summarizing.TheVariants as S
 use Rattle.paper.specs.declared.Rechecking.TheVariants as K
-use Rattle.paper.specs.Answers.{Answer, ok, refused, ◌>>=◌}
+use Rattle.paper.specs.Answers.{Answer, ok, refused, ◌>>=◌, refusal, Judgement}
 use Rattle.paper.specs.Tokens.{same_bytes}
 use Rattle.paper.specs.Keys.{Key, most_keys}
 use Rattle.paper.specs.Entry.{Match, Entry, priority_of, entry_of}
 use Rattle.paper.specs.Grammar.{Tree}
 use Rattle.paper.specs.Calls.{Restriction, restriction, judge_answer}
-use Rattle.paper.specs.Named.{names, marked, set_of, Summary}
+use Rattle.paper.specs.Named.{names, marked, set_of, Summary, summed}
 use Rattle.paper.specs.Rechecking.{same_from, same_priority}
 use Rattle.paper.specs.RecheckedRight.{bit_at, BothConform}
 use Rattle.tried.specs.WrongRecheckers.{Rechecker, NeverReuses, AlwaysReuses, WantsEqualEntries, ForgetsPriority, ComparesReadings, Summarizer, HasBit, CountsPriority, bare_names, MissesFields}
@@ -146,9 +146,9 @@ readings_real = (
 
 -- a summary with any other keys in the set
 
-abbrev summary_for : Answer Summary → Summarizing
-summary_for (ok s) = S.Summary s.keys s.priority
-summary_for (refused n i at) = S.Refused n (place_at i at)
+abbrev summary_for : Answer Summary → Result Summary Refusal
+summary_for (ok s) = summed s.keys s.priority
+summary_for (refused n i at) = refusal n (place_at i at)
 
 abbrev summarize_by : (List Key → Tree → ℕ → Bool) → Summarizer
 summarize_by named text list =

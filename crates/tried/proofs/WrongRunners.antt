@@ -1,13 +1,13 @@
 -- Each wrong way with skips fails at a block with no keys. Steps: `false && true`, whose code has four instructions and takes two. The old bool:
 -- `false -> true`, which is true. Heights: a skip over "and" and the push of an int finds an int where it left a bool.
 use Prim.Native.Nat.{ℕ}
+use Rattle.paper.specs.declared.Verdict.TheVariants.{Accepted, Violated}
 use native.Mathlib.Omega.{arith}
 use mathlib.Core.Path.{◌≡◌, refl, sym, ap, ◌∙◌}
 use mathlib.Core.Bool.{Bool, true, false, true≢false}
 use mathlib.Core.List.{List, [], ◌∷◌}
 use lib.ListN.{length, replicate}
-use Rattle.paper.specs.declared.Running.TheVariants as N
-use Rattle.paper.specs.Answers.{ok, refused, in_blocks, loading_says, Ran, running_says}
+use Rattle.paper.specs.Answers.{ok, refused, in_blocks, says, Ran, running_says, ended}
 use Rattle.paper.specs.Tokens.{equal}
 use Rattle.paper.specs.Keys.{keys}
 use Rattle.paper.specs.Entry.{entry_of}
@@ -94,7 +94,7 @@ instructions_fail x reports right =
     let same = same_answer false b 2 and_runs.count (sym true-one ∙ said) in
     omega (arith, ap (λ (r : Ran). r.steps) same, and_counted)
 
-implies_kept : keeping_answer implies_runs.ks implies_runs.on (blocks_of 0 implies_code) ≡ N.Violated 2
+implies_kept : keeping_answer implies_runs.ks implies_runs.on (blocks_of 0 implies_code) ≡ ended Violated 2
 unfolding implies_runs keeping_from blocks_of
 implies_kept = refl
 
@@ -140,7 +140,7 @@ heights_fail : (x : Loader) → ComparesHeights x → ¬ LoadsRight x
 heights_fail x compares right =
     let lent : Bytes (blocks_of 0 leveled) = blocks_bytes 0 leveled in
     let (n, e) = compares [] (blocks_of 0 leveled) tt lent [] no_keys leveled_laid leveled_high in
-    never_ok (sym leveled_refused ∙ sym (right [] (blocks_of 0 leveled) tt lent) ∙ ap loading_says e)
+    never_ok (sym leveled_refused ∙ sym (right [] (blocks_of 0 leveled) tt lent) ∙ ap says e)
 
 pub wrong_runners_fail : WrongRunnersFail
 wrong_runners_fail = record { instructions = instructions_fail; old_bool = old_bool_fails; heights = heights_fail }

@@ -1,17 +1,18 @@
 -- The wrong tables are real: each says what another does, but for the answers, which go by a rule of its own, or for the steps; and one that pads a cut
 -- entry with zeros says what another says of the longer table.
 use Prim.Native.Nat.{ℕ, zero, suc, ◌+◌, ◌*◌, ◌-◌, ◌/◌, ◌%◌, ◌<◌}
+use Rattle.std.specs.Prelude.{Result, Err}
+use Rattle.paper.specs.declared.Refusal.{Refusal}
+use Rattle.paper.specs.declared.RanAll.{RanAll}
 use native.Mathlib.Nat.{suc-mul, mod-lt, div-add-mod', mul-add-div_right, mul-add-mod_self_right, zero-div, zero-mod}
 use native.Mathlib.Omega.{arith}
 use mathlib.Core.Path.{◌≡◌, refl, ap, ◌∙◌}
 use mathlib.Core.List.{List, ◌++◌}
 use lib.ListN.{length, replicate, length-append, length-replicate}
-use Rattle.paper.specs.declared.RunningAll.{RunningAll}
-use Rattle.paper.specs.declared.RunningAll.TheVariants as U
-use Rattle.paper.specs.Answers.{Answer, ok, refused, ◌>>=◌}
+use Rattle.paper.specs.Answers.{Answer, ok, refused, ◌>>=◌, refusal}
 use Rattle.paper.specs.Keys.{Key, keys}
 use Rattle.paper.specs.Counting.{entry_size, whole_in, cut_in, entries_in}
-use Rattle.paper.specs.RunAll.{verdicts_on, AllRan, running_all_says}
+use Rattle.paper.specs.RunAll.{verdicts_on, AllRan, running_all_says, ran_over}
 use Rattle.paper.specs.Promised.{Bytes}
 use Rattle.paper.specs.Demands.{AllRunnable}
 use Rattle.tried.specs.WrongTables.{TableRunner, RunsTablesRight, Rule, WritesBy, last_steps, TellsLastSteps, TakesCut}
@@ -40,16 +41,16 @@ module _ (rule : Rule) (right : TableRunner) where
 
 -- with the steps of the last
 
-abbrev in_steps : ℕ → RunningAll → RunningAll
-in_steps n (U.Ran m s) = U.Ran m n
-in_steps n (U.Refused m at) = U.Refused m at
+abbrev in_steps : ℕ → Result RanAll Refusal → Result RanAll Refusal
+in_steps n (ran_over m s) = ran_over m n
+in_steps n (Err v) = refusal v.number v.place
 
 abbrev stepped : ℕ → AllRan → AllRan
 stepped n a = record { entries = a.entries; steps = n }
 
-says_stepped : (n : ℕ) (a : RunningAll) → running_all_says (in_steps n a) ≡ (running_all_says a >>= λ r. ok (stepped n r))
-says_stepped n (U.Ran m s) = refl
-says_stepped n (U.Refused m at) = refl
+says_stepped : (n : ℕ) (a : Result RanAll Refusal) → running_all_says (in_steps n a) ≡ (running_all_says a >>= λ r. ok (stepped n r))
+says_stepped n (ran_over m s) = refl
+says_stepped n (Err v) = refl
 
 module _ (right : TableRunner) (all : RunsTablesRight right) where
   abbrev last_for : Answer (List Key) → List ℕ → List ℕ → ℕ
@@ -140,8 +141,8 @@ module _ (right : TableRunner) (all : RunsTablesRight right) where
       let v = verdicts_on ks blocks more in
       let many : length v.bytes ≡ suc (whole_in ks entries) = byte_for_each ks blocks more ∙ padded_whole ks entries in
       let said = (all list blocks more answers l s lent a).totals j in
-      let told : (right list blocks more answers).answer ≡ U.Ran (suc (whole_in ks entries)) v.steps =
-      running_all_same (right list blocks more answers).answer (U.Ran (suc (whole_in ks entries)) v.steps)
+      let told : (right list blocks more answers).answer ≡ ran_over (suc (whole_in ks entries)) v.steps =
+      running_all_same (right list blocks more answers).answer (ran_over (suc (whole_in ks entries)) v.steps)
       (said ∙ ap (λ (n : ℕ). ok (record { entries = n; steps = v.steps })) many)
       in
       let read : padded_by (keys list) entries ≡ more =

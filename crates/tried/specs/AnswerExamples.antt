@@ -1,17 +1,12 @@
 -- 01, "Refusal numbers", by example: each case of each public answer, and of two faults that an input has the one whose stage runs first.
-use Rattle.std.specs.Prelude.{ℕ, ◌^◌, ◌≡◌, true, false, List, [], ◌∷◌, ◌++◌, take, set, replicate}
+use Rattle.std.specs.Prelude.{ℕ, ◌^◌, ◌≡◌, true, false, List, [], ◌∷◌, ◌++◌, take, set, replicate, Ok}
+use Rattle.paper.specs.Named.{summed}
+use Rattle.paper.specs.declared.Verdict.TheVariants.{Accepted, Violated}
 use Rattle.std.specs.Borrow.{Bor}
 use Rattle.paper.specs.declared.Place.TheVariants as P
-use Rattle.paper.specs.declared.Reading.TheVariants as R
-use Rattle.paper.specs.declared.Checking.TheVariants as C
-use Rattle.paper.specs.declared.Judgement.TheVariants as J
-use Rattle.paper.specs.declared.Translation.TheVariants as T
-use Rattle.paper.specs.declared.Loading.TheVariants as L
-use Rattle.paper.specs.declared.Running.TheVariants as N
 use Rattle.paper.specs.declared.Explanation.TheVariants as X
-use Rattle.paper.specs.declared.Summarizing.TheVariants as S
 use Rattle.paper.specs.declared.Rechecking.TheVariants as K
-use Rattle.paper.specs.Answers.{refused, in_text, in_list, in_entry, in_blocks}
+use Rattle.paper.specs.Answers.{refused, in_text, in_list, in_entry, in_blocks, refusal, ended}
 use Rattle.paper.specs.Numbers.{big_endian}
 use Rattle.paper.specs.Tokens.{bytes}
 use Rattle.paper.specs.Calls.{read_answer, check_answer, judge_answer, translate_answer, load_answer, run_answer}
@@ -61,59 +56,59 @@ false_block = block_with (0xFD ∷ 0x04 ∷ 0x01 ∷ 0x07 ∷ []) 0 1 (alone (ro
 -- "A refusal's place says which input it lies in (text, key list, entry, blocks, buffer) and a byte offset." For each call, each case of
 -- its enum and each input that its refusals may lie in
 pub record Answers : Type 0 where
-  pub reads : ReadPromised (bytes "v == 1") (R.Read 3)
-  pub read_refuses_text : ReadPromised (bytes "v v") (R.Refused 8 (P.Text 2))
-  pub checks : CheckPromised (bytes "v == 1") the_keys C.Passed
-  pub check_refuses_text : CheckPromised (bytes "d > 3") the_keys (C.Refused 13 (P.Text 2))
-  pub check_refuses_list : CheckPromised (bytes "true") repeating_list (C.Refused 4 (P.List 80))
-  pub accepts : JudgePromised (bytes "v == 1") the_keys the_entry J.Accepted
-  pub violates : JudgePromised (bytes "v == 0") the_keys the_entry J.Violated
-  pub judge_refuses_text : JudgePromised (bytes "d > 3") the_keys the_entry (J.Refused 13 (P.Text 2))
-  pub judge_refuses_list : JudgePromised (bytes "true") repeating_list the_entry (J.Refused 4 (P.List 80))
-  pub judge_refuses_entry : JudgePromised (bytes "true") the_keys short_entry (J.Refused 19 (P.Entry 183))
+  pub reads : ReadPromised (bytes "v == 1") (Ok 3)
+  pub read_refuses_text : ReadPromised (bytes "v v") (refusal 8 (P.Text 2))
+  pub checks : CheckPromised (bytes "v == 1") the_keys (Ok tt)
+  pub check_refuses_text : CheckPromised (bytes "d > 3") the_keys (refusal 13 (P.Text 2))
+  pub check_refuses_list : CheckPromised (bytes "true") repeating_list (refusal 4 (P.List 80))
+  pub accepts : JudgePromised (bytes "v == 1") the_keys the_entry (Ok Accepted)
+  pub violates : JudgePromised (bytes "v == 0") the_keys the_entry (Ok Violated)
+  pub judge_refuses_text : JudgePromised (bytes "d > 3") the_keys the_entry (refusal 13 (P.Text 2))
+  pub judge_refuses_list : JudgePromised (bytes "true") repeating_list the_entry (refusal 4 (P.List 80))
+  pub judge_refuses_entry : JudgePromised (bytes "true") the_keys short_entry (refusal 19 (P.Entry 183))
   pub translates : TranslatePromised (bytes "v == 1") the_keys (replicate 514 0xAA)
-      (record { answer = T.Written 4; buffer = the_block ++ (0xAA ∷ 0xAA ∷ []) })
+      (record { answer = Ok 4; buffer = the_block ++ (0xAA ∷ 0xAA ∷ []) })
   pub translate_refuses_text : TranslatePromised (bytes "d > 3") the_keys (0xAA ∷ [])
-      (record { answer = T.Refused 13 (P.Text 2); buffer = 0xAA ∷ [] })
+      (record { answer = refusal 13 (P.Text 2); buffer = 0xAA ∷ [] })
   pub translate_refuses_list : TranslatePromised (bytes "true") repeating_list (0xAA ∷ [])
-      (record { answer = T.Refused 4 (P.List 80); buffer = 0xAA ∷ [] })
+      (record { answer = refusal 4 (P.List 80); buffer = 0xAA ∷ [] })
   pub translate_refuses_buffer : TranslatePromised (bytes "true") the_keys (0xAA ∷ [])
-      (record { answer = T.Refused 15 (P.Buffer 1); buffer = 0xAA ∷ [] })
-  pub loads : LoadPromised the_keys false_block (L.Loaded 1)
-  pub load_refuses_list : LoadPromised repeating_list the_block (L.Refused 4 (P.List 80))
-  pub load_refuses_blocks : LoadPromised the_keys bad_code (L.Refused 18 (P.Blocks 4))
-  pub runs_to_accepted : RunPromised the_keys the_block the_entry (N.Accepted 4)
-  pub runs_to_violated : RunPromised the_keys false_block the_entry (N.Violated 1)
-  pub run_refuses_list : RunPromised repeating_list the_block the_entry (N.Refused 4 (P.List 80))
-  pub run_refuses_blocks : RunPromised the_keys bad_code the_entry (N.Refused 18 (P.Blocks 4))
-  pub run_refuses_entry : RunPromised the_keys the_block short_entry (N.Refused 19 (P.Entry 183))
+      (record { answer = refusal 15 (P.Buffer 1); buffer = 0xAA ∷ [] })
+  pub loads : LoadPromised the_keys false_block (Ok 1)
+  pub load_refuses_list : LoadPromised repeating_list the_block (refusal 4 (P.List 80))
+  pub load_refuses_blocks : LoadPromised the_keys bad_code (refusal 18 (P.Blocks 4))
+  pub runs_to_accepted : RunPromised the_keys the_block the_entry (ended Accepted 4)
+  pub runs_to_violated : RunPromised the_keys false_block the_entry (ended Violated 1)
+  pub run_refuses_list : RunPromised repeating_list the_block the_entry (refusal 4 (P.List 80))
+  pub run_refuses_blocks : RunPromised the_keys bad_code the_entry (refusal 18 (P.Blocks 4))
+  pub run_refuses_entry : RunPromised the_keys the_block short_entry (refusal 19 (P.Entry 183))
   pub explains_part : ExplainPromised (bytes "v == 1; (r::low > 0; false)") the_keys the_entry (X.Part 2 19 8 27)
   pub explains_key : ExplainPromised (bytes "true") the_keys bad_record (X.Key 112 256 257)
-  pub explains_accepted : ExplainPromised (bytes "v == 1") the_keys the_entry (X.Nothing J.Accepted)
-  pub explain_refuses_text : ExplainPromised (bytes "d > 3") the_keys the_entry (X.Nothing (J.Refused 13 (P.Text 2)))
-  pub explain_refuses_list : ExplainPromised (bytes "true") repeating_list the_entry (X.Nothing (J.Refused 4 (P.List 80)))
-  pub explain_refuses_entry : ExplainPromised (bytes "true") the_keys short_entry (X.Nothing (J.Refused 19 (P.Entry 183)))
-  pub explain_refuses_priority : ExplainPromised (bytes "true") the_keys broken_entry (X.Nothing (J.Refused 20 (P.Entry 0)))
-  pub summarizes : SummarizePromised (bytes "v == 1; d::mask != 0") the_keys (S.Summary 3 false)
-  pub summarizes_mark : SummarizePromised (bytes "::priority < 10 || o == 1") the_keys (S.Summary 16 true)
-  pub summarize_refuses_text : SummarizePromised (bytes "d > 3") the_keys (S.Refused 13 (P.Text 2))
-  pub summarize_refuses_list : SummarizePromised (bytes "true") repeating_list (S.Refused 4 (P.List 80))
-  pub reuses : RecheckPromised (bytes "v == 1") the_keys the_entry J.Accepted the_entry (K.Reused J.Accepted)
-  pub reuses_violated : RecheckPromised (bytes "v == 1") the_keys the_entry J.Violated the_entry (K.Reused J.Violated)
-  pub reuses_refused : RecheckPromised (bytes "v == 1") the_keys the_entry (J.Refused 20 (P.Entry 4)) the_entry
-      (K.Reused (J.Refused 20 (P.Entry 4)))
-  pub rechecks : RecheckPromised (bytes "::priority < 11") the_keys the_entry J.Violated (entry_with 11 1 80 15) (K.Judged J.Violated)
-  pub recheck_refuses_text : RecheckPromised (bytes "d > 3") the_keys the_entry J.Accepted the_entry (K.Judged (J.Refused 13 (P.Text 2)))
-  pub recheck_refuses_list : RecheckPromised (bytes "true") repeating_list the_entry J.Accepted the_entry (K.Judged (J.Refused 4 (P.List 80)))
-  pub recheck_refuses_entry : RecheckPromised (bytes "true") the_keys the_entry J.Accepted short_entry (K.Judged (J.Refused 19 (P.Entry 183)))
+  pub explains_accepted : ExplainPromised (bytes "v == 1") the_keys the_entry (X.Nothing (Ok Accepted))
+  pub explain_refuses_text : ExplainPromised (bytes "d > 3") the_keys the_entry (X.Nothing (refusal 13 (P.Text 2)))
+  pub explain_refuses_list : ExplainPromised (bytes "true") repeating_list the_entry (X.Nothing (refusal 4 (P.List 80)))
+  pub explain_refuses_entry : ExplainPromised (bytes "true") the_keys short_entry (X.Nothing (refusal 19 (P.Entry 183)))
+  pub explain_refuses_priority : ExplainPromised (bytes "true") the_keys broken_entry (X.Nothing (refusal 20 (P.Entry 0)))
+  pub summarizes : SummarizePromised (bytes "v == 1; d::mask != 0") the_keys (summed 3 false)
+  pub summarizes_mark : SummarizePromised (bytes "::priority < 10 || o == 1") the_keys (summed 16 true)
+  pub summarize_refuses_text : SummarizePromised (bytes "d > 3") the_keys (refusal 13 (P.Text 2))
+  pub summarize_refuses_list : SummarizePromised (bytes "true") repeating_list (refusal 4 (P.List 80))
+  pub reuses : RecheckPromised (bytes "v == 1") the_keys the_entry (Ok Accepted) the_entry (K.Reused (Ok Accepted))
+  pub reuses_violated : RecheckPromised (bytes "v == 1") the_keys the_entry (Ok Violated) the_entry (K.Reused (Ok Violated))
+  pub reuses_refused : RecheckPromised (bytes "v == 1") the_keys the_entry (refusal 20 (P.Entry 4)) the_entry
+      (K.Reused (refusal 20 (P.Entry 4)))
+  pub rechecks : RecheckPromised (bytes "::priority < 11") the_keys the_entry (Ok Violated) (entry_with 11 1 80 15) (K.Judged (Ok Violated))
+  pub recheck_refuses_text : RecheckPromised (bytes "d > 3") the_keys the_entry (Ok Accepted) the_entry (K.Judged (refusal 13 (P.Text 2)))
+  pub recheck_refuses_list : RecheckPromised (bytes "true") repeating_list the_entry (Ok Accepted) the_entry (K.Judged (refusal 4 (P.List 80)))
+  pub recheck_refuses_entry : RecheckPromised (bytes "true") the_keys the_entry (Ok Accepted) short_entry (K.Judged (refusal 19 (P.Entry 183)))
 
 -- 02 g: the verdict of a run with its steps, and the judgement that a run comes to, its steps aside
 pub record RunAnswers : Type 0 where
   pub in_steps : RunPromised the_keys the_block the_entry (verdict_in true 4)
   pub violated_in_steps : RunPromised the_keys false_block the_entry (verdict_in false 1)
-  pub accepted : JudgePromised (bytes "v == 1") the_keys the_entry (judgement_of_run (N.Accepted 4))
-  pub violated : JudgePromised (bytes "v == 0") the_keys the_entry (judgement_of_run (N.Violated 4))
-  pub refused : JudgePromised (bytes "true") the_keys short_entry (judgement_of_run (N.Refused 19 (P.Entry 183)))
+  pub accepted : JudgePromised (bytes "v == 1") the_keys the_entry (judgement_of_run (ended Accepted 4))
+  pub violated : JudgePromised (bytes "v == 0") the_keys the_entry (judgement_of_run (ended Violated 4))
+  pub refused : JudgePromised (bytes "true") the_keys short_entry (judgement_of_run (refusal 19 (P.Entry 183)))
 
 -- 02 c: "handed back as the piece itself": the text lies in block 7 from its byte 100 on, and the list in block 9 from its byte 1000 on
 
@@ -125,7 +120,7 @@ pub record PieceAnswers : Type 0 where
       (lies 7 108 (bytes "false")) (lies 9 0 [])
   pub key : ExplainedPromised (lies 7 100 (bytes "true")) (lies 9 1000 the_keys) bad_record (X.Key 112 256 257)
       (lies 7 0 []) (lies 9 1256 (bytes "r"))
-  pub nothing : ExplainedPromised (lies 7 100 (bytes "true")) (lies 9 1000 the_keys) the_entry (X.Nothing J.Accepted)
+  pub nothing : ExplainedPromised (lies 7 100 (bytes "true")) (lies 9 1000 the_keys) the_entry (X.Nothing (Ok Accepted))
       (lies 7 0 []) (lies 9 0 [])
 
 -- "Stages: 1; 2; 3 and 4; 5 to 7; 8 to 10; 11 to 13; 14; 15; 16; 17; 18; 19; 20." Each field has a fault of two stages that follow one

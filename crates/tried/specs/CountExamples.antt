@@ -3,8 +3,7 @@
 use Rattle.std.specs.Prelude.{ℕ, ◌*◌, ◌≡◌, List, [], ◌∷◌, ◌++◌, take}
 use Prim.Native.String as S
 use Rattle.paper.specs.declared.Place.TheVariants as P
-use Rattle.paper.specs.declared.Counting.TheVariants as C
-use Rattle.paper.specs.Answers.{ok, refused, in_text, in_list, in_entry}
+use Rattle.paper.specs.Answers.{ok, refused, in_text, in_list, in_entry, refusal}
 use Rattle.paper.specs.Numbers.{big_endian}
 use Rattle.paper.specs.Tokens.{bytes}
 use Rattle.paper.specs.Keys.{Key}
@@ -98,7 +97,7 @@ pub record Apart : Type 0 where
       ≡ as_lines ("part 1 0" ∷ "part 2 1" ∷ "part 3 0" ∷ "accepted 0" ∷ "violated 1" ∷ "refused 2" ∷ "cut 4" ∷ [])
   -- and of the answer of the call
   pub told : counting_says (C.Counted 3 0 1 2 4) ≡ ok mixed_totals
-  pub refusal_told : counting_says (C.Refused 25 (P.Entry 4000000)) ≡ refused 25 in_entry 4000000
+  pub refusal_told : counting_says (refusal 25 (P.Entry 4000000)) ≡ refused 25 in_entry 4000000
 
 -- the list and the text first, then 25; nothing else is written, and no number that is lent is changed
 pub record Refusals : Type 0 where

@@ -1,10 +1,9 @@
 -- 02 a and e by example: texts with their prints, where parentheses stay, numerals in each base, and what is lent.
-use Rattle.std.specs.Prelude.{ℕ, ◌-◌, ◌^◌, ◌≡◌, true, cond, List, [], ◌∷◌, ◌++◌, map, length, get_or, replicate}
+use Rattle.std.specs.Prelude.{ℕ, ◌-◌, ◌^◌, ◌≡◌, true, cond, List, [], ◌∷◌, ◌++◌, map, length, get_or, replicate, Result, Ok}
+use Rattle.paper.specs.declared.Refusal.{Refusal}
 use Prim.Native.String as S
 use Rattle.paper.specs.declared.Place.TheVariants as P
-use Rattle.paper.specs.declared.Printing.{Printing}
-use Rattle.paper.specs.declared.Printing.TheVariants as W
-use Rattle.paper.specs.Answers.{Answer, ok, refused, ◌>>=◌, in_text, in_buffer, printing_says}
+use Rattle.paper.specs.Answers.{Answer, ok, refused, ◌>>=◌, in_text, in_buffer, says, refusal}
 use Rattle.paper.specs.Tokens as H
 use Rattle.paper.specs.Tokens.{plain, literal_in, bytes, is, starts, sequel, equal, not_sign}
 use Rattle.paper.specs.Grammar.{Tree, truth, number, key, field, attribute, prefixed, joined, compared}
@@ -242,8 +241,8 @@ buffers =
     ∷ []
 
 -- the cases of the public answer
-abbrev pub told : List (Example Printing (Answer ℕ))
-told = on (W.Printed 5) (ok 5) ∷ on (W.Refused 21 (P.Buffer 4)) (refused 21 in_buffer 4) ∷ []
+abbrev pub told : List (Example Result ℕ Refusal (Answer ℕ))
+told = on (Ok 5) (ok 5) ∷ on (refusal 21 (P.Buffer 4)) (refused 21 in_buffer 4) ∷ []
 
 pub record PrintExamples : Type 0 where
   pub of_leaves : AgreeOnTexts printed leaves
@@ -263,4 +262,4 @@ pub record PrintExamples : Type 0 where
   pub levels_counted : AgreeOnTexts (λ text. tree text >>= λ t. ok (levels t)) levels_of_prints
   pub of_answers : Agree (λ (l : Lending). print_answer l.text l.buffer) answers
   pub of_buffers : Agree (λ (l : Lending). print_buffer l.text l.buffer) buffers
-  pub of_cases : Agree printing_says told
+  pub of_cases : Agree says told

@@ -1,17 +1,16 @@
 -- A table in one call, by example: entries that are accepted, violated and refused, side by side; a length that is a byte short or over; answers exactly
 -- as many as there are entries, one fewer, and more, of which the later ones stay; the steps of all; and what is refused before anything is judged.
-use Rattle.std.specs.Prelude.{ℕ, ◌-◌, ◌^◌, ◌≡◌, true, false, List, [], ◌∷◌, ◌++◌, take, drop, replicate}
+use Rattle.std.specs.Prelude.{ℕ, ◌-◌, ◌^◌, ◌≡◌, true, false, List, [], ◌∷◌, ◌++◌, take, drop, replicate, Ok}
+use Rattle.paper.specs.declared.Verdict.TheVariants.{Accepted, Violated}
 use Prim.Native.String as S
 use Rattle.paper.specs.declared.Place.TheVariants as P
-use Rattle.paper.specs.declared.Judgement.TheVariants as J
-use Rattle.paper.specs.declared.RunningAll.TheVariants as U
-use Rattle.paper.specs.Answers.{Answer, ok, refused, ◌>>=◌, in_list, in_entry, in_blocks, in_buffer}
+use Rattle.paper.specs.Answers.{Answer, ok, refused, ◌>>=◌, in_list, in_entry, in_blocks, in_buffer, refusal}
 use Rattle.paper.specs.Numbers.{big_endian}
 use Rattle.paper.specs.Tokens.{bytes}
 use Rattle.paper.specs.Blocks.{blocks_of}
 use Rattle.paper.specs.Translating.{code_of}
 use Rattle.paper.specs.Calls.{restriction, run_answer}
-use Rattle.paper.specs.RunAll.{verdict_byte, steps_on, sum, Verdicts, ran_all, run_all_answer, run_all_bytes, running_all_says}
+use Rattle.paper.specs.RunAll.{verdict_byte, steps_on, sum, Verdicts, ran_all, run_all_answer, run_all_bytes, running_all_says, ran_over}
 use Rattle.paper.specs.RunAllRight.{entry_at, together, judgement_byte}
 use Rattle.paper.specs.Promised.{RunAllPromised}
 use Rattle.tried.specs.MarkedJudgements.{the_keys, the_entry}
@@ -34,7 +33,7 @@ pub record OwnExample : Type 0 where
   pub written : run_all_bytes the_keys the_block the_table (replicate 5 9) ≡ 1 ∷ 2 ∷ 0 ∷ 0 ∷ 1 ∷ []
   pub later_stay : run_all_bytes the_keys the_block the_table (replicate 7 9) ≡ 1 ∷ 2 ∷ 0 ∷ 0 ∷ 1 ∷ 9 ∷ 9 ∷ []
   pub promised : RunAllPromised the_keys the_block the_table (replicate 6 9)
-      (record { answer = U.Ran 5 12; bytes = 1 ∷ 2 ∷ 0 ∷ 0 ∷ 1 ∷ 9 ∷ [] })
+      (record { answer = ran_over 5 12; bytes = 1 ∷ 2 ∷ 0 ∷ 0 ∷ 1 ∷ 9 ∷ [] })
 
 -- what `run` says of each
 pub record Runs : Type 0 where
@@ -51,12 +50,12 @@ pub record Told : Type 0 where
   pub steps : steps_on (ok (record { accepted = false; steps = 7 })) ≡ 7
   pub no_steps : steps_on (refused 20 in_entry 112) ≡ 0
   pub summed : sum (4 ∷ 0 ∷ 10 ∷ []) ≡ 14
-  pub judged : judgement_byte J.Accepted ≡ 1
-  pub judged_violated : judgement_byte J.Violated ≡ 2
-  pub judged_refused : judgement_byte (J.Refused 20 (P.Entry 112)) ≡ 0
+  pub judged : judgement_byte (Ok Accepted) ≡ 1
+  pub judged_violated : judgement_byte (Ok Violated) ≡ 2
+  pub judged_refused : judgement_byte (refusal 20 (P.Entry 112)) ≡ 0
   -- and of the answer of the call
-  pub answer : running_all_says (U.Ran 5 12) ≡ ok (record { entries = 5; steps = 12 })
-  pub refusal : running_all_says (U.Refused 15 (P.Buffer 4)) ≡ refused 15 in_buffer 4
+  pub answer : running_all_says (ran_over 5 12) ≡ ok (record { entries = 5; steps = 12 })
+  pub refusal : running_all_says (refusal 15 (P.Buffer 4)) ≡ refused 15 in_buffer 4
 
 -- the length: none at all, a byte, a byte short of one and of two, and a byte over
 pub record Lengths : Type 0 where
@@ -78,7 +77,7 @@ pub record Answers : Type 0 where
   pub fewer_unchanged : run_all_bytes the_keys the_block the_table (5 ∷ 6 ∷ 7 ∷ 8 ∷ []) ≡ 5 ∷ 6 ∷ 7 ∷ 8 ∷ []
   pub none : ran_all the_keys the_block the_entry [] ≡ refused 15 in_buffer 0
   pub promised : RunAllPromised the_keys the_block the_table (replicate 4 9)
-      (record { answer = U.Refused 15 (P.Buffer 4); bytes = replicate 4 9 })
+      (record { answer = refusal 15 (P.Buffer 4); bytes = replicate 4 9 })
 
 -- without keys an entry has 4 bytes: one instruction, one step
 pub record NoKeys : Type 0 where

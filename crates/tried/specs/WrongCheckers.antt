@@ -1,10 +1,10 @@
 -- Checkers of types that are wrong about numbers that lose bits: one that reduces them still, one that looks at the right operand alone,
 -- one that gives 23 at the operator, and one that takes no number below zero. Each types by a rule of its own for a comparison, and all else
 -- as it should. As programs they stand in WrongPrograms, and there they are shown to be real.
-use Rattle.std.specs.Prelude.{ℕ, ◌^◌, ◌≡◌, Bool, true, false, List, ltb, ℤ, pos, negsuc}
+use Rattle.std.specs.Prelude.{ℕ, ◌^◌, ◌≡◌, Bool, true, false, List, ltb, ℤ, pos, negsuc, Result}
+use Rattle.paper.specs.declared.Refusal.{Refusal}
 use Rattle.std.proofs.Math.Option.{Option, none, some}
-use Rattle.paper.specs.declared.Checking.{Checking}
-use Rattle.paper.specs.Answers.{ok, ◌>>=◌, require, in_text, checking_says}
+use Rattle.paper.specs.Answers.{ok, ◌>>=◌, require, in_text, says}
 use Rattle.paper.specs.Grammar.{Tree, place_of}
 use Rattle.paper.specs.Types.{Ty, bool, int, of, comparison_type, spelled, keeps_bits, bits_kept, operator_type}
 use Rattle.paper.specs.BitsKept.{ComparisonRule, rule_before, restriction_by}
@@ -13,7 +13,7 @@ use Rattle.paper.specs.Demands.{CheckedRight}
 
 -- what is answered for a text and a list
 abbrev pub Checker : Type 0
-Checker = List ℕ → List ℕ → Checking
+Checker = List ℕ → List ℕ → Result (Unit {0}) Refusal
 
 -- what demand 2 asks of it; and its promise, which has the number and the place
 abbrev pub ChecksAllRight : Checker → Type 0
@@ -24,7 +24,7 @@ ChecksAsPromised x = (text list : List ℕ) → Bytes text → Bytes list → Ch
 
 abbrev pub TypesBy : ComparisonRule → Checker → Type 0
 TypesBy rule x =
-    (text list : List ℕ) → Bytes text → Bytes list → checking_says (x text list) ≡ (restriction_by rule text list >>= λ _. ok tt)
+    (text list : List ℕ) → Bytes text → Bytes list → says (x text list) ≡ (restriction_by rule text list >>= λ _. ok tt)
 
 abbrev pub ReducesStill : Checker → Type 0
 ReducesStill = TypesBy rule_before

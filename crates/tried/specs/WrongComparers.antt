@@ -1,11 +1,12 @@
 -- Comparisons that are wrong: one that always agrees, one that always differs, one that matches the parts from the front of the code, one that
 -- lets a part be used twice, and one to which it is the same how the parts are joined. Each is described so that a sloppy maker's is one, and
 -- fails what 02 l asks. As programs they stand in WrongPrograms, and there they are shown to be real.
-use Rattle.std.specs.Prelude.{ℕ, zero, suc, ◌-◌, ◌≡◌, Bool, true, false, ◌&&◌, length, take, drop, leb}
+use Rattle.std.specs.Prelude.{ℕ, zero, suc, ◌-◌, ◌≡◌, Bool, true, false, ◌&&◌, length, take, drop, leb, Result, Ok}
+use Rattle.paper.specs.declared.Refusal.{Refusal}
+use Rattle.paper.specs.declared.Agreement.{Agreement}
+use Rattle.paper.specs.declared.Agreement.TheVariants.{Agrees}
 use Rattle.std.proofs.Math.Option.{Option, some}
 use mathlib.Core.List.{List, [], ◌∷◌, ◌++◌, map, Memᴰ}
-use Rattle.paper.specs.declared.Agreement.{Agreement}
-use Rattle.paper.specs.declared.Agreement.TheVariants as A
 use Rattle.paper.specs.Tokens.{sequel}
 use Rattle.paper.specs.Keys.{Key}
 use Rattle.paper.specs.Grammar.{Tree, joined}
@@ -23,7 +24,7 @@ use Rattle.paper.specs.Demands.{CompareRight}
 
 -- what is answered for a text, a list and blocks
 abbrev pub Comparer : Type 0
-Comparer = List ℕ → List ℕ → List ℕ → Agreement
+Comparer = List ℕ → List ℕ → List ℕ → Result Agreement Refusal
 
 -- what demand 2 asks of it
 abbrev pub ComparesAllRight : Comparer → Type 0
@@ -92,7 +93,7 @@ pub record OfParts (ks : List Key) (parts : List Tree) (blocks : List ℕ) : Typ
 abbrev pub UsesTwice : Comparer → Type 0
 UsesTwice x =
     (text list blocks : List ℕ) → Bytes text → Bytes list → Bytes blocks → (c : Comparable text list blocks)
-    → OfParts c.rule.keys (roots c.ps) blocks → x text list blocks ≡ A.Agrees
+    → OfParts c.rule.keys (roots c.ps) blocks → x text list blocks ≡ Ok Agrees
 
 -- any shape: a tree that is others joined by ";", from the left or not
 pub data JoinedSomehow : List Tree → Tree → Type 0 where
@@ -108,7 +109,7 @@ pub record InSomeShape (ks : List Key) (parts : List Tree) (blocks : List ℕ) :
 abbrev pub IgnoresShape : Comparer → Type 0
 IgnoresShape x =
     (text list blocks : List ℕ) → Bytes text → Bytes list → Bytes blocks → (c : Comparable text list blocks)
-    → InSomeShape c.rule.keys (roots c.ps) blocks → x text list blocks ≡ A.Agrees
+    → InSomeShape c.rule.keys (roots c.ps) blocks → x text list blocks ≡ Ok Agrees
 
 -- the claim
 

@@ -1,8 +1,7 @@
 -- Translations of contracts that are wrong: NOT over the last assertion only, joins from the right, exclusive or as "||", clauses joined by
 -- "&&". Each makes another tree of a contract that has a meaning, and prints it as it should. As programs they stand in WrongPrograms, and
 -- there they are shown to be real.
-use Rattle.std.specs.Prelude.{ℕ, ◌≤◌, ◌≡◌, true, List, [], ◌∷◌, map, length}
-use Rattle.paper.specs.declared.Drafting.TheVariants as D
+use Rattle.std.specs.Prelude.{ℕ, ◌≤◌, ◌≡◌, true, List, [], ◌∷◌, map, length, Ok}
 use Rattle.paper.specs.Answers.{ok}
 use Rattle.paper.specs.Tokens.{sequel, or_else, and_also, most_text, most_tokens}
 use Rattle.paper.specs.Keys.{Key}
@@ -37,7 +36,7 @@ Makes made x =
     → names_of list ≡ ok ks → length table ≤ most_indices → clauses (length ks) (length table) contract ≡ ok cs
     → let t = made (map (λ (k : Key). k.name) ks) table cs in
     count t ≤ most_tokens → levels t ≤ most_levels → length (print t) ≤ most_text → length (print t) ≤ length buffer
-    → x contract table list buffer ≡ record { answer = D.Drafted (length (print t)); buffer = over (print t) buffer }
+    → x contract table list buffer ≡ record { answer = Ok (length (print t)); buffer = over (print t) buffer }
 
 -- clauses made into trees in another way, and joined as they should be
 abbrev pub joined_by : (Tree → Tree → Tree) → (Clause → Tree) → List Clause → Tree

@@ -1,8 +1,7 @@
 -- Passes that are wrong: one that changes octal numerals in strings or in comments, one that keeps leading zeros, one that turns `0o10` into `10`.
 -- Each is described so that a sloppy maker's is one, and fails what 02 h asks. As programs they stand in WrongPrograms, and there they are
 -- shown to be real.
-use Rattle.std.specs.Prelude.{ℕ, ◌≤◌, ◌<◌, ◌≡◌, List, ◌∷◌, ◌++◌, map, length, replicate}
-use Rattle.paper.specs.declared.Fixing.TheVariants as F
+use Rattle.std.specs.Prelude.{ℕ, ◌≤◌, ◌<◌, ◌≡◌, List, ◌∷◌, ◌++◌, map, length, replicate, Ok}
 use Rattle.paper.specs.Numbers.{in_base}
 use Rattle.paper.specs.Tokens.{bytes, span, within, digit_of, most_text}
 use Rattle.paper.specs.Print.{numeral_in}
@@ -29,7 +28,7 @@ in_hex ds = bytes "0x" ++ numeral_in 16 (in_base 8 (map digit_of ds))
 abbrev pub Makes : Fixer → List ℕ → List ℕ → Type 0
 Makes x text made =
     (buffer : List ℕ) → Bytes buffer → length text ≤ most_text → length made ≤ length buffer
-    → x text buffer ≡ record { answer = F.Fixed (length made); buffer = over made buffer }
+    → x text buffer ≡ record { answer = Ok (length made); buffer = over made buffer }
 
 -- a numeral alone in a string, and alone in a comment
 abbrev pub ChangesStrings : Fixer → Type 0

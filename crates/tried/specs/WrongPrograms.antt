@@ -1,13 +1,10 @@
 -- 01, "Try these against it": programs that the promises must leave no room for; and wrong printers (02 a and e), explainers (02 c),
 -- summaries and rechecks (02 f), ways with skips (02 g), passes over octal numerals (02 h), checkers of numbers that lose bits (02 j),
 -- translations of contracts (02 k), comparisons (02 l), counts (02 m), and tables in one call. Each is refuted at an input, named in the proof.
-use Rattle.std.specs.Prelude.{ℕ, ◌+◌, ◌*◌, ◌≤◌, ◌<◌, ◌≡◌, true, false, cond, List, [], ◌∷◌, ◌++◌, length}
+use Rattle.std.specs.Prelude.{ℕ, ◌+◌, ◌*◌, ◌≤◌, ◌<◌, ◌≡◌, true, false, cond, List, [], ◌∷◌, ◌++◌, length, Ok, Err}
+use Rattle.paper.specs.declared.Refusal.{Refusal}
+use Rattle.paper.specs.declared.Verdict.TheVariants.{Accepted}
 use Rattle.paper.specs.declared.Place.{Place}
-use Rattle.paper.specs.declared.Checking.TheVariants as C
-use Rattle.paper.specs.declared.Judgement.TheVariants as J
-use Rattle.paper.specs.declared.Translation.TheVariants as T
-use Rattle.paper.specs.declared.Loading.TheVariants as L
-use Rattle.paper.specs.declared.Printing.TheVariants as W
 use Rattle.paper.specs.Answers.{ok}
 use Rattle.paper.specs.Tokens.{bytes, is, most_text}
 use Rattle.paper.specs.Keys.{Key, keys}
@@ -46,7 +43,7 @@ RefusesAll p = (text list entry : List ℕ) → Bytes text → Bytes list → By
 
 -- "one that accepts everything"
 abbrev pub AcceptsAll : Programs → Type 0
-AcceptsAll p = (text list entry : List ℕ) → Bytes text → Bytes list → Bytes entry → p.judge text list entry ≡ J.Accepted
+AcceptsAll p = (text list entry : List ℕ) → Bytes text → Bytes list → Bytes entry → p.judge text list entry ≡ Ok Accepted
 
 -- "a translator that writes nothing"
 abbrev pub WritesNothing : Programs → Type 0
@@ -59,40 +56,40 @@ WritesNothing p =
 abbrev pub FirstPartOnly : Programs → Type 0
 FirstPartOnly p =
     (first rest list buffer : List ℕ) → Bytes first → Bytes rest → Bytes list → Bytes buffer
-    → part_of first ≡ first → p.check first list ≡ C.Passed → p.check rest list ≡ C.Passed
-    → (n : ℕ) → (p.translate (first ++ bytes ";" ++ rest) list buffer).answer ≡ T.Written n
+    → part_of first ≡ first → p.check first list ≡ Ok tt → p.check rest list ≡ Ok tt
+    → (n : ℕ) → (p.translate (first ++ bytes ";" ++ rest) list buffer).answer ≡ Ok n
     → (entry : List ℕ) → Bytes entry
     → judgement_of_run (p.run list (blocks_written n (p.translate (first ++ bytes ";" ++ rest) list buffer).buffer) entry)
     ≡ p.judge first list entry
 
 -- "a loader that passes nothing"
 abbrev pub PassesNothing : Programs → Type 0
-PassesNothing p = (list blocks : List ℕ) → Bytes list → Bytes blocks → (n : ℕ) × (at : Place) × (p.load list blocks ≡ L.Refused n at)
+PassesNothing p = (list blocks : List ℕ) → Bytes list → Bytes blocks → (v : Refusal) × (p.load list blocks ≡ Err v)
 
 -- "or all": all blocks that are laid out well, so that only 18 is left
 abbrev pub PassesAll : Programs → Type 0
 PassesAll p =
     (list blocks : List ℕ) → Bytes list → Bytes blocks → (ks : List Key) → keys list ≡ ok ks → layout (length ks) blocks ≡ ok tt
-    → (n : ℕ) × (p.load list blocks ≡ L.Loaded n)
+    → (n : ℕ) × (p.load list blocks ≡ Ok n)
 
 -- "an invented instruction count (it is the nodes of the tree plus the conversions, as defined)", and since 02 g the joins: there is none
 abbrev pub CountsRight : Programs → Type 0
 CountsRight p =
-    (text list buffer : List ℕ) → Bytes text → Bytes list → Bytes buffer → (n : ℕ) → (p.translate text list buffer).answer ≡ T.Written n
+    (text list buffer : List ℕ) → Bytes text → Bytes list → Bytes buffer → (n : ℕ) → (p.translate text list buffer).answer ≡ Ok n
     → (r : Restriction) → restriction text list ≡ ok r → n ≡ nodes r.root + conversions r.keys r.root + joins r.root
 
 -- a translator that asks for as many blocks as load, whatever the text
 abbrev pub WantsAllBlocks : Programs → Type 0
 WantsAllBlocks p =
     (text list buffer : List ℕ) → Bytes text → Bytes list → Bytes buffer → length buffer < most_blocks * block_size
-    → (n : ℕ) × (at : Place) × ((p.translate text list buffer).answer ≡ T.Refused n at)
+    → (v : Refusal) × ((p.translate text list buffer).answer ≡ Err v)
 
 -- a printer that lends other bytes than the print, made from the text and its tree
 abbrev pub Lends : (List ℕ → Tree → List ℕ) → Programs → Type 0
 Lends made p =
     (text buffer : List ℕ) → Bytes text → Bytes buffer → length text ≤ most_text → (t : Tree) → tree text ≡ ok t
     → length (made text t) ≤ most_text → length (made text t) ≤ length buffer
-    → p.print text buffer ≡ record { answer = W.Printed (length (made text t)); buffer = over (made text t) buffer }
+    → p.print text buffer ≡ record { answer = Ok (length (made text t)); buffer = over (made text t) buffer }
 
 -- those of WrongPrints
 

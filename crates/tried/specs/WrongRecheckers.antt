@@ -2,19 +2,18 @@
 -- compares what records read as in place of their bytes; a summary that counts ::priority as a key, or misses keys that are named by a field
 -- alone. Each is described so that a sloppy maker's is one, and fails what 02 f asks. As programs they stand in WrongPrograms, and there they
 -- are shown to be real.
-use Rattle.std.specs.Prelude.{ℕ, ◌<◌, ◌≡◌, Bool, true, false, ◌||◌, List, length}
+use Rattle.std.specs.Prelude.{ℕ, ◌<◌, ◌≡◌, Bool, true, false, ◌||◌, List, length, Result}
+use Rattle.paper.specs.declared.Refusal.{Refusal}
+use Rattle.paper.specs.declared.Summary.{Summary}
 use Rattle.std.proofs.Math.ListN.{get_elem?}
-use Rattle.paper.specs.declared.Judgement.{Judgement}
-use Rattle.paper.specs.declared.Summarizing.{Summarizing}
-use Rattle.paper.specs.declared.Summarizing.TheVariants as S
 use Rattle.paper.specs.declared.Rechecking.{Rechecking}
 use Rattle.paper.specs.declared.Rechecking.TheVariants as K
-use Rattle.paper.specs.Answers.{ok, judgement_says}
+use Rattle.paper.specs.Answers.{ok, judgement_says, Judgement}
 use Rattle.paper.specs.Keys.{Key, find, most_keys}
 use Rattle.paper.specs.Entry.{match_at, priority_of}
 use Rattle.paper.specs.Grammar.{Tree, truth, number, key, field, attribute, prefixed, joined, compared}
 use Rattle.paper.specs.Calls.{Restriction, restriction}
-use Rattle.paper.specs.Named.{is_it, names, marked, Summary, summarizing_says}
+use Rattle.paper.specs.Named.{is_it, names, marked, Summary, summarizing_says, summed}
 use Rattle.paper.specs.Rechecking.{rechecking_says}
 use Rattle.paper.specs.RecheckedRight.{bit_at, Summarizes, BothConform, Rechecks}
 use Rattle.paper.specs.Promised.{Bytes}
@@ -67,7 +66,7 @@ ComparesReadings x =
 
 -- what is answered for a text and a list
 abbrev pub Summarizer : Type 0
-Summarizer = List ℕ → List ℕ → Summarizing
+Summarizer = List ℕ → List ℕ → Result Summary Refusal
 
 -- what 02 asks of it, where they pass
 abbrev pub SummarizesRight : Summarizer → Type 0
@@ -76,8 +75,8 @@ SummarizesRight x =
     → (s : Summary) × (summarizing_says (x text list) ≡ ok s) × Summarizes r.keys r.root s
 
 -- a set with this bit, or without it
-abbrev pub HasBit : Summarizing → ℕ → Bool → Type 0
-HasBit r k b = (keys : ℕ) × (priority : Bool) × (r ≡ S.Summary keys priority) × (bit_at keys k ≡ b)
+abbrev pub HasBit : Result Summary Refusal → ℕ → Bool → Type 0
+HasBit r k b = (keys : ℕ) × (priority : Bool) × (r ≡ summed keys priority) × (bit_at keys k ≡ b)
 
 -- ::priority as one key more, after those of the list
 abbrev pub CountsPriority : Summarizer → Type 0

@@ -1,11 +1,10 @@
 -- Wrong ways with skips: a run that reports the instructions of the code as its steps; a run whose skip passes over but leaves the old bool; a
 -- load check that compares a landing with the skip's height only. Each is described so that a sloppy maker's is one, and fails what 02 g asks.
 -- As programs they stand in WrongPrograms, and there they are shown to be real.
-use Rattle.std.specs.Prelude.{ℕ, zero, suc, ◌+◌, ◌≡◌, Bool, true, cond, List, [], ◌∷◌, map, length, take, eqb}
+use Rattle.std.specs.Prelude.{ℕ, zero, suc, ◌+◌, ◌≡◌, Bool, true, cond, List, [], ◌∷◌, map, length, take, eqb, Result, Ok}
+use Rattle.paper.specs.declared.Refusal.{Refusal}
+use Rattle.paper.specs.declared.Ended.{Ended}
 use Rattle.std.proofs.Math.Option.{Option, none, some}
-use Rattle.paper.specs.declared.Loading.{Loading}
-use Rattle.paper.specs.declared.Loading.TheVariants as L
-use Rattle.paper.specs.declared.Running.{Running}
 use Rattle.paper.specs.Answers.{ok}
 use Rattle.paper.specs.Keys.{Key, keys}
 use Rattle.paper.specs.Entry.{Entry}
@@ -19,7 +18,7 @@ use Rattle.paper.specs.Demands.{Runnable, RanRight}
 
 -- what is answered for a list, blocks and an entry
 abbrev pub Runner : Type 0
-Runner = List ℕ → List ℕ → List ℕ → Running
+Runner = List ℕ → List ℕ → List ℕ → Result Ended Refusal
 
 -- what demand 2 asks of it
 abbrev pub RunsRight : Runner → Type 0
@@ -44,7 +43,7 @@ keeping_from ks e (x ∷ xs) zero i held =
     (keeping_from ks e xs (passed (skip_of x) held) (i + 1))
 keeping_from ks e (x ∷ xs) (suc n) i held = keeping_from ks e xs n (i + 1) held
 
-abbrev pub keeping_answer : List Key → Entry → List ℕ → Running
+abbrev pub keeping_answer : List Key → Entry → List ℕ → Result Ended Refusal
 keeping_answer ks e blocks =
     let r = keeping_from ks e (program blocks) 0 0 [] in
     verdict_in (left_true r) (steps_taken r)
@@ -73,7 +72,7 @@ heights_from ks i (x ∷ xs) held =
 
 -- what is answered for a list and blocks
 abbrev pub Loader : Type 0
-Loader = List ℕ → List ℕ → Loading
+Loader = List ℕ → List ℕ → Result ℕ Refusal
 
 abbrev pub LoadsRight : Loader → Type 0
 LoadsRight x = (list blocks : List ℕ) → Bytes list → Bytes blocks → LoadPromised list blocks (x list blocks)
@@ -82,7 +81,7 @@ LoadsRight x = (list blocks : List ℕ) → Bytes list → Bytes blocks → Load
 abbrev pub ComparesHeights : Loader → Type 0
 ComparesHeights x =
     (list blocks : List ℕ) → Bytes list → Bytes blocks → (ks : List Key) → keys list ≡ ok ks → layout (length ks) blocks ≡ ok tt
-    → load_check (length blocks) (heights_from ks 0 (program blocks) []) ≡ ok tt → (n : ℕ) × (x list blocks ≡ L.Loaded n)
+    → load_check (length blocks) (heights_from ks 0 (program blocks) []) ≡ ok tt → (n : ℕ) × (x list blocks ≡ Ok n)
 
 -- the claim
 

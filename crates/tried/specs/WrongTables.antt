@@ -2,13 +2,12 @@
 -- refused entry told as violated; with the steps of the last entry alone; and with a cut entry taken for a whole one. Each is described so that a
 -- sloppy maker's is one, and fails what is asked of a table. As programs they stand in WrongPrograms, and there they are shown to be real.
 use Rattle.std.specs.Prelude.{ℕ, suc, ◌-◌, ◌≤◌, ◌<◌, ◌≡◌, cond, List, [], ◌∷◌, ◌++◌, map, length, replicate, eqb}
-use Rattle.paper.specs.declared.RunningAll.TheVariants as U
 use Rattle.paper.specs.Answers.{ok}
 use Rattle.paper.specs.Keys.{Key, keys}
 use Rattle.paper.specs.Loading.{loaded}
 use Rattle.paper.specs.Calls.{over}
 use Rattle.paper.specs.Counting.{whole_in, cut_in, entries_in}
-use Rattle.paper.specs.RunAll.{ran_on, verdict_byte, steps_on, running_all_says}
+use Rattle.paper.specs.RunAll.{ran_on, verdict_byte, steps_on, running_all_says, ran_over}
 use Rattle.paper.specs.Promised.{Bytes, RunAllResult}
 use Rattle.paper.specs.Demands.{AllRunnable, RunAllRight}
 
@@ -102,7 +101,7 @@ TakesCut x =
     (list blocks entries answers : List ℕ) → Bytes list → Bytes blocks → Bytes entries → Bytes answers
     → (ks : List Key) → keys list ≡ ok ks → (count : ℕ) → loaded ks blocks ≡ ok count
     → 0 < cut_in ks entries → suc (whole_in ks entries) ≤ length answers
-    → (steps : ℕ) × ((x list blocks entries answers).answer ≡ U.Ran (suc (whole_in ks entries)) steps)
+    → (steps : ℕ) × ((x list blocks entries answers).answer ≡ ran_over (suc (whole_in ks entries)) steps)
 
 -- the claim
 

@@ -123,7 +123,7 @@ verdict_in b = ended (verdict_for b)
 -- a run, its steps aside
 abbrev pub judgement_of_run : Result Ended Refusal → Judgement
 judgement_of_run (Ok e) = Ok e.verdict
-judgement_of_run (Err v) = refusal v.number v.place
+judgement_of_run (Err v) = Err v
 
 -- one result satisfies it, and no second
 pub record Sole {R : Type 0} (Promised : R → Type 0) : Type 0 where

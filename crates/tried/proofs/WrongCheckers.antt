@@ -5,7 +5,7 @@ use Rattle.std.specs.Prelude.{Ok}
 use native.Mathlib.Omega.{arith}
 use mathlib.Core.Path.{◌≡◌, refl, sym, ap, ◌∙◌}
 use mathlib.Core.List.{List}
-use Rattle.paper.specs.Answers.{Answer, ok, refused, ◌>>=◌, in_text, says}
+use Rattle.paper.specs.Answers.{Answer, ok, refused, ◌>>=◌, in_text, says as said}
 use Rattle.paper.specs.Tokens.{bytes}
 use Rattle.paper.specs.Calls.{check_answer}
 use Rattle.tried.specs.MarkedJudgements.{the_keys}
@@ -37,7 +37,7 @@ module _ (rule : ComparisonRule) (x : Checker) (types : TypesBy rule x) (good : 
 
   right_passes : right text ≡ ok tt → says rule text ≡ ok tt
   right_passes e =
-      sym (types text the_keys t keys_bytes) ∙ ap says ((good text the_keys t keys_bytes).1 (answer_checkable text the_keys e))
+      sym (types text the_keys t keys_bytes) ∙ ap said ((good text the_keys t keys_bytes).1 (answer_checkable text the_keys e))
 
 -- the three texts
 

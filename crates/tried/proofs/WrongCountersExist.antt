@@ -1,7 +1,7 @@
 -- The wrong counts are real: each says what another does, but for the numbers of the parts, which go by a rule of its own, or for the refused
 -- entries, of which a cut one is one more.
 use Prim.Native.Nat.{ℕ, zero, suc, ◌<◌}
-use Rattle.std.specs.Prelude.{Result, Err}
+use Rattle.std.specs.Prelude.{Result, Err, Ok}
 use Rattle.paper.specs.declared.Refusal.{Refusal}
 use Rattle.paper.specs.declared.Counted.{Counted}
 use native.Mathlib.Omega.{arith}
@@ -46,15 +46,16 @@ with_cut zero n = n
 with_cut (suc cut) n = suc n
 
 abbrev one_more : Result Counted Refusal → Result Counted Refusal
-one_more (C.Counted n a v r c) = C.Counted n a v (with_cut c r) c
-one_more (Err v) = refusal v.number v.place
+one_more (Ok t) =
+    Ok (record { parts = t.parts; accepted = t.accepted; violated = t.violated; refused = with_cut t.cut t.refused; cut = t.cut })
+one_more (Err v) = Err v
 
 abbrev cut_added : Totals → Totals
 cut_added t =
     record { parts = t.parts; accepted = t.accepted; violated = t.violated; refused = with_cut t.cut t.refused; cut = t.cut }
 
 says_more : (a : Result Counted Refusal) → counting_says (one_more a) ≡ (counting_says a >>= λ t. ok (cut_added t))
-says_more (C.Counted n a v r c) = refl
+says_more (Ok t) = refl
 says_more (Err v) = refl
 
 is_more : (c : Counts) → 0 < c.cut → cut_added (totals_of c) ≡ one_more_refused c

@@ -14,7 +14,7 @@ use mathlib.Core.List.{List, [], ◌∷◌}
 use lib.ListN.{length, take, replicate, length-replicate}
 use lib.Dec.{leb, lit<}
 use borrow.Author.Tests.{leb-true}
-use Rattle.paper.specs.Answers.{ok, refused, in_blocks, judgement_says, says}
+use Rattle.paper.specs.Answers.{ok, refused, in_blocks, judgement_says, says, Judgement}
 use Rattle.paper.specs.Named.{Summary, summarizing_says}
 use Rattle.paper.specs.Numbers.{byte_at}
 use Rattle.paper.specs.Tokens.{bytes, most_text}
@@ -75,7 +75,7 @@ by_demand_two p two text list entry bt bl be b e = go b e
     go true e = ((two.judges text list entry bt bl be).accepts (answer_judgeable text list entry true e)).1 (worth true e)
     go false e = ((two.judges text list entry bt bl be).violates (answer_judgeable text list entry false e)).1 (worth false e)
 
-not_both : (Ok Accepted) ≡ Ok Violated → ⊥
+not_both : ◌≡◌ {A = Judgement} (Ok Accepted) (Ok Violated) → ⊥
 not_both e = true≢false (ok_same true false (ap judgement_says e))
 
 entry_bytes : Bytes the_entry
@@ -168,7 +168,7 @@ barring_fails p checks three None-passes =
     let (n, written) = written_there p checks three (bytes "true") [] t tt plain_passes in
     let there = three.carries (bytes "true") [] zeros t tt zeros_bytes n written in
     let exit = (p.translate (bytes "true") [] zeros).buffer in
-    let (m, at, e) =
+    let (v, e) =
     None-passes [] (take (block_size * blocks_needed n) exit) tt (take_bytes (block_size * blocks_needed n) exit (three.bytes (bytes "true") [] zeros t tt zeros_bytes))
     in
     never_ok (ap says (sym e ∙ there.loads))
@@ -247,9 +247,9 @@ wanting_fails : (p : Programs) → DemandOne p → ¬ WantsAllBlocks p
 wanting_fails p one wants =
     let t : Bytes (bytes "true") = all_bytes_lem (bytes "true") refl in
     let b : Bytes little = zero_bytes 512 in
-    let (n, at, e) = wants (bytes "true") [] little t tt b (lit< tt) in
+    let (v, e) = wants (bytes "true") [] little t tt b (lit< tt) in
     let clear = (table_holds.translate (bytes "true") [] little).passes.0 (1, plain_written) in
-    let (v, said) = (one.translate (bytes "true") [] little t tt b).says.table.passes.1 clear in
+    let (n, said) = (one.translate (bytes "true") [] little t tt b).says.table.passes.1 clear in
     never_ok (sym (ap says e) ∙ said)
 
 -- the count

@@ -1,5 +1,6 @@
 -- The wrong programs are real: each is made from programs that keep all promises, with another in the place of one call.
 use Prim.Native.Nat.{ℕ, suc, ◌+◌, ◌*◌}
+use Rattle.paper.specs.declared.Verdict.{Verdict}
 use Rattle.std.specs.Prelude.{Result, Ok, Err}
 use Rattle.paper.specs.declared.Refusal.{Refusal}
 use Rattle.paper.specs.declared.Ended.{Ended}
@@ -24,7 +25,7 @@ use Rattle.paper.specs.Grammar.{Tree, nodes}
 use Rattle.paper.specs.Translating.{conversions, joins}
 use Rattle.paper.specs.Calls.{sized, tree, Restriction, restriction, over, lends}
 use Rattle.paper.specs.Explained.{Reason, key_index, explanation_says}
-use Rattle.paper.specs.Promised.{verdict_in, judgement_of_run, TranslateResult, PrintResult, Bytes, Programs, Kept}
+use Rattle.paper.specs.Promised.{verdict_in, judgement_of_run, TranslateResult, PrintResult, Bytes, Programs, Kept, verdict_for}
 use Rattle.paper.specs.Demands.{blocks_written}
 use Rattle.tried.specs.WrongPrints.{without_parentheses, with_all_parentheses, with_and_for_sequel, in_decimal, addresses_in_hex}
 use Rattle.tried.specs.WrongExplainers.{Explainer, Names}
@@ -363,13 +364,13 @@ module _ (q : Programs) (kept : Kept q) where
 
   greedy_wants : WantsAllBlocks (translators greedy)
   unfolding translators greedy
-  greedy_wants text list buffer t l b few = (15, P.Buffer (length buffer), rw (lt-ltb (length buffer) (most_blocks * block_size) few))
+  greedy_wants text list buffer t l b few = (record { number = 15; place = P.Buffer (length buffer) }, rw (lt-ltb (length buffer) (most_blocks * block_size) few))
 
   -- the one that counts an instruction more
 
   abbrev one_more : Result ℕ Refusal → Result ℕ Refusal
   one_more (Ok n) = Ok (suc n)
-  one_more (Err v) = refusal v.number v.place
+  one_more (Err v) = Err v
 
   inventor : List ℕ → List ℕ → List ℕ → TranslateResult
   inventor text list buffer =
@@ -410,9 +411,12 @@ module _ (q : Programs) (kept : Kept q) where
   -- the one that reports the instructions of the code
 
   abbrev in_steps : ℕ → Result Ended Refusal → Result Ended Refusal
-  in_steps n (ended Accepted m) = ended Accepted n
-  in_steps n (ended Violated m) = ended Violated n
-  in_steps n (Err v) = refusal v.number v.place
+  in_steps n (Ok e) = ended e.verdict n
+  in_steps n (Err v) = Err v
+
+  bool_for : (v : Verdict) → (b : Bool) × (v ≡ verdict_for b)
+  bool_for Accepted = (true, refl)
+  bool_for Violated = (false, refl)
 
   counter : Runner
   counter list blocks entry = in_steps (total_of blocks) (q.run list blocks entry)
@@ -422,13 +426,14 @@ module _ (q : Programs) (kept : Kept q) where
   counter_reports list blocks entry l s e j = go (q.run list blocks entry) refl
     where
       go : (r : Result Ended Refusal) → q.run list blocks entry ≡ r → (b : Bool) × (in_steps (total_of blocks) r ≡ verdict_in b j.count)
-      go (ended Accepted m) h = (true, ap ended Accepted (sym (load_counts j.ks blocks j.count j.loads)))
-      go (ended Violated m) h = (false, ap ended Violated (sym (load_counts j.ks blocks j.count j.loads)))
-      go (Err v) h = absurd ((ran_right list blocks entry _ (kept.run list blocks entry l s e)).refuses.0 (v.number, v.place, h) j)
+      go (Ok e) h =
+          let (b, same) = bool_for e.verdict in
+          (b, ap (λ (v : Verdict). ended v (total_of blocks)) same ∙ ap (ended (verdict_for b)) (sym (load_counts j.ks blocks j.count j.loads)))
+      go (Err v) h = absurd ((ran_right list blocks entry _ (kept.run list blocks entry l s e)).refuses.0 (v, h) j)
 
 -- the one whose skips leave the old bool, by the stages of `run`
 
-abbrev ran_for : Answer Result Ended Refusal → Result Ended Refusal
+abbrev ran_for : Answer (Result Ended Refusal) → Result Ended Refusal
 ran_for (ok r) = r
 ran_for (refused n i at) = refusal n (place_at i at)
 
@@ -480,13 +485,13 @@ wrong_programs_exist =
     record {
       refusing = (
         judges q kept refuses,
-        λ text list entry _ _ _. (20, P.Entry 0, refl),
+        λ text list entry _ _ _. (record { number = 20; place = P.Entry 0 }, refl),
         others_than_judge q kept refuses,
       );
       accepting = (judges q kept accepts, λ text list entry _ _ _. refl, others_than_judge q kept accepts);
       idle = (translators q kept idles, λ text list buffer _ _ _. refl, others_than_translate q kept idles);
       cutting = (translators q kept (cutter q kept), cutter_cuts q kept, others_than_translate q kept (cutter q kept));
-      barring = (loaders q kept bars, λ list blocks _ _. (18, P.Blocks 0, refl), others_than_load q kept bars);
+      barring = (loaders q kept bars, λ list blocks _ _. (record { number = 18; place = P.Blocks 0 }, refl), others_than_load q kept bars);
       admitting = (loaders q kept admits, λ list blocks _ _ _ _ _. (total_of blocks, refl), others_than_load q kept admits);
       wanting = (translators q kept (greedy q kept), greedy_wants q kept, others_than_translate q kept (greedy q kept));
       counting = (translators q kept (inventor q kept), inventor_invents q kept, others_than_translate q kept (inventor q kept));

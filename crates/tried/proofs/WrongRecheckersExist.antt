@@ -2,7 +2,7 @@
 use Prim.Native.Nat.{ℕ, zero, suc, ◌<◌}
 use Rattle.std.specs.Prelude.{Result}
 use Rattle.paper.specs.declared.Refusal.{Refusal}
-use Rattle.paper.specs.declared.Summary.{Summary}
+use Rattle.paper.specs.declared.Summary as C
 use mathlib.Core.Path.{◌≡◌, refl, sym, ap, ◌∙◌}
 use mathlib.Core.Bool.{Bool, true, false, not, cond, ◌&&◌, ◌||◌, and-eq-true_iff, or-true}
 use mathlib.Core.Option.{Option, none, some}
@@ -146,7 +146,7 @@ readings_real = (
 
 -- a summary with any other keys in the set
 
-abbrev summary_for : Answer Summary → Result Summary Refusal
+abbrev summary_for : Answer Summary → Result C.Summary Refusal
 summary_for (ok s) = summed s.keys s.priority
 summary_for (refused n i at) = refusal n (place_at i at)
 

@@ -135,7 +135,7 @@ cut_fails x takes all =
     let be = all_bytes_lem short refl in
     let ba = all_bytes_lem answers refl in
     let (steps, said) = takes [] yes_block short answers tt lent be ba [] no_keys 1 loads (lit< tt) (lit≤ tt) in
-    let (n, at, refuses) = (all [] yes_block short answers tt lent be ba).refuses.1 cannot in
+    let (v, refuses) = (all [] yes_block short answers tt lent be ba).refuses.1 cannot in
     never_ok (ap running_all_says (sym refuses ∙ said))
   where
     cannot : ¬ AllRunnable [] yes_block short (9 ∷ [])

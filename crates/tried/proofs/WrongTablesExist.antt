@@ -1,7 +1,7 @@
 -- The wrong tables are real: each says what another does, but for the answers, which go by a rule of its own, or for the steps; and one that pads a cut
 -- entry with zeros says what another says of the longer table.
 use Prim.Native.Nat.{ℕ, zero, suc, ◌+◌, ◌*◌, ◌-◌, ◌/◌, ◌%◌, ◌<◌}
-use Rattle.std.specs.Prelude.{Result, Err}
+use Rattle.std.specs.Prelude.{Result, Err, Ok}
 use Rattle.paper.specs.declared.Refusal.{Refusal}
 use Rattle.paper.specs.declared.RanAll.{RanAll}
 use native.Mathlib.Nat.{suc-mul, mod-lt, div-add-mod', mul-add-div_right, mul-add-mod_self_right, zero-div, zero-mod}
@@ -42,14 +42,14 @@ module _ (rule : Rule) (right : TableRunner) where
 -- with the steps of the last
 
 abbrev in_steps : ℕ → Result RanAll Refusal → Result RanAll Refusal
-in_steps n (ran_over m s) = ran_over m n
-in_steps n (Err v) = refusal v.number v.place
+in_steps n (Ok a) = ran_over a.entries n
+in_steps n (Err v) = Err v
 
 abbrev stepped : ℕ → AllRan → AllRan
 stepped n a = record { entries = a.entries; steps = n }
 
 says_stepped : (n : ℕ) (a : Result RanAll Refusal) → running_all_says (in_steps n a) ≡ (running_all_says a >>= λ r. ok (stepped n r))
-says_stepped n (ran_over m s) = refl
+says_stepped n (Ok a) = refl
 says_stepped n (Err v) = refl
 
 module _ (right : TableRunner) (all : RunsTablesRight right) where

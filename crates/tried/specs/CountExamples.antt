@@ -1,6 +1,6 @@
 -- 02 m by example: its own, line by line; files that are empty, cut, or of entries without keys; parts that are false together; refused entries; and
 -- what is refused before anything is counted.
-use Rattle.std.specs.Prelude.{ℕ, ◌*◌, ◌≡◌, List, [], ◌∷◌, ◌++◌, take}
+use Rattle.std.specs.Prelude.{ℕ, ◌*◌, ◌≡◌, List, [], ◌∷◌, ◌++◌, take, Ok}
 use Prim.Native.String as S
 use Rattle.paper.specs.declared.Place.TheVariants as P
 use Rattle.paper.specs.Answers.{ok, refused, in_text, in_list, in_entry, refusal}
@@ -96,7 +96,7 @@ pub record Apart : Type 0 where
   pub lines : count_output (bytes "true; false; true") the_keys mixed_file
       ≡ as_lines ("part 1 0" ∷ "part 2 1" ∷ "part 3 0" ∷ "accepted 0" ∷ "violated 1" ∷ "refused 2" ∷ "cut 4" ∷ [])
   -- and of the answer of the call
-  pub told : counting_says (C.Counted 3 0 1 2 4) ≡ ok mixed_totals
+  pub told : counting_says (Ok (record { parts = 3; accepted = 0; violated = 1; refused = 2; cut = 4 })) ≡ ok mixed_totals
   pub refusal_told : counting_says (refusal 25 (P.Entry 4000000)) ≡ refused 25 in_entry 4000000
 
 -- the list and the text first, then 25; nothing else is written, and no number that is lent is changed

@@ -241,7 +241,7 @@ buffers =
     ∷ []
 
 -- the cases of the public answer
-abbrev pub told : List (Example Result ℕ Refusal (Answer ℕ))
+abbrev pub told : List (Example (Result ℕ Refusal) (Answer ℕ))
 told = on (Ok 5) (ok 5) ∷ on (refusal 21 (P.Buffer 4)) (refused 21 in_buffer 4) ∷ []
 
 pub record PrintExamples : Type 0 where

@@ -4,7 +4,7 @@
 -- are shown to be real.
 use Rattle.std.specs.Prelude.{ℕ, ◌<◌, ◌≡◌, Bool, true, false, ◌||◌, List, length, Result}
 use Rattle.paper.specs.declared.Refusal.{Refusal}
-use Rattle.paper.specs.declared.Summary.{Summary}
+use Rattle.paper.specs.declared.Summary as C
 use Rattle.std.proofs.Math.ListN.{get_elem?}
 use Rattle.paper.specs.declared.Rechecking.{Rechecking}
 use Rattle.paper.specs.declared.Rechecking.TheVariants as K
@@ -66,7 +66,7 @@ ComparesReadings x =
 
 -- what is answered for a text and a list
 abbrev pub Summarizer : Type 0
-Summarizer = List ℕ → List ℕ → Result Summary Refusal
+Summarizer = List ℕ → List ℕ → Result C.Summary Refusal
 
 -- what 02 asks of it, where they pass
 abbrev pub SummarizesRight : Summarizer → Type 0
@@ -75,7 +75,7 @@ SummarizesRight x =
     → (s : Summary) × (summarizing_says (x text list) ≡ ok s) × Summarizes r.keys r.root s
 
 -- a set with this bit, or without it
-abbrev pub HasBit : Result Summary Refusal → ℕ → Bool → Type 0
+abbrev pub HasBit : Result C.Summary Refusal → ℕ → Bool → Type 0
 HasBit r k b = (keys : ℕ) × (priority : Bool) × (r ≡ summed keys priority) × (bit_at keys k ≡ b)
 
 -- ::priority as one key more, after those of the list

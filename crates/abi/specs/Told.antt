@@ -13,23 +13,22 @@
 --
 -- A table that ran as five: four of which the count is that of its entries, and the steps of all of them; a refused one has none. The byte of each
 -- entry stands in the answers that are lent.
-use Rattle.std.specs.Prelude.{ℕ, ◌+◌, ◌-◌, ◌≤◌, ◌≡◌, ◌≢◌, Bool, true, false, cond, eqb, List}
+use Rattle.std.specs.Prelude.{ℕ, ◌+◌, ◌-◌, ◌≤◌, ◌≡◌, ◌≢◌, Bool, true, false, cond, eqb, List, Ok, Err}
+use Rattle.paper.specs.declared.Verdict.TheVariants.{Accepted, Violated}
 use Rattle.std.specs.Int.Count.{ones}
-use Rattle.paper.specs.Answers.{Answer, ok, refused, Input, in_text, in_list, in_entry, in_blocks, in_buffer, in_contract, in_table, Ran, reading_says, checking_says, judgement_says, translation_says, loading_says, running_says, printing_says}
+use Rattle.paper.specs.Answers.{Answer, ok, refused, Input, in_text, in_list, in_entry, in_blocks, in_buffer, in_contract, in_table, Ran, says, judgement_says, running_says, Judgement}
 use Rattle.paper.specs.Code.{bit}
 use Rattle.paper.specs.Explained.{Reason, in_part, at_key, nothing_to_show, key_index, stretch_from, explanation_says}
 use Rattle.paper.specs.ExplainedRight.{judgement_of}
 use Rattle.paper.specs.Named.{Summary, summarizing_says}
 use Rattle.paper.specs.Rechecking.{Rechecked, reused, rechecking_says}
 use Rattle.paper.specs.Rechecking as Rechecking
-use Rattle.paper.specs.Fixing.{fixing_says}
-use Rattle.paper.specs.Drafting.{drafting_says}
+use Rattle.paper.specs.Fixing.{says}
+use Rattle.paper.specs.Drafting.{says}
 use Rattle.paper.specs.Comparing.{agreement_says}
 use Rattle.paper.specs.Counting.{Totals, counting_says}
 use Rattle.paper.specs.RunAll.{AllRan, running_all_says}
 use Rattle.paper.specs.Promised.{ReadPromised, CheckPromised, JudgePromised, TranslateResult, TranslatePromised, LoadPromised, RunPromised, RunAllPromised, PrintPromised, FixPromised, DraftPromised, ComparePromised, CountPromised, ExplainPromised, SummarizePromised, RecheckPromised, Sole}
-use Rattle.paper.specs.declared.Judgement.{Judgement}
-use Rattle.paper.specs.declared.Judgement.TheVariants as J
 use Rattle.paper.specs.declared.Explanation.{Explanation}
 use Rattle.abi.specs.declared.answer.PolluxAnswer.{PolluxAnswer}
 use Rattle.abi.specs.declared.reason.PolluxReason.{PolluxReason}
@@ -166,10 +165,10 @@ pub record Tells {R N : Type 0} (Promised : R → Type 0) (numbers : R → N) (a
   pub same : a ≡ numbers result
 
 abbrev pub ReadTold : List ℕ → PolluxAnswer → Type 0
-ReadTold text = Tells (ReadPromised text) (λ r. counted (reading_says r))
+ReadTold text = Tells (ReadPromised text) (λ r. counted (says r))
 
 abbrev pub CheckTold : List ℕ → List ℕ → PolluxAnswer → Type 0
-CheckTold text list = Tells (CheckPromised text list) (λ r. passed (checking_says r))
+CheckTold text list = Tells (CheckPromised text list) (λ r. passed (says r))
 
 abbrev pub JudgeTold : List ℕ → List ℕ → List ℕ → PolluxAnswer → Type 0
 JudgeTold text list entry = Tells (JudgePromised text list entry) (λ r. judged (judgement_says r))
@@ -177,10 +176,10 @@ JudgeTold text list entry = Tells (JudgePromised text list entry) (λ r. judged 
 -- with what the buffer holds at exit
 abbrev pub TranslateTold : List ℕ → List ℕ → List ℕ → List ℕ → PolluxAnswer → Type 0
 TranslateTold text list buffer exit =
-    Tells (λ r. TranslatePromised text list buffer (record { answer = r; buffer = exit })) (λ r. counted (translation_says r))
+    Tells (λ r. TranslatePromised text list buffer (record { answer = r; buffer = exit })) (λ r. counted (says r))
 
 abbrev pub LoadTold : List ℕ → List ℕ → PolluxAnswer → Type 0
-LoadTold list blocks = Tells (LoadPromised list blocks) (λ r. counted (loading_says r))
+LoadTold list blocks = Tells (LoadPromised list blocks) (λ r. counted (says r))
 
 abbrev pub RunTold : List ℕ → List ℕ → List ℕ → PolluxAnswer → Type 0
 RunTold list blocks entry = Tells (RunPromised list blocks entry) (λ r. ran (running_says r))
@@ -192,16 +191,16 @@ RunAllTold list blocks entries answers exit =
 
 -- with what the buffer holds at exit
 abbrev pub PrintTold : List ℕ → List ℕ → List ℕ → PolluxAnswer → Type 0
-PrintTold text buffer exit = Tells (λ r. PrintPromised text buffer (record { answer = r; buffer = exit })) (λ r. counted (printing_says r))
+PrintTold text buffer exit = Tells (λ r. PrintPromised text buffer (record { answer = r; buffer = exit })) (λ r. counted (says r))
 
 -- with what the buffer holds at exit
 abbrev pub FixTold : List ℕ → List ℕ → List ℕ → PolluxAnswer → Type 0
-FixTold text buffer exit = Tells (λ r. FixPromised text buffer (record { answer = r; buffer = exit })) (λ r. counted (fixing_says r))
+FixTold text buffer exit = Tells (λ r. FixPromised text buffer (record { answer = r; buffer = exit })) (λ r. counted (says r))
 
 -- with what the buffer holds at exit
 abbrev pub DraftTold : List ℕ → List ℕ → List ℕ → List ℕ → List ℕ → PolluxAnswer → Type 0
 DraftTold contract table list buffer exit =
-    Tells (λ r. DraftPromised contract table list buffer (record { answer = r; buffer = exit })) (λ r. counted (drafting_says r))
+    Tells (λ r. DraftPromised contract table list buffer (record { answer = r; buffer = exit })) (λ r. counted (says r))
 
 abbrev pub CompareTold : List ℕ → List ℕ → List ℕ → PolluxAnswer → Type 0
 CompareTold text list blocks = Tells (ComparePromised text list blocks) (λ r. compared (agreement_says r))
@@ -301,9 +300,9 @@ heard_table p =
 
 -- a refusal's number is a byte, in the code and so in what it tells
 abbrev pub Numbered : Judgement → Type 0
-Numbered J.Accepted = Unit {0}
-Numbered J.Violated = Unit {0}
-Numbered (J.Refused n p) = n ≤ 255
+Numbered (Ok Accepted) = Unit {0}
+Numbered (Ok Violated) = Unit {0}
+Numbered (Err v) = v.number ≤ 255
 
 pub record TellsAll : Type 0 where
   pub counts : (x : Answer ℕ) → heard (λ p. p.value) (counted x) ≡ x

@@ -1,15 +1,10 @@
 // An answer as four numbers.
 ghost use Rattle.std.specs.Prelude.{◌≡◌};
-ghost use Rattle.paper.specs.Answers.{input_of, offset_of, reading_says, checking_says, judgement_says, translation_says, loading_says, running_says, printing_says};
-ghost use Rattle.paper.specs.Fixing.{fixing_says};
-ghost use Rattle.paper.specs.Drafting.{drafting_says};
+ghost use Rattle.paper.specs.Answers.{input_of, offset_of, says, judgement_says, running_says};
 ghost use Rattle.paper.specs.Comparing.{agreement_says};
 ghost use Rattle.abi.specs.Told.{turned_away, counted, passed, judged, ran, compared};
 
-use paper::{
-    Agreement, Checking, Drafting, Fixing, Judgement, Loading, Place, Printing, Reading, Running,
-    Translation,
-};
+use paper::{Agreement, Ended, Judgement, Place, Refusal, Verdict};
 
 #[repr(C)]
 #[derive(Clone, Copy)]
@@ -56,21 +51,21 @@ fn refusal(number: u8, place: Place) -> PolluxAnswer
     }
 }
 
-pub(crate) fn of_reading(r: Reading) -> PolluxAnswer
-    ensures { result ≡ counted (reading_says r) }
+pub(crate) fn of_reading(r: Result<usize, Refusal>) -> PolluxAnswer
+    ensures { result ≡ counted (says r) }
 {
     match r {
-        Reading::Read(n) => answer(3, n),
-        Reading::Refused(number, place) => refusal(number, place),
+        Ok(n) => answer(3, n),
+        Err(refusal) => refusal(number, place),
     }
 }
 
-pub(crate) fn of_checking(r: Checking) -> PolluxAnswer
-    ensures { result ≡ passed (checking_says r) }
+pub(crate) fn of_checking(r: Result<(), Refusal>) -> PolluxAnswer
+    ensures { result ≡ passed (says r) }
 {
     match r {
-        Checking::Passed => answer(3, 0),
-        Checking::Refused(number, place) => refusal(number, place),
+        Ok(()) => answer(3, 0),
+        Err(refusal) => refusal(number, place),
     }
 }
 
@@ -78,73 +73,79 @@ pub(crate) fn of_judgement(r: Judgement) -> PolluxAnswer
     ensures { result ≡ judged (judgement_says r) }
 {
     match r {
-        Judgement::Accepted => answer(1, 0),
-        Judgement::Violated => answer(2, 0),
-        Judgement::Refused(number, place) => refusal(number, place),
+        Ok(Verdict::Accepted) => answer(1, 0),
+        Ok(Verdict::Violated) => answer(2, 0),
+        Err(refusal) => refusal(number, place),
     }
 }
 
-pub(crate) fn of_translation(r: Translation) -> PolluxAnswer
-    ensures { result ≡ counted (translation_says r) }
+pub(crate) fn of_translation(r: Result<usize, Refusal>) -> PolluxAnswer
+    ensures { result ≡ counted (says r) }
 {
     match r {
-        Translation::Written(n) => answer(3, n),
-        Translation::Refused(number, place) => refusal(number, place),
+        Ok(n) => answer(3, n),
+        Err(refusal) => refusal(number, place),
     }
 }
 
-pub(crate) fn of_loading(r: Loading) -> PolluxAnswer
-    ensures { result ≡ counted (loading_says r) }
+pub(crate) fn of_loading(r: Result<usize, Refusal>) -> PolluxAnswer
+    ensures { result ≡ counted (says r) }
 {
     match r {
-        Loading::Loaded(n) => answer(3, n),
-        Loading::Refused(number, place) => refusal(number, place),
+        Ok(n) => answer(3, n),
+        Err(refusal) => refusal(number, place),
     }
 }
 
-pub(crate) fn of_running(r: Running) -> PolluxAnswer
+pub(crate) fn of_running(r: Result<Ended, Refusal>) -> PolluxAnswer
     ensures { result ≡ ran (running_says r) }
 {
     match r {
-        Running::Accepted(steps) => answer(1, steps),
-        Running::Violated(steps) => answer(2, steps),
-        Running::Refused(number, place) => refusal(number, place),
+        Ok(Ended {
+verdict: Verdict::Accepted,
+steps: steps,
+}) => answer(1, steps),
+        Ok(Ended {
+verdict: Verdict::Violated,
+steps: steps,
+}) => answer(2, steps),
+        Err(refusal) => refusal(number, place),
     }
 }
 
-pub(crate) fn of_printing(r: Printing) -> PolluxAnswer
-    ensures { result ≡ counted (printing_says r) }
+pub(crate) fn of_printing(r: Result<usize, Refusal>) -> PolluxAnswer
+    ensures { result ≡ counted (says r) }
 {
     match r {
-        Printing::Printed(n) => answer(3, n),
-        Printing::Refused(number, place) => refusal(number, place),
+        Ok(n) => answer(3, n),
+        Err(refusal) => refusal(number, place),
     }
 }
 
-pub(crate) fn of_fixing(r: Fixing) -> PolluxAnswer
-    ensures { result ≡ counted (fixing_says r) }
+pub(crate) fn of_fixing(r: Result<usize, Refusal>) -> PolluxAnswer
+    ensures { result ≡ counted (says r) }
 {
     match r {
-        Fixing::Fixed(n) => answer(3, n),
-        Fixing::Refused(number, place) => refusal(number, place),
+        Ok(n) => answer(3, n),
+        Err(refusal) => refusal(number, place),
     }
 }
 
-pub(crate) fn of_drafting(r: Drafting) -> PolluxAnswer
-    ensures { result ≡ counted (drafting_says r) }
+pub(crate) fn of_drafting(r: Result<usize, Refusal>) -> PolluxAnswer
+    ensures { result ≡ counted (says r) }
 {
     match r {
-        Drafting::Drafted(n) => answer(3, n),
-        Drafting::Refused(number, place) => refusal(number, place),
+        Ok(n) => answer(3, n),
+        Err(refusal) => refusal(number, place),
     }
 }
 
-pub(crate) fn of_agreement(r: Agreement) -> PolluxAnswer
+pub(crate) fn of_agreement(r: Result<Agreement, Refusal>) -> PolluxAnswer
     ensures { result ≡ compared (agreement_says r) }
 {
     match r {
-        Agreement::Agrees => answer(4, 0),
-        Agreement::Differs => answer(5, 0),
-        Agreement::Refused(number, place) => refusal(number, place),
+        Ok(Agreement::Agrees) => answer(4, 0),
+        Ok(Agreement::Differs) => answer(5, 0),
+        Err(refusal) => refusal(number, place),
     }
 }

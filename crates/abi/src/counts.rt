@@ -5,7 +5,7 @@ ghost use Rattle.abi.specs.Told as spec;
 
 use crate::answer;
 use crate::answer::PolluxAnswer;
-use paper::{Counting, Reading};
+use paper::{Counted, Refusal};
 
 // struct pollux_counts of include/pollux.h.
 #[repr(C)]
@@ -42,16 +42,22 @@ fn totals(
     }
 }
 
-pub(crate) fn of_counting(r: Counting) -> PolluxCounts
+pub(crate) fn of_counting(r: Result<Counted, Refusal>) -> PolluxCounts
     ensures { result ≡ spec.tallied (counting_says r) }
 {
     match r {
-        Counting::Counted(parts, accepted, violated, refused, cut) => {
-            let done = answer::of_reading(Reading::Read(parts));
+        Ok(Counted {
+parts: parts,
+accepted: accepted,
+violated: violated,
+refused: refused,
+cut: cut,
+}) => {
+            let done = answer::of_reading(Ok(parts));
             totals(done, accepted, violated, refused, cut)
         }
-        Counting::Refused(number, place) => {
-            let refused = answer::of_reading(Reading::Refused(number, place));
+        Err(refusal) => {
+            let refused = answer::of_reading(Err(refusal));
             totals(refused, 0, 0, 0, 0)
         }
     }

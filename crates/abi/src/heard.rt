@@ -3,13 +3,16 @@ ghost use Rattle.std.specs.Prelude.{◌≡◌};
 ghost use Rattle.abi.specs.Heard as spec;
 
 use crate::answer::PolluxAnswer;
-use paper::{Judgement, Place, refused};
+use paper::{Judgement, Place, Refusal, Verdict, refused};
 
 // What numbers are heard as that no judgement is told by.
 fn no_answer() -> Judgement
     ensures { result ≡ spec.no_answer }
 {
-    Judgement::Refused(refused::ENTRY_RULE, Place::Entry(0))
+    Err(Refusal {
+number: refused::ENTRY_RULE,
+place: Place::Entry(0),
+})
 }
 
 fn place_in(input: u64, at: usize) -> Place
@@ -39,7 +42,10 @@ fn refusal(a: PolluxAnswer) -> Judgement
     if 7 < a.input {
         return no_answer();
     }
-    Judgement::Refused(a.number as u8, place_in(a.input, a.value as usize))
+    Err(Refusal {
+number: a.number as u8,
+place: place_in(a.input, a.value as usize),
+})
 }
 
 // Nothing but a verdict.
@@ -63,8 +69,8 @@ fn verdict(a: PolluxAnswer) -> Judgement
     }
     let says = a.says;
     match says {
-        1 => Judgement::Accepted,
-        2 => Judgement::Violated,
+        1 => Ok(Verdict::Accepted),
+        2 => Ok(Verdict::Violated),
         _ => no_answer(),
     }
 }

@@ -5,7 +5,7 @@ ghost use Rattle.abi.specs.Told.{showing, reasoned};
 
 use crate::answer;
 use crate::answer::PolluxAnswer;
-use paper::{Explanation, Judgement, Place, refused};
+use paper::{Explanation, Judgement, Place, Refusal, Verdict, refused};
 
 // struct pollux_reason of include/pollux.h.
 #[repr(C)]
@@ -57,11 +57,14 @@ pub(crate) fn of_explanation(r: Explanation) -> PolluxReason
 {
     match r {
         Explanation::Part(number, place, from, to) => {
-            let judged = answer::of_judgement(Judgement::Violated);
+            let judged = answer::of_judgement(Ok(Verdict::Violated));
             reason(judged, number, place, from, length(from, to))
         }
         Explanation::Key(place, from, to) => {
-            let bad = Judgement::Refused(refused::ENTRY_RULE, Place::Entry(place));
+            let bad = Err(Refusal {
+number: refused::ENTRY_RULE,
+place: Place::Entry(place),
+});
             let judged = answer::of_judgement(bad);
             reason(judged, 0, place, from, length(from, to))
         }

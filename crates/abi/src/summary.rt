@@ -6,7 +6,7 @@ ghost use Rattle.abi.specs.Told as spec;
 
 use crate::answer;
 use crate::answer::PolluxAnswer;
-use paper::{Checking, Summarizing};
+use paper::{Refusal, Summary};
 
 // struct pollux_summary of include/pollux.h.
 #[repr(C)]
@@ -44,16 +44,19 @@ fn naming(checked: PolluxAnswer, keys: u32, priority: u64, count: u32) -> Pollux
     }
 }
 
-pub(crate) fn of_summarizing(r: Summarizing) -> PolluxSummary
+pub(crate) fn of_summarizing(r: Result<Summary, Refusal>) -> PolluxSummary
     ensures { result ≡ spec.summarized (summarizing_says r) }
 {
     match r {
-        Summarizing::Refused(number, place) => {
-            let refused = answer::of_checking(Checking::Refused(number, place));
+        Err(refusal) => {
+            let refused = answer::of_checking(Err(refusal));
             naming(refused, 0, 0, 0)
         }
-        Summarizing::Summary(keys, priority) => {
-            let passed = answer::of_checking(Checking::Passed);
+        Ok(Summary {
+keys: keys,
+priority: priority,
+}) => {
+            let passed = answer::of_checking(Ok(()));
             naming(passed, keys, mark(priority), valve::count_keys(keys))
         }
     }

@@ -5,7 +5,7 @@ ghost use Rattle.abi.specs.Told as spec;
 
 use crate::answer;
 use crate::answer::PolluxAnswer;
-use paper::{Reading, RunningAll};
+use paper::{RanAll, Refusal};
 
 // struct pollux_table of include/pollux.h.
 #[repr(C)]
@@ -30,16 +30,19 @@ fn stepping(answered: PolluxAnswer, steps: u64) -> PolluxTable
     }
 }
 
-pub(crate) fn of_running_all(r: RunningAll) -> PolluxTable
+pub(crate) fn of_running_all(r: Result<RanAll, Refusal>) -> PolluxTable
     ensures { result ≡ spec.ran_through (running_all_says r) }
 {
     match r {
-        RunningAll::Ran(entries, steps) => {
-            let done = answer::of_reading(Reading::Read(entries));
+        Ok(RanAll {
+entries: entries,
+steps: steps,
+}) => {
+            let done = answer::of_reading(Ok(entries));
             stepping(done, steps)
         }
-        RunningAll::Refused(number, place) => {
-            let refused = answer::of_reading(Reading::Refused(number, place));
+        Err(refusal) => {
+            let refused = answer::of_reading(Err(refusal));
             stepping(refused, 0)
         }
     }

@@ -5,7 +5,7 @@ ghost use Rattle.paper.specs.Fixing.{fix_buffer};
 ghost use Rattle.answers.specs.Calls.{after_call, written};
 
 use crate::{adler, changes, entries, framing, tables};
-use paper::{Explanation, Summarizing};
+use paper::{Explanation, Summary};
 use std::io;
 
 // The calls, by the first byte of a request.
@@ -60,7 +60,10 @@ fn explain(rt: &impl Print, text: &[u8], list: &[u8], entry: &[u8]) -> io::Resul
 fn summarize(rt: &impl Print, text: &[u8], list: &[u8]) -> io::Result<()> {
     let named = valve::summarize(text, list);
     lines::say_summarizing(rt, named)?;
-    if let Summarizing::Summary(keys, _) = named {
+    if let Ok(Summary {
+keys: keys,
+priority: _,
+}) = named {
         lines::say(rt, b" ")?;
         lines::say_number(rt, valve::count_keys(keys) as u64)?
     }

@@ -5,7 +5,7 @@ ghost use Rattle.paper.specs.Answers.{judgement_says};
 ghost use Rattle.answers.specs.Changes.{earlier_answer};
 
 use paper::refused::ENTRY_RULE;
-use paper::{Judgement, Place};
+use paper::{Judgement, Place, Refusal, Verdict};
 use std::io;
 
 const ACCEPTED: u8 = 1;
@@ -19,9 +19,12 @@ fn earlier_answer(byte: u8) -> Judgement
     ensures { judgement_says result ≡ earlier_answer byte }
 {
     match byte {
-        ACCEPTED => Judgement::Accepted,
-        VIOLATED => Judgement::Violated,
-        _ => Judgement::Refused(ENTRY_RULE, Place::Entry(0)),
+        ACCEPTED => Ok(Verdict::Accepted),
+        VIOLATED => Ok(Verdict::Violated),
+        _ => Err(Refusal {
+number: ENTRY_RULE,
+place: Place::Entry(0),
+}),
     }
 }
 

@@ -1,6 +1,6 @@
 // Refusals 16 and 17: whether blocks are laid out as they must be.
 ghost use Rattle.std.specs.Prelude.{◌≡◌, ◌&&◌, ◌+◌, ◌*◌, ◌/◌, ◌%◌, ◌≤◌, ◌<◌, eqb, length, get_or, take};
-ghost use Rattle.paper.specs.Answers.{counted_says};
+ghost use Rattle.paper.specs.Answers.{says};
 ghost use Rattle.paper.specs.Numbers.{bytes_at};
 ghost use Rattle.paper.specs.Tokens.{same_bytes};
 ghost use Rattle.paper.specs.Blocks.{most_blocks, count_ok, counts_from, check_of};
@@ -8,7 +8,7 @@ ghost use Rattle.blocks.specs.Layout.{laid_out, block_right};
 
 use crate::fields::{Block, two_bytes};
 use crate::sums::sums_of;
-use paper::{Counted, Place, refused};
+use paper::{Place, Refusal, refused};
 use spelling::bytes;
 
 // 25 except in the last block, where it is 1 to 25.
@@ -84,18 +84,27 @@ fn total_of(blocks: &[u8], n: usize) -> usize
 }
 
 // How many instructions the blocks hold for a number of keys, or their refusal, 16 or 17.
-pub fn layout(blocks: &[u8], keys: usize) -> Counted
-    ensures { counted_says result ≡ laid_out keys blocks.now }
+pub fn layout(blocks: &[u8], keys: usize) -> Result<usize, Refusal>
+    ensures { says result ≡ laid_out keys blocks.now }
 {
     let size = blocks.len();
     if size == 0 {
-        return Counted::Refused(refused::BLOCKS_LENGTH, Place::Blocks(size));
+        return Err(Refusal {
+            number: refused::BLOCKS_LENGTH,
+            place: Place::Blocks(size),
+        });
     }
     if size % Block::SIZE != 0 {
-        return Counted::Refused(refused::BLOCKS_LENGTH, Place::Blocks(size));
+        return Err(Refusal {
+            number: refused::BLOCKS_LENGTH,
+            place: Place::Blocks(size),
+        });
     }
     if Block::MOST * Block::SIZE < size {
-        return Counted::Refused(refused::BLOCKS_LENGTH, Place::Blocks(size));
+        return Err(Refusal {
+            number: refused::BLOCKS_LENGTH,
+            place: Place::Blocks(size),
+        });
     }
     let n = size / Block::SIZE;
     let total = total_of(blocks, n);
@@ -109,9 +118,12 @@ pub fn layout(blocks: &[u8], keys: usize) -> Counted
             total,
             keys,
         ) {
-            return Counted::Refused(refused::BLOCK_LAYOUT, Place::Blocks(from));
+            return Err(Refusal {
+                number: refused::BLOCK_LAYOUT,
+                place: Place::Blocks(from),
+            });
         }
         k += 1;
     }
-    Counted::Count(total)
+    Ok(total)
 }

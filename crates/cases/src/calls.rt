@@ -7,7 +7,7 @@ use crate::names::{
 use crate::scan::{not_understood, part};
 use blocks::Block;
 use paper::refused::ENTRY_RULE;
-use paper::{Drafting, Explanation, Fixing, Judgement, Place, Printing, Summarizing, Translation};
+use paper::{Explanation, Judgement, Place, Refusal, Summary, Verdict};
 use spelling::bytes::same_bytes;
 use std::io;
 
@@ -21,11 +21,11 @@ fn write_code(rt: &impl Print, code: &[u8], room: &mut [u8]) -> io::Result<()> {
 }
 
 // For its blocks alone a text is translated without a word, unless it is refused.
-fn say_translation(rt: &impl Print, call: usize, translation: Translation) -> io::Result<()> {
+fn say_translation(rt: &impl Print, call: usize, translation: Result<usize, Refusal>) -> io::Result<()> {
     if call == TRANSLATE {
         return lines::say_translation(rt, translation);
     }
-    if let Translation::Refused(_, _) = translation {
+    if let Err(_) = translation {
         lines::say_translation(rt, translation)?
     }
     Ok(())
@@ -42,25 +42,25 @@ fn show(rt: &impl Print, bytes: &[u8]) -> io::Result<()> {
     Ok(())
 }
 
-fn say_print(rt: &impl Print, printing: Printing, room: &[u8]) -> io::Result<()> {
+fn say_print(rt: &impl Print, printing: Result<usize, Refusal>, room: &[u8]) -> io::Result<()> {
     lines::say_printing(rt, printing)?;
-    if let Printing::Printed(n) = printing {
+    if let Ok(n) = printing {
         show(rt, lines::start(room, n))?
     }
     Ok(())
 }
 
-fn say_fixing(rt: &impl Print, fixing: Fixing, room: &[u8]) -> io::Result<()> {
+fn say_fixing(rt: &impl Print, fixing: Result<usize, Refusal>, room: &[u8]) -> io::Result<()> {
     lines::say_fixing(rt, fixing)?;
-    if let Fixing::Fixed(n) = fixing {
+    if let Ok(n) = fixing {
         show(rt, lines::start(room, n))?
     }
     Ok(())
 }
 
-fn say_drafting(rt: &impl Print, drafting: Drafting, room: &[u8]) -> io::Result<()> {
+fn say_drafting(rt: &impl Print, drafting: Result<usize, Refusal>, room: &[u8]) -> io::Result<()> {
     lines::say_drafting(rt, drafting)?;
-    if let Drafting::Drafted(n) = drafting {
+    if let Ok(n) = drafting {
         show(rt, lines::start(room, n))?
     }
     Ok(())
@@ -98,7 +98,10 @@ fn explain(rt: &impl Print, text: &[u8], list: &[u8], entry: &[u8]) -> io::Resul
 fn summarize(rt: &impl Print, text: &[u8], list: &[u8]) -> io::Result<()> {
     let named = valve::summarize(text, list);
     lines::say_summarizing(rt, named)?;
-    if let Summarizing::Summary(keys, _) = named {
+    if let Ok(Summary {
+keys: keys,
+priority: _,
+}) = named {
         lines::say(rt, b" ")?;
         lines::say_number(rt, valve::count_keys(keys) as u64)?
     }
@@ -108,12 +111,15 @@ fn summarize(rt: &impl Print, text: &[u8], list: &[u8]) -> io::Result<()> {
 // The earlier answer that a word tells; any other word tells a refusal.
 fn earlier_answer(word: &[u8]) -> Judgement {
     if same_bytes(word, b"accepted") {
-        return Judgement::Accepted;
+        return Ok(Verdict::Accepted);
     }
     if same_bytes(word, b"violated") {
-        return Judgement::Violated;
+        return Ok(Verdict::Violated);
     }
-    Judgement::Refused(ENTRY_RULE, Place::Entry(0))
+    Err(Refusal {
+number: ENTRY_RULE,
+place: Place::Entry(0),
+})
 }
 
 // The new entry against the old one that is given, with its earlier answer.

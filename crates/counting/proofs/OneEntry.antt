@@ -1,12 +1,12 @@
 -- One entry: it is refused or judged, and so it is counted by every part and by the tree of them all.
 use Prim.Native.Nat.{ℕ}
+use Rattle.std.specs.Prelude.{Result, Ok, Err}
+use Rattle.paper.specs.declared.Refusal.{Refusal}
 use mathlib.Core.Path.{◌≡◌, refl, sym, ap, ◌∙◌}
 use mathlib.Core.Bool.{Bool, true, false, not}
 use mathlib.Core.List.{List, [], ◌∷◌}
 use Rattle.paper.specs.declared.Place.{Place}
-use Rattle.paper.specs.declared.Checking.{Checking}
-use Rattle.paper.specs.declared.Checking.TheVariants as C
-use Rattle.paper.specs.Answers.{Answer, Input, ok, refused, checking_says, input_of, offset_of}
+use Rattle.paper.specs.Answers.{Answer, Input, ok, refused, says, input_of, offset_of, refused_by}
 use Rattle.paper.specs.Keys.{keys}
 use Rattle.paper.specs.Entry.{entry_of}
 use Rattle.paper.specs.Grammar.{Tree}
@@ -43,14 +43,14 @@ module _ (list entry : List ℕ) where
       → count_if (λ e. is (judged (keys_in list) t e)) (entry ∷ []) ≡ one (is a)
   counted_as is t e = count_one (λ x. is (judged (keys_in list) t x)) entry (ap is e)
 
-  module _ (x : Checking) (says : checking_says x ≡ conforms (keys_in list) entry) where
-    pub conforming : keys list ≡ ok (keys_in list) → x ≡ C.Passed → Conforming list entry
-    conforming listed e = record { listed = listed; entered = entered (keys_in list) entry (sym says ∙ ap checking_says e) }
+  module _ (x : Result (Unit {0}) Refusal) (says : says x ≡ conforms (keys_in list) entry) where
+    pub conforming : keys list ≡ ok (keys_in list) → x ≡ (Ok tt) → Conforming list entry
+    conforming listed e = record { listed = listed; entered = entered (keys_in list) entry (sym says ∙ ap says e) }
 
-    stopped : {n : ℕ} {p : Place} → x ≡ C.Refused n p → (t : Tree) → judged (keys_in list) t entry ≡ refused n (input_of p) (offset_of p)
-    stopped e t = judged_refused (not_entered (keys_in list) entry (sym says ∙ ap checking_says e)) t
+    stopped : {v : Refusal} → x ≡ Err v → (t : Tree) → judged (keys_in list) t entry ≡ refused_by v
+    stopped e t = judged_refused (not_entered (keys_in list) entry (sym says ∙ ap says e)) t
 
-    pub one_refused : (text nodes rows : List ℕ) (n root : ℕ) (numbers : List ℕ) (r : Totals) {m : ℕ} {p : Place} → x ≡ C.Refused m p
+    pub one_refused : (text nodes rows : List ℕ) (n root : ℕ) (numbers : List ℕ) (r : Totals) {v : Refusal} → x ≡ Err v
         → (r.accepted ≡ 0) × (r.violated ≡ 0) × (r.refused ≡ 1)
         → Adds (keys_in list) (tree_at text nodes root) n (part_at text nodes rows) (entry ∷ []) numbers numbers r
     one_refused text nodes rows n root numbers r e totals =

@@ -10,7 +10,7 @@ ghost use Rattle.counting.specs.Tallied.{Spare, Tells, Adds};
 
 use crate::misses;
 use crate::total::Totals;
-use paper::Checking;
+
 
 // Adds one entry: to the number of each part that is false on it, if it conforms.
 fn add_entry(
@@ -28,8 +28,8 @@ fn add_entry(
 {
     let entered = keys::check_entry(list, entry);
     match entered {
-        Checking::Refused(_, _) => Totals::refusal(),
-        Checking::Passed => {
+        Err(_) => Totals::refusal(),
+        Ok(()) => {
             Totals::verdict(misses::add_false(list, entry, nodes, rows, n, counts))
         }
     }

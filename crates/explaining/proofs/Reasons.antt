@@ -1,6 +1,8 @@
 -- From the stages' answers to the reason: a refusal of text, list or entry (`stopped`), which stands at a record only where the list has a key
 -- for it; or the first false part (`explained`).
 use Prim.Native.Nat.{ℕ, ◌≤◌, ◌<◌}
+use Rattle.std.specs.Prelude.{Result, Err}
+use Rattle.paper.specs.declared.Refusal.{Refusal}
 use native.Mathlib.Omega.{arith}
 use mathlib.Core.Path.{◌≡◌, sym, ap, ◌∙◌}
 use mathlib.Core.Logic.{◌⊎◌, inl, inr}
@@ -10,9 +12,7 @@ use lib.ListN.{length}
 use lib.Dec.{eqb, leb}
 use borrow.Author.Tests.{eqb-true, leb-true}
 use Rattle.paper.specs.declared.Place.{Place}
-use Rattle.paper.specs.declared.Checking.{Checking}
-use Rattle.paper.specs.declared.Checking.TheVariants as C
-use Rattle.paper.specs.Answers.{Input, ok, refused, input_of, offset_of, checking_says}
+use Rattle.paper.specs.Answers.{Input, ok, refused, input_of, offset_of, says}
 use Rattle.paper.specs.Keys.{records_in, record_at}
 use Rattle.paper.specs.Entry.{head_size}
 use Rattle.paper.specs.Calls.{restriction, judge_answer}
@@ -66,10 +66,10 @@ module _ (text list entry : List ℕ) where
   text_refused n i at e = stopped n i at (λ A next. rw e)
 
   module _ (nodes rows : List ℕ) (m : ℕ) (p : PassedParts text list nodes rows m) where
-    pub entry_refused : (x : Checking) → checking_says x ≡ conforms (keys_in list) entry → {n : ℕ} {q : Place} → x ≡ C.Refused n q
+    pub entry_refused : (x : Result (Unit {0}) Refusal) → says x ≡ conforms (keys_in list) entry → {v : Refusal} → x ≡ Err v
         → Refusal n (input_of q) (offset_of q)
     entry_refused x says {n} {q} e =
-        let stops = not_entered (keys_in list) entry (sym says ∙ ap checking_says e) in
+        let stops = not_entered (keys_in list) entry (sym says ∙ ap says e) in
         stopped n (input_of q) (offset_of q) (λ A next. rw (p.rooted.passed, stops))
 
     pub explained : Conforming list entry → reason_for list (ok (first_in text list entry nodes rows m)) ≡ explain_answer text list entry

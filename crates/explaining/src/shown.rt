@@ -16,7 +16,7 @@ ghost use Rattle.explaining.specs.KeyShown.{HasKey, Listed};
 
 use crate::first;
 use keys::{Entry, Found, KeyRecord, Matched};
-use paper::{Explanation, Judgement, Place, refused};
+use paper::{Explanation, Judgement, Place, Verdict, refused};
 use parts::rows as part_rows;
 
 // A part, by its index from 0: its number, its root's place, and its stretch.
@@ -41,7 +41,7 @@ pub fn of_entry(list: &[u8], entry: &[u8], nodes: &[u32], rows: &[u32], n: usize
 {
     let broken = first::first_false(list, entry, nodes, rows, n);
     match broken {
-        Found::Nothing => Explanation::Nothing(Judgement::Accepted),
+        Found::Nothing => Explanation::Nothing(Ok(Verdict::Accepted)),
         Found::At(k) => part(nodes, rows, k),
     }
 }
@@ -63,7 +63,7 @@ fn offset(place: Place) -> usize
 fn nothing(number: u8, place: Place) -> Explanation
     ensures { explanation_says result ≡ nothing_to_show (Answers.refused number (input_of place) (offset_of place)) }
 {
-    Explanation::Nothing(Judgement::Refused(number, place))
+    Explanation::Nothing(Err(refusal))
 }
 
 fn wide(x: u8) -> usize

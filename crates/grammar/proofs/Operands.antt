@@ -1,5 +1,7 @@
 -- Operands: after a prefix operator, in parentheses, and where neither is the next token.
 use Prim.Native.Nat.{ℕ, zero, suc, ◌+◌, ◌-◌, ◌≤◌, ◌<◌}
+use Rattle.paper.specs.declared.Refusal.{Refusal}
+use Rattle.std.specs.Prelude.{Result, Ok, Err}
 use mathlib.Core.Path.{◌≡◌, refl, sym, ap, ◌∙◌}
 use mathlib.Core.Bool.{false, cond}
 use mathlib.Core.Logic.{◌⊎◌, ⊎_elim, inl, inr}
@@ -15,7 +17,6 @@ use Rattle.paper.specs.Grammar as G
 use Rattle.paper.specs.Grammar.{Tree, Out, got, stuck, deep, Parser, Reader, ◌>>>◌, closed, is_sign, operand, operand_at, signed, prefixes, sequence}
 use Rattle.tokens.specs.Tape.{Tape, kind_at, first_prefix, last_prefix, token_on, sign_no}
 use Rattle.grammar.specs.declared.steps.Taken.{Taken}
-use Rattle.grammar.specs.declared.steps.Taken.TheVariants as A
 use Rattle.grammar.specs.declared.tape.Next.TheVariants.{Other}
 use Rattle.grammar.specs.Ladder as L
 use Rattle.trees.specs.Words.{prefix_no, words, operator_words}
@@ -77,9 +78,9 @@ module _ (T : Tape) (n i : ℕ) where
       go l colons e = refl
 
 module _ (T : Tape) (n at at' b : ℕ) (o : Out) (before after : List ℕ) (f i : ℕ) where
-  pub close_on : Took T n at' b o before after f i → at ≤ at' → (r : Taken)
+  pub close_on : Took T n at' b o before after f i → at ≤ at' → (r : Result Taken Refusal)
       → Closes (length T.text) T.rows n f i r → Meets T n at b (o >>> closed) before after r
-  close_on h l (A.Tree f' i') c =
+  close_on h l (Ok r) c =
       record {
         tree = h.tree;
         spelled = h.spelled;
@@ -93,7 +94,7 @@ module _ (T : Tape) (n at at' b : ℕ) (o : Out) (before after : List ℕ) (f i 
               inside = omega arith;
             };
       }
-  close_on h l (A.Refused k p) c =
+  close_on h l (Err v) c =
       rw (h.out, close_not T n i _ c, c.number, c.place) (stuck_at T n i)
 
 module _ (read : Reader) (inner outer : ℕ → Parser) (T : Tape) (n at : ℕ) where
@@ -170,7 +171,7 @@ module _ (read : Reader) (inner outer : ℕ → Parser) (T : Tape) (n at : ℕ) 
     paren_up = rw paren_here (refuses (length T.text) (outer (place_on T at) (past T n at)) closed)
 
     pub paren_close : {b f i : ℕ} {before after : List ℕ} → Took T n (at + 1) b (outer (place_on T at) (past T n at)) before after f i
-        → (r : Taken) → Closes (length T.text) T.rows n f i r → Meets T n at b (operand read inner outer here) before after r
+        → (r : Result Taken Refusal) → Closes (length T.text) T.rows n f i r → Meets T n at b (operand read inner outer here) before after r
     paren_close {b} {f} {i} {before} {after} t r c = rw paren_here (close_on T n at (at + 1) b _ before after f i t (omega arith) r c)
 
   pub paren_not : Finds T.rows n at (sign_no opening) (sign_no opening) Other → (outer' : ℕ → Parser) → operand read inner outer here ≡ operand read inner outer' here

@@ -1,12 +1,11 @@
 -- What the parser's functions ask of the tape and of the nodes, and what they say of their answers.
-use Rattle.std.specs.Prelude.{ℕ, ◌+◌, ◌*◌, ◌-◌, ◌≤◌, ◌<◌, ◌≡◌, Bool, cond, ◌&&◌, ◌⊎◌, List, [], ◌∷◌, length, get_or, eqb, ltb}
+use Rattle.std.specs.Prelude.{ℕ, ◌+◌, ◌*◌, ◌-◌, ◌≤◌, ◌<◌, ◌≡◌, Bool, cond, ◌&&◌, ◌⊎◌, List, [], ◌∷◌, length, get_or, eqb, ltb, Result, Ok, Err}
+use Rattle.paper.specs.declared.Refusal.{Refusal}
 use Rattle.std.proofs.lemmas.List.Edits.{sets}
 use Rattle.std.proofs.Math.Seq.{slice}
 use Rattle.paper.specs.declared.Place.{Place}
 use Rattle.paper.specs.declared.Place.TheVariants.{Text}
-use Rattle.paper.specs.declared.Counted.{Counted}
-use Rattle.paper.specs.declared.Counted.TheVariants as S
-use Rattle.paper.specs.Answers.{ok, refused, input_of, offset_of}
+use Rattle.paper.specs.Answers.{ok, refused, input_of, offset_of, refused_by}
 use Rattle.paper.specs.Tokens.{closing, undotted}
 use Rattle.paper.specs.Grammar as G
 use Rattle.paper.specs.Grammar.{Out, got, Parser, outcome, parsed}
@@ -14,7 +13,6 @@ use Rattle.tokens.specs.Tape.{Tape, tokens_on, kind_at, start_at, end_at, word_n
 use Rattle.tokens.specs.Tokenized.{Sound}
 use Rattle.grammar.specs.Places.{onward, node_words, node_at}
 use Rattle.grammar.specs.declared.steps.Taken.{Taken}
-use Rattle.grammar.specs.declared.steps.Taken.TheVariants.{Tree, Refused}
 use Rattle.grammar.specs.declared.tape.Next.{Next}
 use Rattle.grammar.specs.declared.tape.Next.TheVariants.{Is, Other}
 use Rattle.trees.specs.Words.{words, Spelled}
@@ -72,22 +70,26 @@ pub record Took (T : Tape) (n at b : ℕ) (o : Out) (before after : List ℕ) (f
   pub spelled : Spelled T.text tree
   pub built : Built n at b before after tree f i
 
+-- a tree up to a free node and a next token
+abbrev pub taken : ℕ → ℕ → Result Taken Refusal
+taken node token = Ok (record { node = node; token = token })
+
 -- an answer to what the definition gives: a refusal says nothing of the nodes
-abbrev pub Meets : Tape → ℕ → ℕ → ℕ → Out → List ℕ → List ℕ → Taken → Type 0
-Meets T n at b o before after (Tree f i) = Took T n at b o before after f i
-Meets T n at b o before after (Refused k p) = outcome (length T.text) o ≡ refused k (input_of p) (offset_of p)
+abbrev pub Meets : Tape → ℕ → ℕ → ℕ → Out → List ℕ → List ℕ → Result Taken Refusal → Type 0
+Meets T n at b o before after (Ok r) = Took T n at b o before after r.node r.token
+Meets T n at b o before after (Err v) = outcome (length T.text) o ≡ refused_by v
 
 -- an answer from a start on: to what the token there, of so many, begins; and to what a level reads, by how many levels may still
 -- be opened
 
-abbrev pub Begins : (Tape → ℕ → ℕ → Out) → Tape → Start → List ℕ → List ℕ → Taken → Type 0
+abbrev pub Begins : (Tape → ℕ → ℕ → Out) → Tape → Start → List ℕ → List ℕ → Result Taken Refusal → Type 0
 Begins o T from before after r = Meets T from.count from.token from.node (o T from.count from.token) before after r
 
-abbrev pub Reads : (ℕ → Parser) → Tape → Start → List ℕ → List ℕ → Taken → Type 0
+abbrev pub Reads : (ℕ → Parser) → Tape → Start → List ℕ → List ℕ → Result Taken Refusal → Type 0
 Reads p T from before after r = Begins (λ T n at. p from.levels (onward T n at)) T from before after r
 
 -- an answer from a start on to which p has read a tree: to what q makes of all of it
-abbrev pub Continues : (ℕ → Parser) → (ℕ → Parser) → Tape → Start → List ℕ → List ℕ → Taken → Type 0
+abbrev pub Continues : (ℕ → Parser) → (ℕ → Parser) → Tape → Start → List ℕ → List ℕ → Result Taken Refusal → Type 0
 Continues p q T from before after r =
     (at b : ℕ) (first : List ℕ)
     → Took T from.count at b (p from.levels (onward T from.count at)) first before from.node from.token
@@ -124,9 +126,9 @@ pub record Unclosed (size : ℕ) (rows : List ℕ) (n at k : ℕ) (p : Place) : 
   pub number : k ≡ 8
   pub place : p ≡ place_from size rows n at
 
-abbrev pub Closes : ℕ → List ℕ → ℕ → ℕ → ℕ → Taken → Type 0
-Closes size rows n free at (Tree f i) = Closed rows n free at f i
-Closes size rows n free at (Refused k p) = Unclosed size rows n at k p
+abbrev pub Closes : ℕ → List ℕ → ℕ → ℕ → ℕ → Result Taken Refusal → Type 0
+Closes size rows n free at (Ok r) = Closed rows n free at r.node r.token
+Closes size rows n free at (Err v) = Unclosed size rows n at v.number v.place
 
 -- the whole text
 pub record WholeTree (T : Tape) (n : ℕ) (before after : List ℕ) (m : ℕ) : Type 0 where
@@ -137,6 +139,6 @@ pub record WholeTree (T : Tape) (n : ℕ) (before after : List ℕ) (m : ℕ) : 
   pub stored : after ≡ sets before 0 (words 0 tree)
   pub few : m ≤ n
 
-abbrev pub Parses : Tape → ℕ → List ℕ → List ℕ → Counted → Type 0
-Parses T n before after (S.Count m) = WholeTree T n before after m
-Parses T n before after (S.Refused k p) = parsed (length T.text) (tokens_on T 0 n) ≡ refused k (input_of p) (offset_of p)
+abbrev pub Parses : Tape → ℕ → List ℕ → List ℕ → Result ℕ Refusal → Type 0
+Parses T n before after (Ok m) = WholeTree T n before after m
+Parses T n before after (Err v) = parsed (length T.text) (tokens_on T 0 n) ≡ refused_by v

@@ -13,6 +13,7 @@ use crate::leaves::{close, leaf};
 use crate::steps::{COUNT, LEVELS_LEFT, NODE, Rung, Start, TOKEN, Taken, Tighter, inside, moved};
 use crate::store::{put_joined, put_prefixed};
 use crate::tape::{Next, next_in};
+use paper::Refusal;
 use tokens::kinds::{AND_ALSO, AT_MOST, EQUAL, IMPLIES, MINUS, NOT, OPENING, OR_ELSE, SEQUEL};
 
 // The lowest and the highest kind of some signs.
@@ -114,7 +115,13 @@ fn looser(rung: Rung, goal: Rung) -> Rung
 
 // An operand of a rung. What opens no level is a leaf, and read as one at once.
 #[cycle(atom_chain_further_operand_prefix)]
-fn operand(text: &[u8], tape: &[u32], rung: Rung, from: &Start, nodes: &mut [u32]) -> Taken
+fn operand(
+    text: &[u8],
+    tape: &[u32],
+    rung: Rung,
+    from: &Start,
+    nodes: &mut [u32],
+) -> Result<Taken, Refusal>
     requires { Ready (tape_of text.now tape.now) (length nodes.old) (start_of from.now) }
     ensures { Reads (L.operand_of rung) (tape_of text.now tape.now) (start_of from.now) nodes.old nodes.new result }
 {
@@ -130,35 +137,47 @@ fn operand(text: &[u8], tape: &[u32], rung: Rung, from: &Start, nodes: &mut [u32
 // Operands with operators of a rung between them, joined from the left: what the tightest rung reads first is climbed
 // from, rung after rung.
 #[cycle(atom_chain_further_operand_prefix)]
-pub(crate) fn chain(text: &[u8], tape: &[u32], rung: Rung, from: &Start, nodes: &mut [u32]) -> Taken
+pub(crate) fn chain(
+    text: &[u8],
+    tape: &[u32],
+    rung: Rung,
+    from: &Start,
+    nodes: &mut [u32],
+) -> Result<Taken, Refusal>
     requires { Ready (tape_of text.now tape.now) (length nodes.old) (start_of from.now) }
     ensures { Reads (L.rung_of rung) (tape_of text.now tape.now) (start_of from.now) nodes.old nodes.new result }
 {
     let first = operand(text, tape, Rung::Comparison, from, nodes);
-    let Taken::Tree(f, i) = first else {
-        return first.again();
+    let Ok(read) = first else {
+        return first;
     };
     let mut level = Rung::Comparison;
-    let mut past = f;
-    let mut next = i;
+    let mut past = read.node;
+    let mut next = read.token;
     loop {
         let onward = moved(from, next, past);
         let more = further(text, tape, level, &onward, nodes);
-        let Taken::Tree(end, rest) = more else {
-            return more.again();
+        let Ok(read) = more else {
+            return more;
         };
         if height(level) == height(rung) {
-            return Taken::Tree(end, rest);
+            return Ok(read);
         }
         level = looser(level, rung);
-        past = end;
-        next = rest;
+        past = read.node;
+        next = read.token;
     }
 }
 
 // What a rung makes of its first operand, the tree before the start: it goes on while its operator is the next token.
 #[cycle(atom_chain_further_operand_prefix)]
-fn further(text: &[u8], tape: &[u32], rung: Rung, from: &Start, nodes: &mut [u32]) -> Taken
+fn further(
+    text: &[u8],
+    tape: &[u32],
+    rung: Rung,
+    from: &Start,
+    nodes: &mut [u32],
+) -> Result<Taken, Refusal>
     requires node_nonzero { 0 < (start_of from.now).node }
     requires ready { Ready (tape_of text.now tape.now) (length nodes.old) (start_of from.now) }
     ensures { Continues (L.operand_of rung) (L.rung_of rung) (tape_of text.now tape.now) (start_of from.now) nodes.old nodes.new result }
@@ -167,28 +186,38 @@ fn further(text: &[u8], tape: &[u32], rung: Rung, from: &Start, nodes: &mut [u32
     let mut next = from[TOKEN];
     loop {
         let Next::Is(sign) = operator_at(tape, rung, from[COUNT], next) else {
-            return Taken::Tree(past, next);
+            return Ok(Taken {
+                node: past,
+                token: next,
+            });
         };
         if ends_after(rung, next + 1, from[COUNT]) {
-            return Taken::Tree(past, next + 1);
+            return Ok(Taken {
+                node: past,
+                token: next + 1,
+            });
         }
         let onward = moved(from, next + 1, past);
         let more = operand(text, tape, rung, &onward, nodes);
-        let Taken::Tree(end, rest) = more else {
-            return more.again();
+        let Ok(read) = more else {
+            return more;
         };
+        let end = read.node;
         put_joined(tape, nodes, end, sign, next, past - 1);
         if at_most_once(rung) {
-            return Taken::Tree(end + 1, rest);
+            return Ok(Taken {
+                node: end + 1,
+                token: read.token,
+            });
         }
         past = end + 1;
-        next = rest;
+        next = read.token;
     }
 }
 
 // An operand after any number of "!" and "-". With no level left, only a leaf.
 #[cycle(atom_chain_further_operand_prefix)]
-fn prefix(text: &[u8], tape: &[u32], from: &Start, nodes: &mut [u32]) -> Taken
+fn prefix(text: &[u8], tape: &[u32], from: &Start, nodes: &mut [u32]) -> Result<Taken, Refusal>
     requires { Ready (tape_of text.now tape.now) (length nodes.old) (start_of from.now) }
     ensures { Reads L.prefix (tape_of text.now tape.now) (start_of from.now) nodes.old nodes.new result }
 {
@@ -201,16 +230,19 @@ fn prefix(text: &[u8], tape: &[u32], from: &Start, nodes: &mut [u32]) -> Taken
     };
     let onward = inside(from);
     let operand = prefix(text, tape, &onward, nodes);
-    let Taken::Tree(past, next) = operand else {
-        return operand.again();
+    let Ok(read) = operand else {
+        return operand;
     };
-    put_prefixed(tape, nodes, past, sign, at);
-    Taken::Tree(past + 1, next)
+    put_prefixed(tape, nodes, read.node, sign, at);
+    Ok(Taken {
+        node: read.node + 1,
+        token: read.token,
+    })
 }
 
 // A leaf, or a parenthesis.
 #[cycle(atom_chain_further_operand_prefix)]
-fn atom(text: &[u8], tape: &[u32], from: &Start, nodes: &mut [u32]) -> Taken
+fn atom(text: &[u8], tape: &[u32], from: &Start, nodes: &mut [u32]) -> Result<Taken, Refusal>
     requires levels_nonzero { 0 < (start_of from.now).levels }
     requires ready { Ready (tape_of text.now tape.now) (length nodes.old) (start_of from.now) }
     ensures { Reads L.atom (tape_of text.now tape.now) (start_of from.now) nodes.old nodes.new result }
@@ -220,8 +252,8 @@ fn atom(text: &[u8], tape: &[u32], from: &Start, nodes: &mut [u32]) -> Taken
     };
     let onward = inside(from);
     let inner = chain(text, tape, Rung::Sequence, &onward, nodes);
-    let Taken::Tree(past, next) = inner else {
-        return inner.again();
+    let Ok(read) = inner else {
+        return inner;
     };
-    close(text, tape, from[COUNT], past, next)
+    close(text, tape, from[COUNT], read.node, read.token)
 }

@@ -10,20 +10,26 @@ ghost use Rattle.tokens.specs.Tokenized.{Sound};
 ghost use Rattle.trees.specs.Words.{leaf_words, words};
 ghost use Rattle.grammar.specs.Ladder as L;
 ghost use Rattle.grammar.specs.Places.{Fits, node_at, place_on, word_on, past, onward};
-ghost use Rattle.grammar.specs.Reading.{start_of, Ready, Leads, Worded, Reads, Begins, Closes, is_name};
+ghost use Rattle.grammar.specs.Reading.{start_of, Ready, Leads, Worded, Reads, Begins, Closes, is_name, taken};
 
 use crate::steps::{COUNT, NODE, Start, TOKEN, Taken};
 use crate::store::{put_attribute, put_field, put_number};
 use crate::tape::{Next, next_in, place_at, string_at, word_at};
 use addresses::{Scheme, SchemeName};
 use number::Literal;
+use paper::Refusal;
 use paper::refused::{ADDRESS, GRAMMAR, LEVELS_MANY};
 use spelling::bytes::same_bytes;
 use tokens::kinds::{CLOSING, COLONS, MINUS, NOT, NUMERAL, OPENING, STRING, WORD};
 use tokens::rows::{end_at, kind_at, literal_at, start_at};
 
 // A leaf. What would open a level is refused.
-pub(crate) fn leaf(text: &[u8], tape: &[u32], from: &Start, nodes: &mut [u32]) -> Taken
+pub(crate) fn leaf(
+    text: &[u8],
+    tape: &[u32],
+    from: &Start,
+    nodes: &mut [u32],
+) -> Result<Taken, Refusal>
     requires { Ready (tape_of text.now tape.now) (length nodes.old) (start_of from.now) }
     ensures { Reads (λ _. L.prefix 0) (tape_of text.now tape.now) (start_of from.now) nodes.old nodes.new result }
 {
@@ -31,58 +37,94 @@ pub(crate) fn leaf(text: &[u8], tape: &[u32], from: &Start, nodes: &mut [u32]) -
     let free = from[NODE];
     let count = from[COUNT];
     if count <= at {
-        return Taken::Refused(GRAMMAR, place_at(text, tape, count, at));
+        return Err(Refusal {
+            number: GRAMMAR,
+            place: place_at(text, tape, count, at),
+        });
     }
     let kind = kind_at(tape, at);
     match kind {
         WORD => word(text, tape, from, nodes),
         NUMERAL => numeral(tape, at, free, nodes),
-        NOT | MINUS | OPENING => Taken::Refused(LEVELS_MANY, place_at(text, tape, count, at)),
+        NOT | MINUS | OPENING => Err(Refusal {
+            number: LEVELS_MANY,
+            place: place_at(text, tape, count, at),
+        }),
         COLONS => attribute(text, tape, from, nodes),
-        _ => Taken::Refused(GRAMMAR, place_at(text, tape, count, at)),
+        _ => Err(Refusal {
+            number: GRAMMAR,
+            place: place_at(text, tape, count, at),
+        }),
     }
 }
 
 // A ")" must follow the tree that ends before the node `free`.
-pub(crate) fn close(text: &[u8], tape: &[u32], count: usize, free: usize, at: usize) -> Taken
+pub(crate) fn close(
+    text: &[u8],
+    tape: &[u32],
+    count: usize,
+    free: usize,
+    at: usize,
+) -> Result<Taken, Refusal>
     requires { Sound (tape_of text.now tape.now) count }
     ensures { Closes (length text.now) tape.now count free at result }
 {
     let Next::Is(_) = next_in(tape, count, at, CLOSING, CLOSING) else {
-        return Taken::Refused(GRAMMAR, place_at(text, tape, count, at));
+        return Err(Refusal {
+            number: GRAMMAR,
+            place: place_at(text, tape, count, at),
+        });
     };
-    Taken::Tree(free, at + 1)
+    Ok(Taken {
+        node: free,
+        token: at + 1,
+    })
 }
 
 // The nodes of leaves, each with the token after it.
 
-fn truth_node(tape: &[u32], at: usize, free: usize, truth: bool, nodes: &mut [u32]) -> Taken
+fn truth_node(
+    tape: &[u32],
+    at: usize,
+    free: usize,
+    truth: bool,
+    nodes: &mut [u32],
+) -> Result<Taken, Refusal>
     requires { Fits nodes.old free × Has tape.now at × (at < paper.most_tokens) }
-    ensures { (result ≡ Taken.Tree (free + 1) (at + 1))
+    ensures { (result ≡ taken (free + 1) (at + 1))
         × (nodes.new ≡ sets nodes.old (node_at free) (words free (G.truth (start_at tape.now at) truth))) }
 {
     trees::put_truth(nodes, free, start_at(tape, at), truth);
-    Taken::Tree(free + 1, at + 1)
+    Ok(Taken {
+        node: free + 1,
+        token: at + 1,
+    })
 }
 
-fn key_node(tape: &[u32], at: usize, free: usize, nodes: &mut [u32]) -> Taken
+fn key_node(tape: &[u32], at: usize, free: usize, nodes: &mut [u32]) -> Result<Taken, Refusal>
     requires { Fits nodes.old free × Has tape.now at × (at < paper.most_tokens) }
-    ensures { (result ≡ Taken.Tree (free + 1) (at + 1))
+    ensures { (result ≡ taken (free + 1) (at + 1))
         × (nodes.new ≡ sets nodes.old (node_at free)
         (leaf_words 2 (start_at tape.now at) (start_at tape.now at) (end_at tape.now at) 0 0)) }
 {
     trees::put_key(nodes, free, start_at(tape, at), end_at(tape, at));
-    Taken::Tree(free + 1, at + 1)
+    Ok(Taken {
+        node: free + 1,
+        token: at + 1,
+    })
 }
 
-fn numeral(tape: &[u32], at: usize, free: usize, nodes: &mut [u32]) -> Taken
+fn numeral(tape: &[u32], at: usize, free: usize, nodes: &mut [u32]) -> Result<Taken, Refusal>
     requires { Fits nodes.old free × Has tape.now at × (at < paper.most_tokens) }
-    ensures { (result ≡ Taken.Tree (free + 1) (at + 1))
+    ensures { (result ≡ taken (free + 1) (at + 1))
         × (nodes.new ≡ sets nodes.old (node_at free)
         (words free (G.number (start_at tape.now at) (literal_at tape.now at)))) }
 {
     put_number(tape, nodes, free, at, literal_at(tape, at));
-    Taken::Tree(free + 1, at + 1)
+    Ok(Taken {
+        node: free + 1,
+        token: at + 1,
+    })
 }
 
 // Whether no dot is among some bytes.
@@ -111,7 +153,7 @@ fn is_name(text: &[u8], tape: &[u32], count: usize, at: usize) -> bool
 }
 
 // "::" and a name.
-fn attribute(text: &[u8], tape: &[u32], from: &Start, nodes: &mut [u32]) -> Taken
+fn attribute(text: &[u8], tape: &[u32], from: &Start, nodes: &mut [u32]) -> Result<Taken, Refusal>
     requires { Leads (tape_of text.now tape.now) (length nodes.old) (start_of from.now) }
     ensures { Begins (λ T n at. G.named (G.attribute (place_on T at)) (past T n at))
         (tape_of text.now tape.now) (start_of from.now) nodes.old nodes.new result }
@@ -120,14 +162,20 @@ fn attribute(text: &[u8], tape: &[u32], from: &Start, nodes: &mut [u32]) -> Take
     let free = from[NODE];
     let count = from[COUNT];
     if !is_name(text, tape, count, at + 1) {
-        return Taken::Refused(GRAMMAR, place_at(text, tape, count, at + 1));
+        return Err(Refusal {
+            number: GRAMMAR,
+            place: place_at(text, tape, count, at + 1),
+        });
     }
     put_attribute(tape, nodes, free, at, at + 1);
-    Taken::Tree(free + 1, at + 2)
+    Ok(Taken {
+        node: free + 1,
+        token: at + 2,
+    })
 }
 
 // A word: a truth, or what a key begins.
-fn word(text: &[u8], tape: &[u32], from: &Start, nodes: &mut [u32]) -> Taken
+fn word(text: &[u8], tape: &[u32], from: &Start, nodes: &mut [u32]) -> Result<Taken, Refusal>
     requires { Worded (tape_of text.now tape.now) (length nodes.old) (start_of from.now) }
     ensures { Begins (λ T n at. G.worded address (place_on T at) (word_on T at) (past T n at))
         (tape_of text.now tape.now) (start_of from.now) nodes.old nodes.new result }
@@ -145,7 +193,7 @@ fn word(text: &[u8], tape: &[u32], from: &Start, nodes: &mut [u32]) -> Taken
 }
 
 // A key, or one with "::" and its field, or an address.
-fn keyed(text: &[u8], tape: &[u32], from: &Start, nodes: &mut [u32]) -> Taken
+fn keyed(text: &[u8], tape: &[u32], from: &Start, nodes: &mut [u32]) -> Result<Taken, Refusal>
     requires { Worded (tape_of text.now tape.now) (length nodes.old) (start_of from.now) }
     ensures { Begins (λ T n at. G.keyed address (place_on T at) (word_on T at) (past T n at))
         (tape_of text.now tape.now) (start_of from.now) nodes.old nodes.new result }
@@ -166,7 +214,7 @@ fn keyed(text: &[u8], tape: &[u32], from: &Start, nodes: &mut [u32]) -> Taken
 }
 
 // The name after a key and its "::".
-fn field(text: &[u8], tape: &[u32], from: &Start, nodes: &mut [u32]) -> Taken
+fn field(text: &[u8], tape: &[u32], from: &Start, nodes: &mut [u32]) -> Result<Taken, Refusal>
     requires { Worded (tape_of text.now tape.now) (length nodes.old) (start_of from.now) }
     ensures { Begins (λ T n at. G.named (G.field (place_on T at) (word_on T at)) (onward T n (at + 2)))
         (tape_of text.now tape.now) (start_of from.now) nodes.old nodes.new result }
@@ -175,14 +223,26 @@ fn field(text: &[u8], tape: &[u32], from: &Start, nodes: &mut [u32]) -> Taken
     let free = from[NODE];
     let count = from[COUNT];
     if !is_name(text, tape, count, at + 2) {
-        return Taken::Refused(GRAMMAR, place_at(text, tape, count, at + 2));
+        return Err(Refusal {
+            number: GRAMMAR,
+            place: place_at(text, tape, count, at + 2),
+        });
     }
     put_field(tape, nodes, free, at, at + 2);
-    Taken::Tree(free + 1, at + 3)
+    Ok(Taken {
+        node: free + 1,
+        token: at + 3,
+    })
 }
 
 // The string and the ")" after the word of an address and its "(".
-fn addressed(text: &[u8], tape: &[u32], scheme: Scheme, from: &Start, nodes: &mut [u32]) -> Taken
+fn addressed(
+    text: &[u8],
+    tape: &[u32],
+    scheme: Scheme,
+    from: &Start,
+    nodes: &mut [u32],
+) -> Result<Taken, Refusal>
     requires { Leads (tape_of text.now tape.now) (length nodes.old) (start_of from.now) }
     ensures { Begins (λ T n at. G.addressed address (addressed.scheme scheme) (place_on T at) (onward T n (at + 2)))
         (tape_of text.now tape.now) (start_of from.now) nodes.old nodes.new result }
@@ -192,11 +252,17 @@ fn addressed(text: &[u8], tape: &[u32], scheme: Scheme, from: &Start, nodes: &mu
     let count = from[COUNT];
     let quote = at + 2;
     let Next::Is(_) = next_in(tape, count, quote, STRING, STRING) else {
-        return Taken::Refused(GRAMMAR, place_at(text, tape, count, quote));
+        return Err(Refusal {
+            number: GRAMMAR,
+            place: place_at(text, tape, count, quote),
+        });
     };
     let read = addresses::read(scheme, string_at(text, tape, quote));
     if !read.ok {
-        return Taken::Refused(ADDRESS, place_at(text, tape, count, quote));
+        return Err(Refusal {
+            number: ADDRESS,
+            place: place_at(text, tape, count, quote),
+        });
     }
     let number = read.number;
     // "address numerals stay decimal"

@@ -18,28 +18,26 @@ ghost use Rattle.tokens.specs.Tokenized.{Sound};
 ghost use Rattle.grammar.specs.Places.{node_words};
 ghost use Rattle.grammar.specs.Reading.{Parses};
 
-use crate::steps::{Rung, Taken};
-use paper::{Counted, refused};
+use crate::steps::Rung;
+use paper::{Refusal, refused};
 
 // How many levels may be open.
 const LEVELS: usize = 64;
 
 // The number of nodes, of which the last is the root; or a refusal.
-pub fn parse(text: &[u8], tape: &[u32], count: usize, nodes: &mut [u32]) -> Counted
+pub fn parse(text: &[u8], tape: &[u32], count: usize, nodes: &mut [u32]) -> Result<usize, Refusal>
     requires sound { Sound (tape_of text.now tape.now) count }
     requires node_words_in_bounds { count * node_words ≤ length nodes.old }
     ensures { Parses (tape_of text.now tape.now) count nodes.old nodes.new result }
 {
     // at the first token and the first node
     let from = [count, LEVELS, 0, 0];
-    let all = ladder::chain(text, tape, Rung::Whole, &from, nodes);
-    match all {
-        Taken::Refused(number, place) => Counted::Refused(number, place),
-        Taken::Tree(free, at) => {
-            if at < count {
-                return Counted::Refused(refused::GRAMMAR, tape::place_at(text, tape, count, at));
-            }
-            Counted::Count(free)
-        }
+    let read = ladder::chain(text, tape, Rung::Whole, &from, nodes)?;
+    if read.token < count {
+        return Err(Refusal {
+            number: refused::GRAMMAR,
+            place: tape::place_at(text, tape, count, read.token),
+        });
     }
+    Ok(read.node)
 }

@@ -1,6 +1,6 @@
 // The check of a whole key list, by what is asked of each record.
 ghost use Rattle.std.specs.Prelude.{◌≡◌, length};
-ghost use Rattle.paper.specs.Answers.{counted_says};
+ghost use Rattle.paper.specs.Answers.{says};
 ghost use Rattle.paper.specs.Keys.{record_size};
 ghost use Rattle.paper.specs.Drafting.{name_rule};
 ghost use Rattle.keys.specs.Says.{rule_meant, count_by, key_count, name_count};
@@ -8,7 +8,7 @@ ghost use Rattle.keys.specs.Says.{rule_meant, count_by, key_count, name_count};
 use crate::find::Found;
 use crate::record::KeyRecord;
 use crate::{find, record};
-use paper::{Counted, Place, kinds, refused};
+use paper::{Place, Refusal, kinds, refused};
 
 // What is asked of a record before its name is compared.
 #[derive(Clone, Copy)]
@@ -51,41 +51,53 @@ fn keeps(rule: Rule, k: usize, key: &[u8]) -> bool
     }
 }
 
-fn check_by(rule: Rule, list: &[u8]) -> Counted
-    ensures { counted_says result ≡ count_by (rule_meant rule) list.now }
+fn check_by(rule: Rule, list: &[u8]) -> Result<usize, Refusal>
+    ensures { says result ≡ count_by (rule_meant rule) list.now }
 {
     let size = list.len();
     if size % KeyRecord::SIZE != 0 {
-        return Counted::Refused(refused::LIST_LENGTH, Place::List(size));
+        return Err(Refusal {
+            number: refused::LIST_LENGTH,
+            place: Place::List(size),
+        });
     }
     if KeyRecord::MOST * KeyRecord::SIZE < size {
-        return Counted::Refused(refused::LIST_LENGTH, Place::List(size));
+        return Err(Refusal {
+            number: refused::LIST_LENGTH,
+            place: Place::List(size),
+        });
     }
     let n = size / KeyRecord::SIZE;
     let mut k = 0;
     while k < n {
         let key = record::record_at(list, k);
         if !keeps(rule, k, key) {
-            return Counted::Refused(refused::KEY_LAYOUT, Place::List(k * KeyRecord::SIZE));
+            return Err(Refusal {
+                number: refused::KEY_LAYOUT,
+                place: Place::List(k * KeyRecord::SIZE),
+            });
         }
         let Found::Nothing = find::find_among(list, k, record::name_of(key)) else {
-            return Counted::Refused(refused::KEY_REPEATED, Place::List(k * KeyRecord::SIZE));
+            return Err(Refusal {
+                number: refused::KEY_REPEATED,
+                place: Place::List(k * KeyRecord::SIZE),
+            });
         };
         k += 1;
     }
-    Counted::Count(n)
+    Ok(n)
 }
 
 // How many keys a list holds, or its refusal, 2, 3 or 4.
-pub fn check_list(list: &[u8]) -> Counted
-    ensures { counted_says result ≡ key_count list.now }
+pub fn check_list(list: &[u8]) -> Result<usize, Refusal>
+    ensures { says result ≡ key_count list.now }
 {
     check_by(Rule::Layout, list)
 }
 
 // The same of a list that names the inputs of a contract.
-pub fn check_names(list: &[u8]) -> Counted
-    ensures { counted_says result ≡ name_count list.now }
+pub fn check_names(list: &[u8]) -> Result<usize, Refusal>
+    ensures { says result ≡ name_count list.now }
 {
     check_by(Rule::Input, list)
 }

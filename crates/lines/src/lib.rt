@@ -13,10 +13,7 @@ mod tables;
 
 ghost use Rattle.std.specs.Prelude.{◌≡◌, ◌-◌, ◌<◌, take};
 
-use paper::{
-    Agreement, Checking, Counting, Drafting, Explanation, Fixing, Judgement, Loading, Place,
-    Printing, Reading, Rechecking, Running, RunningAll, Summarizing, Translation,
-};
+use paper::{Agreement, Counted, Ended, Explanation, Judgement, Place, RanAll, Rechecking, Refusal, Summary, Verdict};
 use std::io;
 pub use tables::{KEPT, NUMBER, first, kept, numbers};
 
@@ -62,97 +59,106 @@ fn say_refused(rt: &impl Print, number: u8, place: Place) -> io::Result<()> {
 }
 
 // Writes what `read` answered.
-pub fn say_reading(rt: &impl Print, reading: Reading) -> io::Result<()> {
+pub fn say_reading(rt: &impl Print, reading: Result<usize, Refusal>) -> io::Result<()> {
     match reading {
-        Reading::Read(n) => say_count(rt, b"read ", n),
-        Reading::Refused(number, place) => say_refused(rt, number, place),
+        Ok(n) => say_count(rt, b"read ", n),
+        Err(refusal) => say_refused(rt, number, place),
     }
 }
 
 // Writes what `check` answered.
-pub fn say_checking(rt: &impl Print, checking: Checking) -> io::Result<()> {
+pub fn say_checking(rt: &impl Print, checking: Result<(), Refusal>) -> io::Result<()> {
     match checking {
-        Checking::Passed => say(rt, b"passed"),
-        Checking::Refused(number, place) => say_refused(rt, number, place),
+        Ok(()) => say(rt, b"passed"),
+        Err(refusal) => say_refused(rt, number, place),
     }
 }
 
 // Writes what `judge` answered.
 pub fn say_judgement(rt: &impl Print, judgement: Judgement) -> io::Result<()> {
     match judgement {
-        Judgement::Accepted => say(rt, b"accepted"),
-        Judgement::Violated => say(rt, b"violated"),
-        Judgement::Refused(number, place) => say_refused(rt, number, place),
+        Ok(Verdict::Accepted) => say(rt, b"accepted"),
+        Ok(Verdict::Violated) => say(rt, b"violated"),
+        Err(refusal) => say_refused(rt, number, place),
     }
 }
 
 // Writes what `translate` answered.
-pub fn say_translation(rt: &impl Print, translation: Translation) -> io::Result<()> {
+pub fn say_translation(rt: &impl Print, translation: Result<usize, Refusal>) -> io::Result<()> {
     match translation {
-        Translation::Written(n) => say_count(rt, b"translated ", n),
-        Translation::Refused(number, place) => say_refused(rt, number, place),
+        Ok(n) => say_count(rt, b"translated ", n),
+        Err(refusal) => say_refused(rt, number, place),
     }
 }
 
 // Writes what `load` answered.
-pub fn say_loading(rt: &impl Print, loading: Loading) -> io::Result<()> {
+pub fn say_loading(rt: &impl Print, loading: Result<usize, Refusal>) -> io::Result<()> {
     match loading {
-        Loading::Loaded(n) => say_count(rt, b"loaded ", n),
-        Loading::Refused(number, place) => say_refused(rt, number, place),
+        Ok(n) => say_count(rt, b"loaded ", n),
+        Err(refusal) => say_refused(rt, number, place),
     }
 }
 
 // Writes what `run` answered, with the steps that it took.
-pub fn say_running(rt: &impl Print, running: Running) -> io::Result<()> {
+pub fn say_running(rt: &impl Print, running: Result<Ended, Refusal>) -> io::Result<()> {
     match running {
-        Running::Accepted(steps) => say_count(rt, b"accepted ", steps),
-        Running::Violated(steps) => say_count(rt, b"violated ", steps),
-        Running::Refused(number, place) => say_refused(rt, number, place),
+        Ok(Ended {
+verdict: Verdict::Accepted,
+steps: steps,
+}) => say_count(rt, b"accepted ", steps),
+        Ok(Ended {
+verdict: Verdict::Violated,
+steps: steps,
+}) => say_count(rt, b"violated ", steps),
+        Err(refusal) => say_refused(rt, number, place),
     }
 }
 
 // Writes what `run_all` answered: how many entries there are, and the steps of all of them.
-pub fn say_running_all(rt: &impl Print, running: RunningAll) -> io::Result<()> {
+pub fn say_running_all(rt: &impl Print, running: Result<RanAll, Refusal>) -> io::Result<()> {
     match running {
-        RunningAll::Ran(entries, steps) => {
+        Ok(RanAll {
+entries: entries,
+steps: steps,
+}) => {
             say_count(rt, b"ran ", entries)?;
             say(rt, b" ")?;
             say_number(rt, steps)
         }
-        RunningAll::Refused(number, place) => say_refused(rt, number, place),
+        Err(refusal) => say_refused(rt, number, place),
     }
 }
 
 // Writes what `print` answered.
-pub fn say_printing(rt: &impl Print, printing: Printing) -> io::Result<()> {
+pub fn say_printing(rt: &impl Print, printing: Result<usize, Refusal>) -> io::Result<()> {
     match printing {
-        Printing::Printed(n) => say_count(rt, b"printed ", n),
-        Printing::Refused(number, place) => say_refused(rt, number, place),
+        Ok(n) => say_count(rt, b"printed ", n),
+        Err(refusal) => say_refused(rt, number, place),
     }
 }
 
 // Writes what `fix_octal` answered.
-pub fn say_fixing(rt: &impl Print, fixing: Fixing) -> io::Result<()> {
+pub fn say_fixing(rt: &impl Print, fixing: Result<usize, Refusal>) -> io::Result<()> {
     match fixing {
-        Fixing::Fixed(n) => say_count(rt, b"fixed ", n),
-        Fixing::Refused(number, place) => say_refused(rt, number, place),
+        Ok(n) => say_count(rt, b"fixed ", n),
+        Err(refusal) => say_refused(rt, number, place),
     }
 }
 
 // Writes what `pact` answered.
-pub fn say_drafting(rt: &impl Print, drafting: Drafting) -> io::Result<()> {
+pub fn say_drafting(rt: &impl Print, drafting: Result<usize, Refusal>) -> io::Result<()> {
     match drafting {
-        Drafting::Drafted(n) => say_count(rt, b"drafted ", n),
-        Drafting::Refused(number, place) => say_refused(rt, number, place),
+        Ok(n) => say_count(rt, b"drafted ", n),
+        Err(refusal) => say_refused(rt, number, place),
     }
 }
 
 // Writes what `compare` answered.
-pub fn say_agreement(rt: &impl Print, agreement: Agreement) -> io::Result<()> {
+pub fn say_agreement(rt: &impl Print, agreement: Result<Agreement, Refusal>) -> io::Result<()> {
     match agreement {
-        Agreement::Agrees => say(rt, b"agrees"),
-        Agreement::Differs => say(rt, b"differs"),
-        Agreement::Refused(number, place) => say_refused(rt, number, place),
+        Ok(Agreement::Agrees) => say(rt, b"agrees"),
+        Ok(Agreement::Differs) => say(rt, b"differs"),
+        Err(refusal) => say_refused(rt, number, place),
     }
 }
 
@@ -197,14 +203,17 @@ fn say_mark(rt: &impl Print, marked: bool) -> io::Result<()> {
 }
 
 // Writes what `summarize` answered: the set of the keys that are named as a number, and 1 where ::priority is, else 0.
-pub fn say_summarizing(rt: &impl Print, summarizing: Summarizing) -> io::Result<()> {
+pub fn say_summarizing(rt: &impl Print, summarizing: Result<Summary, Refusal>) -> io::Result<()> {
     match summarizing {
-        Summarizing::Summary(keys, priority) => {
+        Ok(Summary {
+keys: keys,
+priority: priority,
+}) => {
             say(rt, b"summary ")?;
             say_number(rt, keys as u64)?;
             say_mark(rt, priority)
         }
-        Summarizing::Refused(number, place) => say_refused(rt, number, place),
+        Err(refusal) => say_refused(rt, number, place),
     }
 }
 
@@ -234,17 +243,23 @@ fn say_each(rt: &impl Print, numbers: &[u64]) -> io::Result<()> {
 // Writes what `count` answered, with the numbers of the parts, which are the first of those that were lent.
 pub fn say_counting(
     rt: &impl Print,
-    counting: Counting,
+    counting: Result<Counted, Refusal>,
     numbers: &[u64; parts::MOST_PARTS],
 ) -> io::Result<()> {
     match counting {
-        Counting::Counted(n, accepted, violated, refused, cut) => {
+        Ok(Counted {
+parts: n,
+accepted: accepted,
+violated: violated,
+refused: refused,
+cut: cut,
+}) => {
             let totals = [accepted, violated, refused, cut as u64];
             say(rt, b"counted")?;
             say_each(rt, &totals)?;
             say_each(rt, first(numbers, n))
         }
-        Counting::Refused(number, place) => say_refused(rt, number, place),
+        Err(refusal) => say_refused(rt, number, place),
     }
 }
 

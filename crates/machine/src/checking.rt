@@ -1,7 +1,7 @@
 // The load check: the types are followed, and each skip's landing is held to what its skip leaves.
 ghost use Rattle.std.specs.Prelude.{◌≡◌, ◌*◌, ◌^◌, ◌<◌, ◌≤◌, List, length};
 ghost use Rattle.paper.specs.Keys.{Key};
-ghost use Rattle.paper.specs.Answers.{refused, in_blocks, checking_says};
+ghost use Rattle.paper.specs.Answers.{refused, in_blocks, says};
 ghost use Rattle.paper.specs.Blocks.{in_block, most_blocks, blocks_in};
 ghost use Rattle.paper.specs.Loading.{instruction_at, instructions_from, types_along, load_check};
 ghost use Rattle.keys.specs.Says.{keys_in};
@@ -10,7 +10,7 @@ ghost use Rattle.machine.specs.Following.{Followed, Fitted};
 use crate::decoding::{over_at, place_of};
 use crate::following::{ONE_BOOL, follow};
 use blocks::Block;
-use paper::{Checking, Place, refused};
+use paper::{Place, Refusal, refused};
 
 // A mark for each point of code that is short, as most is: these are soon cleared.
 const FEW_MARKS: usize = 256;
@@ -18,11 +18,14 @@ const FEW_MARKS: usize = 256;
 // And of as much code as blocks can hold.
 const ALL_MARKS: usize = Block::MOST * Block::INSTRUCTIONS + 1;
 
-fn refused_at(i: usize) -> Checking
+fn refused_at(i: usize) -> Result<(), Refusal>
     requires { instruction_at i < 2 ^ 64 }
-    ensures { checking_says result ≡ refused 18 in_blocks (instruction_at i) }
+    ensures { says result ≡ refused 18 in_blocks (instruction_at i) }
 {
-    Checking::Refused(refused::INSTRUCTION, Place::Blocks(place_of(i)))
+    Err(Refusal {
+number: refused::INSTRUCTION,
+place: Place::Blocks(place_of(i)),
+})
 }
 
 // The number of the first instruction before `upto` whose landing does not fit, or `upto`. A landing past it is not compared. An instruction
@@ -46,9 +49,9 @@ fn misfit(blocks: &[u8], n: usize, upto: usize, marks: &[u32]) -> usize
 }
 
 // The load check, with room for a mark at each point.
-fn check_marking(list: &[u8], blocks: &[u8], n: usize, marks: &mut [u32]) -> Checking
+fn check_marking(list: &[u8], blocks: &[u8], n: usize, marks: &mut [u32]) -> Result<(), Refusal>
     requires { (n ≤ in_block * blocks_in blocks.now) × (n < length marks.old) }
-    ensures { checking_says result ≡ load_check (length blocks.now) (types_along (keys_in list.now) (instructions_from blocks.now 0 n)) }
+    ensures { says result ≡ load_check (length blocks.now) (types_along (keys_in list.now) (instructions_from blocks.now 0 n)) }
 {
     let upto = follow(list, blocks, n, marks);
     let at = misfit(blocks, n, upto, marks);
@@ -56,15 +59,18 @@ fn check_marking(list: &[u8], blocks: &[u8], n: usize, marks: &mut [u32]) -> Che
         return refused_at(at);
     }
     if marks[n] == ONE_BOOL {
-        return Checking::Passed;
+        return Ok(());
     }
-    Checking::Refused(refused::INSTRUCTION, Place::Blocks(blocks.len()))
+    Err(Refusal {
+number: refused::INSTRUCTION,
+place: Place::Blocks(blocks.len()),
+})
 }
 
 // Whether the first n instructions of blocks pass the load check against a key list, or refusal 18.
-pub fn check_code(list: &[u8], blocks: &[u8], n: usize) -> Checking
+pub fn check_code(list: &[u8], blocks: &[u8], n: usize) -> Result<(), Refusal>
     requires { (n ≤ in_block * blocks_in blocks.now) × (n ≤ in_block * most_blocks) }
-    ensures { checking_says result ≡ load_check (length blocks.now) (types_along (keys_in list.now) (instructions_from blocks.now 0 n)) }
+    ensures { says result ≡ load_check (length blocks.now) (types_along (keys_in list.now) (instructions_from blocks.now 0 n)) }
 {
     if n < FEW_MARKS {
         let mut few = [0u32; FEW_MARKS];

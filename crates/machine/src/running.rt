@@ -16,7 +16,7 @@ use crate::decoding::loaded_at;
 use crate::holding::{MOST_HELD, below};
 use crate::instruction::{Op, narrow, takes};
 use operands::{bare_cell, field_cell, priority_cell};
-use paper::Checking;
+
 use values::Cell;
 
 // What is told of an entry, in a byte.
@@ -38,8 +38,8 @@ fn enters(list: &[u8], entry: &[u8]) -> bool
     ensures { result ≡ passes (conforms (keys_in list.now) entry.now) }
 {
     match keys::check_entry(list, entry) {
-        Checking::Passed => true,
-        Checking::Refused(_, _) => false,
+        Ok(()) => true,
+        Err(_) => false,
     }
 }
 

@@ -4,7 +4,7 @@ use crate::writing::write_argument;
 use blocks::Block;
 use files::read_argument;
 use lines::{say, start};
-use paper::{Agreement, Checking, Fixing, Loading, Place, Printing, Summarizing, Translation};
+use paper::{Agreement, Place, Summary};
 use std::env::Env;
 use std::io;
 use std::rt::Files;
@@ -65,8 +65,8 @@ fn check(
     list_size: usize,
 ) -> io::Result<()> {
     match valve::check(text, list) {
-        Checking::Passed => passed(rt, call, text, list),
-        Checking::Refused(number, place) => {
+        Ok(()) => passed(rt, call, text, list),
+        Err(refusal) => {
             refused(rt, number, place, text, list, text_size, list_size)
         }
     }
@@ -80,8 +80,11 @@ fn summarize(
     list_size: usize,
 ) -> io::Result<()> {
     match valve::summarize(text, list) {
-        Summarizing::Summary(keys, priority) => say_summary(rt, list, keys, priority),
-        Summarizing::Refused(number, place) => {
+        Ok(Summary {
+keys: keys,
+priority: priority,
+}) => say_summary(rt, list, keys, priority),
+        Err(refusal) => {
             refused(rt, number, place, text, list, text_size, list_size)
         }
     }
@@ -117,8 +120,8 @@ fn translate(
 ) -> io::Result<()> {
     let mut buffer = [0u8; 65536];
     match valve::translate(text, list, &mut buffer) {
-        Translation::Written(n) => translated(rt, n, &buffer),
-        Translation::Refused(number, place) => {
+        Ok(n) => translated(rt, n, &buffer),
+        Err(refusal) => {
             refused(rt, number, place, text, list, text_size, list_size)
         }
     }
@@ -153,9 +156,9 @@ fn compare(
     }
     let blocks = start(&room, file.held);
     match valve::compare(text, list, blocks) {
-        Agreement::Agrees => agrees(rt),
-        Agreement::Differs => differs(rt),
-        Agreement::Refused(number, place) => match place {
+        Ok(Agreement::Agrees) => agrees(rt),
+        Ok(Agreement::Differs) => differs(rt),
+        Err(refusal) => match place {
             Place::Blocks(_) => refused(rt, number, place, blocks, list, file.size, list_size),
             _ => refused(rt, number, place, text, list, text_size, list_size),
         },
@@ -191,8 +194,8 @@ fn load(
     blocks_size: usize,
 ) -> io::Result<()> {
     match valve::load(list, blocks) {
-        Loading::Loaded(n) => loaded(rt, call, n, list, blocks),
-        Loading::Refused(number, place) => {
+        Ok(n) => loaded(rt, call, n, list, blocks),
+        Err(refusal) => {
             refused(rt, number, place, blocks, list, blocks_size, list_size)
         }
     }
@@ -246,12 +249,12 @@ const MOST_PRINT: usize = 4096;
 fn print_text(rt: &impl Print, text: &[u8], size: usize) -> io::Result<()> {
     let mut buffer = [0u8; MOST_PRINT];
     match valve::print(text, &mut buffer) {
-        Printing::Printed(n) => {
+        Ok(n) => {
             say_count(rt, b"printed # byte:\n", b"printed # bytes:\n", n)?;
             say(rt, start(&buffer, n))?;
             say(rt, b"\n")
         }
-        Printing::Refused(number, place) => refused(rt, number, place, text, b"", size, 0),
+        Err(refusal) => refused(rt, number, place, text, b"", size, 0),
     }
 }
 
@@ -280,8 +283,8 @@ fn fixed(rt: &(impl Files + Env + Print + Eprint), text: &[u8], made: &[u8]) -> 
 fn fix_text(rt: &(impl Files + Env + Print + Eprint), text: &[u8], size: usize) -> io::Result<()> {
     let mut buffer = [0u8; 4096];
     match valve::fix_octal(text, &mut buffer) {
-        Fixing::Fixed(n) => fixed(rt, text, start(&buffer, n)),
-        Fixing::Refused(number, place) => refused(rt, number, place, text, b"", size, 0),
+        Ok(n) => fixed(rt, text, start(&buffer, n)),
+        Err(refusal) => refused(rt, number, place, text, b"", size, 0),
     }
 }
 

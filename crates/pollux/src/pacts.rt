@@ -4,7 +4,7 @@ use crate::writing::write_argument;
 use files::{read_argument, true_offset};
 use keys::KeyRecord;
 use lines::{say, start};
-use paper::{Drafting, Place, refused};
+use paper::{Place, refused};
 use std::env::Env;
 use std::io;
 use std::rt::Files;
@@ -72,8 +72,8 @@ fn draft(
 ) -> io::Result<()> {
     let mut buffer = [0u8; 4096];
     match valve::pact(contract, table, names, &mut buffer) {
-        Drafting::Drafted(n) => drafted(rt, start(&buffer, n)),
-        Drafting::Refused(number, place) => match place {
+        Ok(n) => drafted(rt, start(&buffer, n)),
+        Err(refusal) => match place {
             Place::Contract(at) => {
                 say_two(rt, b"refused #: contract, byte #: ", number as usize, at)?;
                 say_why(rt, contract, at, names.len() / KeyRecord::SIZE, table.len())

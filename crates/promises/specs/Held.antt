@@ -1,17 +1,11 @@
 -- Demand 3 for one text, list, entry and buffer, of what the real calls answered.
-use Rattle.std.specs.Prelude.{ℕ, ◌≡◌, List}
+use Rattle.std.specs.Prelude.{ℕ, ◌≡◌, List, Result, Ok}
+use Rattle.paper.specs.declared.Refusal.{Refusal}
+use Rattle.paper.specs.declared.Ended.{Ended}
+use Rattle.paper.specs.declared.RanAll.{RanAll}
+use Rattle.paper.specs.declared.Counted.{Counted}
 use Rattle.paper.specs.declared.Place.{Place}
-use Rattle.paper.specs.declared.Judgement.{Judgement}
-use Rattle.paper.specs.declared.Translation.{Translation}
-use Rattle.paper.specs.declared.Translation.TheVariants as T
-use Rattle.paper.specs.declared.Loading.{Loading}
-use Rattle.paper.specs.declared.Running.{Running}
-use Rattle.paper.specs.declared.Printing.{Printing}
-use Rattle.paper.specs.declared.Fixing.{Fixing}
-use Rattle.paper.specs.declared.Drafting.{Drafting}
-use Rattle.paper.specs.declared.Counting.{Counting}
-use Rattle.paper.specs.declared.RunningAll.{RunningAll}
-use Rattle.paper.specs.Answers.{running_says}
+use Rattle.paper.specs.Answers.{running_says, refusal, Judgement}
 use Rattle.paper.specs.TranslationCorrect.{judged_in_steps}
 use Rattle.paper.specs.Promised.{judgement_of_run, JudgePromised, TranslateResult, TranslatePromised, LoadPromised, RunPromised, PrintResult, FixResult, DraftResult, CountResult, RunAllResult}
 use Rattle.paper.specs.Demands.{TranslateAnswered, blocks_written, Carried}
@@ -19,33 +13,33 @@ use Rattle.promises.specs.declared.calls.Carrying.{Carrying}
 use Rattle.promises.specs.declared.calls.Carrying.TheVariants as W
 
 -- an answer of `translate`, and what the buffer holds at its exit
-abbrev pub gave : Translation → List ℕ → TranslateResult
+abbrev pub gave : Result ℕ Refusal → List ℕ → TranslateResult
 gave r exit = record { answer = r; buffer = exit }
 
 -- the same of `print`
-abbrev pub lent : Printing → List ℕ → PrintResult
+abbrev pub lent : Result ℕ Refusal → List ℕ → PrintResult
 lent r exit = record { answer = r; buffer = exit }
 
 -- and of `fix_octal`
-abbrev pub fixed_to : Fixing → List ℕ → FixResult
+abbrev pub fixed_to : Result ℕ Refusal → List ℕ → FixResult
 fixed_to r exit = record { answer = r; buffer = exit }
 
 -- and of `pact`
-abbrev pub drafted_to : Drafting → List ℕ → DraftResult
+abbrev pub drafted_to : Result ℕ Refusal → List ℕ → DraftResult
 drafted_to r exit = record { answer = r; buffer = exit }
 
 -- an answer of `count`, and what the numbers of the parts are at its exit
-abbrev pub counted_to : Counting → List ℕ → CountResult
+abbrev pub counted_to : Result Counted Refusal → List ℕ → CountResult
 counted_to r exit = record { answer = r; numbers = exit }
 
 -- an answer of `run_all`, and what the answers are at its exit
-abbrev pub ran_over : RunningAll → List ℕ → RunAllResult
+abbrev pub ran_over : Result RanAll Refusal → List ℕ → RunAllResult
 ran_over r exit = record { answer = r; bytes = exit }
 
 -- each answer keeps its call's promise; the blocks load with the number returned, and say of the entry what the text says, in the steps that
 -- are counted over its tree
-pub record Held (text list entry buffer exit : List ℕ) (n : ℕ) (loaded : Loading) (ran : Running) (judged : Judgement) : Type 0 where
-  pub translate : TranslatePromised text list buffer (gave (T.Written n) exit)
+pub record Held (text list entry buffer exit : List ℕ) (n : ℕ) (loaded : Result ℕ Refusal) (ran : Result Ended Refusal) (judged : Judgement) : Type 0 where
+  pub translate : TranslatePromised text list buffer (gave (Ok n) exit)
   pub load : LoadPromised list (blocks_written n exit) loaded
   pub run : RunPromised list (blocks_written n exit) entry ran
   pub judge : JudgePromised text list entry judged
@@ -54,5 +48,5 @@ pub record Held (text list entry buffer exit : List ℕ) (n : ℕ) (loaded : Loa
   pub steps : running_says ran ≡ judged_in_steps text list entry
 
 abbrev pub Carries : List ℕ → List ℕ → List ℕ → List ℕ → List ℕ → Carrying → Type 0
-Carries text list entry buffer exit (W.Refused n at) = TranslateAnswered text list buffer (gave (T.Refused n at) exit)
+Carries text list entry buffer exit (W.Refused n at) = TranslateAnswered text list buffer (gave (refusal n at) exit)
 Carries text list entry buffer exit (W.Written n loaded ran judged) = Held text list entry buffer exit n loaded ran judged

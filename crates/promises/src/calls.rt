@@ -4,16 +4,13 @@ ghost use Rattle.paper.specs.Demands.{ReadAnswered, ReadRight, CheckAnswered, Ch
 ghost use Rattle.promises.specs.Held.{gave, lent, fixed_to, drafted_to, counted_to, ran_over, Carries};
 
 use blocks::Block;
-use paper::{
-    Agreement, Checking, Counting, Drafting, Explanation, Fixing, Judgement, Loading, Place,
-    Printing, Reading, Rechecking, Running, RunningAll, Summarizing, Translation,
-};
+use paper::{Agreement, Counted, Ended, Explanation, Judgement, Place, RanAll, Rechecking, Refusal, Summary};
 
 // The most parts that a text has: as many numbers are lent to `count`.
 const MOST_PARTS: usize = 512;
 
 // Demands 1 and 2 of `read`.
-pub fn read(text: &[u8]) -> Reading
+pub fn read(text: &[u8]) -> Result<usize, Refusal>
     ensures read_answered { ReadAnswered text.now result }
     ensures read_right { ReadRight text.now result }
 {
@@ -21,7 +18,7 @@ pub fn read(text: &[u8]) -> Reading
 }
 
 // Demands 1 and 2 of `check`.
-pub fn check(text: &[u8], list: &[u8]) -> Checking
+pub fn check(text: &[u8], list: &[u8]) -> Result<(), Refusal>
     ensures check_answered { CheckAnswered text.now list.now result }
     ensures checked_right { CheckedRight text.now list.now result }
 {
@@ -37,7 +34,7 @@ pub fn judge(text: &[u8], list: &[u8], entry: &[u8]) -> Judgement
 }
 
 // Demands 1 and 2 of `translate`.
-pub fn translate(text: &[u8], list: &[u8], buffer: &mut [u8]) -> Translation
+pub fn translate(text: &[u8], list: &[u8], buffer: &mut [u8]) -> Result<usize, Refusal>
     ensures translate_answered { TranslateAnswered text.now list.now buffer.old (gave result buffer.new) }
     ensures translated_right { TranslatedRight text.now list.now buffer.old (gave result buffer.new) }
 {
@@ -45,14 +42,14 @@ pub fn translate(text: &[u8], list: &[u8], buffer: &mut [u8]) -> Translation
 }
 
 // Demand 1 of `load`.
-pub fn load(list: &[u8], blocks: &[u8]) -> Loading
+pub fn load(list: &[u8], blocks: &[u8]) -> Result<usize, Refusal>
     ensures { LoadAnswered list.now blocks.now result }
 {
     valve::load(list, blocks)
 }
 
 // Demands 1 and 2 of `run`.
-pub fn run(list: &[u8], blocks: &[u8], entry: &[u8]) -> Running
+pub fn run(list: &[u8], blocks: &[u8], entry: &[u8]) -> Result<Ended, Refusal>
     ensures run_answered { RunAnswered list.now blocks.now entry.now result }
     ensures ran_right { RanRight list.now blocks.now entry.now result }
 {
@@ -60,7 +57,7 @@ pub fn run(list: &[u8], blocks: &[u8], entry: &[u8]) -> Running
 }
 
 // Demands 1 and 2 of `print`.
-pub fn print(text: &[u8], buffer: &mut [u8]) -> Printing
+pub fn print(text: &[u8], buffer: &mut [u8]) -> Result<usize, Refusal>
     ensures print_answered { PrintAnswered text.now buffer.old (lent result buffer.new) }
     ensures printed_right { PrintedRight text.now buffer.old (lent result buffer.new) }
 {
@@ -68,7 +65,7 @@ pub fn print(text: &[u8], buffer: &mut [u8]) -> Printing
 }
 
 // Demands 1 and 2 of `fix_octal`.
-pub fn fix_octal(text: &[u8], buffer: &mut [u8]) -> Fixing
+pub fn fix_octal(text: &[u8], buffer: &mut [u8]) -> Result<usize, Refusal>
     ensures fix_answered { FixAnswered text.now buffer.old (fixed_to result buffer.new) }
     ensures fixes_right { FixesRight text.now buffer.old (fixed_to result buffer.new) }
 {
@@ -76,7 +73,7 @@ pub fn fix_octal(text: &[u8], buffer: &mut [u8]) -> Fixing
 }
 
 // Demands 1 and 2 of `pact`.
-pub fn pact(contract: &[u8], table: &[u64], names: &[u8], buffer: &mut [u8]) -> Drafting
+pub fn pact(contract: &[u8], table: &[u64], names: &[u8], buffer: &mut [u8]) -> Result<usize, Refusal>
     ensures draft_answered { DraftAnswered contract.now table.now names.now buffer.old (drafted_to result buffer.new) }
     ensures drafts_right { DraftsRight contract.now table.now names.now buffer.old (drafted_to result buffer.new) }
 {
@@ -84,7 +81,7 @@ pub fn pact(contract: &[u8], table: &[u64], names: &[u8], buffer: &mut [u8]) -> 
 }
 
 // Demands 1 and 2 of `compare`.
-pub fn compare(text: &[u8], list: &[u8], blocks: &[u8]) -> Agreement
+pub fn compare(text: &[u8], list: &[u8], blocks: &[u8]) -> Result<Agreement, Refusal>
     ensures compare_answered { CompareAnswered text.now list.now blocks.now result }
     ensures compare_right { CompareRight text.now list.now blocks.now result }
 {
@@ -92,7 +89,7 @@ pub fn compare(text: &[u8], list: &[u8], blocks: &[u8]) -> Agreement
 }
 
 // Demands 1 and 2 of `count`.
-pub fn count(text: &[u8], list: &[u8], entries: &[u8], parts: &mut [u64; MOST_PARTS]) -> Counting
+pub fn count(text: &[u8], list: &[u8], entries: &[u8], parts: &mut [u64; MOST_PARTS]) -> Result<Counted, Refusal>
     ensures count_answered { CountAnswered text.now list.now entries.now parts.old (counted_to result parts.new) }
     ensures count_right { CountRight text.now list.now entries.now parts.old (counted_to result parts.new) }
 {
@@ -100,7 +97,7 @@ pub fn count(text: &[u8], list: &[u8], entries: &[u8], parts: &mut [u64; MOST_PA
 }
 
 // Demands 1 and 2 of `run_all`.
-pub fn run_all(list: &[u8], blocks: &[u8], entries: &[u8], answers: &mut [u8]) -> RunningAll
+pub fn run_all(list: &[u8], blocks: &[u8], entries: &[u8], answers: &mut [u8]) -> Result<RanAll, Refusal>
     ensures run_all_answered { RunAllAnswered list.now blocks.now entries.now answers.old (ran_over result answers.new) }
     ensures run_all_right { RunAllRight list.now blocks.now entries.now answers.old (ran_over result answers.new) }
 {
@@ -116,7 +113,7 @@ pub fn explain(text: &[u8], list: &[u8], entry: &[u8]) -> Explanation
 }
 
 // Demands 1 and 2 of `summarize`.
-pub fn summarize(text: &[u8], list: &[u8]) -> Summarizing
+pub fn summarize(text: &[u8], list: &[u8]) -> Result<Summary, Refusal>
     ensures summarize_answered { SummarizeAnswered text.now list.now result }
     ensures summarize_right { SummarizeRight text.now list.now result }
 {
@@ -146,8 +143,8 @@ pub fn carry(text: &[u8], list: &[u8], entry: &[u8], buffer: &mut [u8]) -> Carry
 {
     let translated = valve::translate(text, list, buffer);
     match translated {
-        Translation::Refused(number, place) => Carrying::Refused(number, place),
-        Translation::Written(n) => {
+        Err(refusal) => Carrying::Refused(number, place),
+        Ok(n) => {
             let size = Block::SIZE * Block::needed(n);
             let loaded = valve::load(list, &buffer[..size]);
             let ran = valve::run(list, &buffer[..size], entry);

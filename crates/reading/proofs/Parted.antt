@@ -1,15 +1,15 @@
 -- From the rows that `find` fills to the parts of the text (`sown`), through the marks, which change no tree (`still_sown`), to parts that can be
 -- judged: where the whole has the right types, so has each part, and its root stands no higher than the whole's (`ready`).
 use Prim.Native.Nat.{ℕ, suc, ◌*◌, ◌-◌, ◌≤◌, ◌<◌}
+use Rattle.std.specs.Prelude.{Result, Ok, Err}
+use Rattle.paper.specs.declared.Refusal.{Refusal}
 use native.Mathlib.Nat.{zero-add}
 use native.Mathlib.Omega.{arith}
 use mathlib.Core.Path.{◌≡◌, sym, ap, subst, ◌∙◌}
 use mathlib.Core.List.{List}
 use lib.ListN.{length}
 use Rattle.paper.specs.declared.Place.{Place}
-use Rattle.paper.specs.declared.Counted.{Counted}
-use Rattle.paper.specs.declared.Counted.TheVariants.{Count, Refused}
-use Rattle.paper.specs.Answers.{ok, refused, input_of, offset_of}
+use Rattle.paper.specs.Answers.{ok, refused, input_of, offset_of, refused_by}
 use Rattle.paper.specs.Types.{typed}
 use Rattle.paper.specs.Calls.{restriction}
 use Rattle.paper.specs.Parts.{Part}
@@ -98,9 +98,9 @@ parts_settled (R.Refused n p) settled = tt
 parts_settled R.Over settled = settled
 
 -- what that tells
-module _ (text list nodes rows : List ℕ) (r : Counted) (told : RestrictsParts text list nodes rows r) where
-  pub not_parted : {n : ℕ} {p : Place} → r ≡ Refused n p → restriction text list ≡ refused n (input_of p) (offset_of p)
+module _ (text list nodes rows : List ℕ) (r : Result ℕ Refusal) (told : RestrictsParts text list nodes rows r) where
+  pub not_parted : {v : Refusal} → r ≡ Err v → restriction text list ≡ refused_by v
   not_parted e = subst (RestrictsParts text list nodes rows) e told
 
-  pub passed : {n : ℕ} → r ≡ Count n → PassedParts text list nodes rows n
+  pub passed : {n : ℕ} → r ≡ Ok n → PassedParts text list nodes rows n
   passed e = subst (RestrictsParts text list nodes rows) e told

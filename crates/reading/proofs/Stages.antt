@@ -1,16 +1,14 @@
 -- From the answer of each stage to that of all.
 use Prim.Native.Nat.{ℕ, ◌+◌, ◌-◌, ◌≤◌, ◌<◌}
+use Rattle.std.specs.Prelude.{Result, Ok, Err}
+use Rattle.paper.specs.declared.Refusal.{Refusal}
 use native.Mathlib.Omega.{arith}
 use mathlib.Core.Path.{◌≡◌, sym, ◌∙◌, ap, subst}
 use mathlib.Core.List.{List}
 use lib.ListN.{length}
 use borrow.Author.Tests.{le-leb, lt-leb}
 use Rattle.paper.specs.declared.Place.{Place}
-use Rattle.paper.specs.declared.Counted.{Counted}
-use Rattle.paper.specs.declared.Counted.TheVariants.{Count, Refused}
-use Rattle.paper.specs.declared.Checking.{Checking}
-use Rattle.paper.specs.declared.Checking.TheVariants as C
-use Rattle.paper.specs.Answers.{Answer, ok, refused, ◌>>=◌, Input, in_text, input_of, offset_of, counted_says, checking_says}
+use Rattle.paper.specs.Answers.{Answer, ok, refused, ◌>>=◌, Input, in_text, input_of, offset_of, says, refused_by}
 use Rattle.paper.specs.Tokens.{most_text}
 use Rattle.paper.specs.Keys.{keys}
 use Rattle.paper.specs.Grammar as G
@@ -40,7 +38,7 @@ refused_early (ok a) f g e = ap (λ (y : Answer (Unit {0})). y >>= λ _. g a) e
 refused_early (refused m j to) f g e = cc
 
 -- where there is room no text is over: neither where there is an answer
-pub settles : (s : Scratch) (r : Counted) → Settles s (T.Answered r)
+pub settles : (s : Scratch) (r : Result ℕ Refusal) → Settles s (T.Answered r)
 settles S.Short r = tt
 settles S.Long r = tt
 
@@ -65,17 +63,17 @@ still_planted text list before nodes m marks p =
     let same = same_tree text before nodes marks.keeps.nodes marks.keeps.leaves marks.keeps.places (m - 1) in
     record { read = rw same p.read; count = rw same p.count; some = p.some; few = p.few; short = p.short; has = omega (arith, marks.keeps.size, p.has) }
 
-module _ (text list nodes : List ℕ) (m : ℕ) (p : Planted text nodes m) (c : Checking)
-    (says : checking_says c ≡ typed (keys_in list) (tree_at text nodes (m - 1)))
+module _ (text list nodes : List ℕ) (m : ℕ) (p : Planted text nodes m) (c : Result (Unit {0}) Refusal)
+    (says : says c ≡ typed (keys_in list) (tree_at text nodes (m - 1)))
   where
-    pub not_typed : {n : ℕ} {q : Place} → c ≡ C.Refused n q → (tree text >>= typed (keys_in list)) ≡ refused n (input_of q) (offset_of q)
-    not_typed f = ap (λ (x : Answer G.Tree). x >>= typed (keys_in list)) p.read ∙ sym says ∙ ap checking_says f
+    pub not_typed : {v : Refusal} → c ≡ Err v → (tree text >>= typed (keys_in list)) ≡ refused_by v
+    not_typed f = ap (λ (x : Answer G.Tree). x >>= typed (keys_in list)) p.read ∙ sym says ∙ ap says f
 
-    pub right_types : Marked (keys_in list) text nodes (m - 1 + 1) → c ≡ C.Passed → Typed text list nodes (m - 1)
+    pub right_types : Marked (keys_in list) text nodes (m - 1 + 1) → c ≡ (Ok tt) → Typed text list nodes (m - 1)
     right_types marked f =
         record {
           read = p.read;
-          checked = sym says ∙ ap checking_says f;
+          checked = sym says ∙ ap says f;
           count = omega (arith, p.count, p.some);
           few = omega (arith, p.few, p.some);
           short = omega (arith, p.short, p.some);
@@ -95,41 +93,41 @@ module _ (text list : List ℕ) where
     unfolding restriction
     short = rw (le-leb (length text) most_text h)
 
-    module _ (l : Counted) (says : counted_says l ≡ key_count list) where
+    module _ (l : Result ℕ Refusal) (says : says l ≡ key_count list) where
       -- a refusal of the list is one of the whole
-      pub not_listed : {n : ℕ} {p : Place} → l ≡ Refused n p → restriction text list ≡ refused n (input_of p) (offset_of p)
-      not_listed e = short ∙ rw (K.not_listed list (sym says ∙ ap counted_says e))
+      pub not_listed : {v : Refusal} → l ≡ Err v → restriction text list ≡ refused_by v
+      not_listed e = short ∙ rw (K.not_listed list (sym says ∙ ap says e))
 
-      module _ {n : ℕ} (e : l ≡ Count n) where
+      module _ {n : ℕ} (e : l ≡ Ok n) where
         pub good : keys list ≡ ok (keys_in list)
-        good = (K.listed list (sym says ∙ ap counted_says e)).0
+        good = (K.listed list (sym says ∙ ap says e)).0
 
         pub restricts : (nodes : List ℕ) (r : Tried) → Told (Types text list nodes) r
             → Told (Restricts text list nodes) r
         restricts nodes T.Over t = tt
-        restricts nodes (T.Answered (Count k)) t =
+        restricts nodes (T.Answered (Ok k)) t =
             record {
               passed = short ∙ rw (good, t.read, t.checked);
               listed = good;
               typed = t;
             }
-        restricts nodes (T.Answered (Refused m p)) t = short ∙ rw good (refused_early (tree text) (typed (keys_in list)) _ t)
+        restricts nodes (T.Answered (Err v)) t = short ∙ rw good (refused_early (tree text) (typed (keys_in list)) _ t)
 
 -- what is told of an answer that is there
-pub told : (Says : Counted → Type 0) (r : Tried) → Settled r → Told Says r → Says (answer_of r)
+pub told : (Says : Result ℕ Refusal → Type 0) (r : Tried) → Settled r → Told Says r → Says (answer_of r)
 told Says (T.Answered r) settled t = t
 told Says T.Over settled t = absurd settled
 
 -- what the answer tells
 
-pub planted : (text nodes : List ℕ) (r : Counted) → Grows text nodes r → {m : ℕ} → r ≡ Count m → Planted text nodes m
+pub planted : (text nodes : List ℕ) (r : Result ℕ Refusal) → Grows text nodes r → {m : ℕ} → r ≡ Ok m → Planted text nodes m
 planted text nodes r told e = subst (Grows text nodes) e told
 
-module _ (text list nodes : List ℕ) (r : Counted) (told : Restricts text list nodes r) where
-  pub not_restricted : {n : ℕ} {p : Place} → r ≡ Refused n p → restriction text list ≡ refused n (input_of p) (offset_of p)
+module _ (text list nodes : List ℕ) (r : Result ℕ Refusal) (told : Restricts text list nodes r) where
+  pub not_restricted : {v : Refusal} → r ≡ Err v → restriction text list ≡ refused_by v
   not_restricted e = subst (Restricts text list nodes) e told
 
-  pub rooted : {k : ℕ} → r ≡ Count k → Rooted text list nodes k
+  pub rooted : {k : ℕ} → r ≡ Ok k → Rooted text list nodes k
   rooted e = subst (Restricts text list nodes) e told
 
 -- the tree of a text that passed has a type, and the marks of its names

@@ -1,8 +1,7 @@
 -- What `restrict_parts` answers, read with the nodes and the rows as it leaves them.
-use Rattle.std.specs.Prelude.{ℕ, ◌+◌, ◌*◌, ◌≤◌, ◌<◌, ◌≡◌, List, length}
-use Rattle.paper.specs.declared.Counted.{Counted}
-use Rattle.paper.specs.declared.Counted.TheVariants.{Count, Refused}
-use Rattle.paper.specs.Answers.{ok, refused, input_of, offset_of}
+use Rattle.std.specs.Prelude.{ℕ, ◌+◌, ◌*◌, ◌≤◌, ◌<◌, ◌≡◌, List, length, Result, Ok, Err}
+use Rattle.paper.specs.declared.Refusal.{Refusal}
+use Rattle.paper.specs.Answers.{ok, refused, input_of, offset_of, refused_by}
 use Rattle.paper.specs.Types.{typed}
 use Rattle.paper.specs.Calls.{restriction}
 use Rattle.paper.specs.Parts.{parts, most_parts}
@@ -41,6 +40,6 @@ pub record PassedParts (text list nodes rows : List ℕ) (n : ℕ) : Type 0 wher
   pub rooted : Rooted text list nodes root
   pub parted : Parted text list nodes rows n
 
-abbrev pub RestrictsParts : List ℕ → List ℕ → List ℕ → List ℕ → Counted → Type 0
-RestrictsParts text list nodes rows (Count n) = PassedParts text list nodes rows n
-RestrictsParts text list nodes rows (Refused n p) = restriction text list ≡ refused n (input_of p) (offset_of p)
+abbrev pub RestrictsParts : List ℕ → List ℕ → List ℕ → List ℕ → Result ℕ Refusal → Type 0
+RestrictsParts text list nodes rows (Ok n) = PassedParts text list nodes rows n
+RestrictsParts text list nodes rows (Err v) = restriction text list ≡ refused_by v

@@ -1,8 +1,7 @@
 -- What `restrict` answers, read with the nodes as it leaves them.
-use Rattle.std.specs.Prelude.{ℕ, ◌+◌, ◌*◌, ◌≤◌, ◌<◌, ◌≡◌, List, length}
-use Rattle.paper.specs.declared.Counted.{Counted}
-use Rattle.paper.specs.declared.Counted.TheVariants.{Count, Refused}
-use Rattle.paper.specs.Answers.{ok, refused, ◌>>=◌, input_of, offset_of}
+use Rattle.std.specs.Prelude.{ℕ, ◌+◌, ◌*◌, ◌≤◌, ◌<◌, ◌≡◌, List, length, Result, Ok, Err}
+use Rattle.paper.specs.declared.Refusal.{Refusal}
+use Rattle.paper.specs.Answers.{ok, refused, ◌>>=◌, input_of, offset_of, refused_by}
 use Rattle.paper.specs.Tokens.{most_tokens}
 use Rattle.paper.specs.Keys.{keys}
 use Rattle.paper.specs.Grammar as G
@@ -28,10 +27,10 @@ pub record Rooted (text list nodes : List ℕ) (k : ℕ) : Type 0 where
   pub listed : keys list ≡ ok (keys_in list)
   pub typed : Typed text list nodes k
 
-abbrev pub Types : List ℕ → List ℕ → List ℕ → Counted → Type 0
-Types text list nodes (Count k) = Typed text list nodes k
-Types text list nodes (Refused n p) = (tree text >>= typed (keys_in list)) ≡ refused n (input_of p) (offset_of p)
+abbrev pub Types : List ℕ → List ℕ → List ℕ → Result ℕ Refusal → Type 0
+Types text list nodes (Ok k) = Typed text list nodes k
+Types text list nodes (Err v) = (tree text >>= typed (keys_in list)) ≡ refused_by v
 
-abbrev pub Restricts : List ℕ → List ℕ → List ℕ → Counted → Type 0
-Restricts text list nodes (Count k) = Rooted text list nodes k
-Restricts text list nodes (Refused n p) = restriction text list ≡ refused n (input_of p) (offset_of p)
+abbrev pub Restricts : List ℕ → List ℕ → List ℕ → Result ℕ Refusal → Type 0
+Restricts text list nodes (Ok k) = Rooted text list nodes k
+Restricts text list nodes (Err v) = restriction text list ≡ refused_by v

@@ -3,7 +3,7 @@ ghost use Rattle.std.specs.Prelude.{◌≡◌};
 ghost use Rattle.reading.specs.Grown.{of_tree, of_parts};
 
 use crate::tried::Tried;
-use paper::{Counted, Place};
+use paper::{Place};
 
 // The tree of a text, by a number: how many nodes it has, or its root's. Beside it, how many parts of the text stand in the rows that were lent
 // for them. Or a refusal; or a text that has more tokens than there is room for.
@@ -20,8 +20,8 @@ impl Grown {
         ensures { result ≡ of_tree self }
     {
         match self {
-            Grown::Refused(number, place) => Tried::Answered(Counted::Refused(number, place)),
-            Grown::Tree(size, _) => Tried::Answered(Counted::Count(size)),
+            Grown::Refused(number, place) => Tried::Answered(Err(refusal)),
+            Grown::Tree(size, _) => Tried::Answered(Ok(size)),
             Grown::Over => Tried::Over,
         }
     }
@@ -31,8 +31,8 @@ impl Grown {
         ensures { result ≡ of_parts self }
     {
         match self {
-            Grown::Refused(number, place) => Tried::Answered(Counted::Refused(number, place)),
-            Grown::Tree(_, parts) => Tried::Answered(Counted::Count(parts)),
+            Grown::Refused(number, place) => Tried::Answered(Err(refusal)),
+            Grown::Tree(_, parts) => Tried::Answered(Ok(parts)),
             Grown::Over => Tried::Over,
         }
     }

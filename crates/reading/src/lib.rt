@@ -22,7 +22,7 @@ ghost use Rattle.reading.specs.Tried.{TriesTree, Tries, TriesParts};
 
 use crate::grown::Grown;
 use crate::tried::Scratch;
-use paper::{Checking, Counted, Place, refused};
+use paper::{Place, Refusal, refused};
 use tokens::rows::Row;
 use tokens::{Cut, MOST_TOKENS};
 use trees::Node;
@@ -81,8 +81,8 @@ fn plant(text: &[u8], tape: &[u32], count: usize, nodes: &mut [u32], rows: &mut 
 {
     let parsed = grammar::parse(text, tape, count, nodes);
     match parsed {
-        Counted::Refused(number, place) => Grown::Refused(number, place),
-        Counted::Count(size) => {
+        Err(refusal) => Grown::Refused(number, place),
+        Ok(size) => {
             let found = find_parts(tape, count, nodes, size - 1, rows);
             Grown::Tree(size, found)
         }
@@ -177,8 +177,8 @@ fn typed_root(
             let root = size - 1;
             let checked = typing::check_types(list, nodes, root);
             match checked {
-                Checking::Refused(number, place) => Grown::Refused(number, place),
-                Checking::Passed => Grown::Tree(root, found),
+                Err(refusal) => Grown::Refused(number, place),
+                Ok(()) => Grown::Tree(root, found),
             }
         }
     }
@@ -201,13 +201,13 @@ fn restrict_both(
     }
     let listed = keys::check_list(list);
     match listed {
-        Counted::Refused(number, place) => Grown::Refused(number, place),
-        Counted::Count(_) => typed_root(text, list, scratch, nodes, rows),
+        Err(refusal) => Grown::Refused(number, place),
+        Ok(_) => typed_root(text, list, scratch, nodes, rows),
     }
 }
 
 // The number of nodes, of which the last is the root; or a refusal.
-pub fn read_tree(text: &[u8], nodes: &mut [u32]) -> Counted
+pub fn read_tree(text: &[u8], nodes: &mut [u32]) -> Result<usize, Refusal>
     requires text_len_bound { length text.now ≤ most_text }
     requires room { Room text.now nodes.old }
     ensures { Grows text.now nodes.new result }
@@ -218,7 +218,7 @@ pub fn read_tree(text: &[u8], nodes: &mut [u32]) -> Counted
 }
 
 // The number of the root of a text that is good for the keys of a list, or the first refusal of the two.
-pub fn restrict(text: &[u8], list: &[u8], nodes: &mut [u32]) -> Counted
+pub fn restrict(text: &[u8], list: &[u8], nodes: &mut [u32]) -> Result<usize, Refusal>
     requires { Room text.now nodes.old }
     ensures { Restricts text.now list.now nodes.new result }
 {
@@ -228,7 +228,7 @@ pub fn restrict(text: &[u8], list: &[u8], nodes: &mut [u32]) -> Counted
 }
 
 // The number of parts of a text that is good for the keys of a list, each of which is stored in a row; or the first refusal of the two.
-pub fn restrict_parts(text: &[u8], list: &[u8], nodes: &mut [u32], rows: &mut [u32]) -> Counted
+pub fn restrict_parts(text: &[u8], list: &[u8], nodes: &mut [u32], rows: &mut [u32]) -> Result<usize, Refusal>
     requires room { Room text.now nodes.old }
     requires row_room { RowRoom rows.old }
     ensures { RestrictsParts text.now list.now nodes.new rows.new result }

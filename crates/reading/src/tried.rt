@@ -2,7 +2,7 @@
 ghost use Rattle.std.specs.Prelude.{◌≡◌};
 ghost use Rattle.reading.specs.Grown.{Settled, answer_of};
 
-use paper::Counted;
+use paper::{Refusal};
 
 // For how many tokens there is room.
 #[derive(Clone, Copy)]
@@ -23,13 +23,13 @@ pub enum Tried {
 
 impl Tried {
     // The answer, where there was room.
-    pub(crate) fn answer(self) -> Counted
+    pub(crate) fn answer(self) -> Result<usize, Refusal>
         requires { Settled self }
         ensures { result ≡ answer_of self }
     {
         match self {
             Tried::Answered(answer) => answer,
-            Tried::Over => Counted::Count(0),
+            Tried::Over => Ok(0),
         }
     }
 }

@@ -9,8 +9,7 @@ use mathlib.Core.List.{List, [], ◌∷◌, ◌++◌, map}
 use lib.ListN.{length, get_or, replicate, length-map, length-replicate}
 use borrow.Author.Tests.{lt-leb}
 use Rattle.paper.specs.declared.Place.TheVariants as P
-use Rattle.paper.specs.declared.Counting.TheVariants as C
-use Rattle.paper.specs.Answers.{ok}
+use Rattle.paper.specs.Answers.{ok, refusal}
 use Rattle.paper.specs.Keys.{Key}
 use Rattle.paper.specs.Parts.{Part}
 use Rattle.paper.specs.Calls.{over}
@@ -185,7 +184,7 @@ module _ (text list nodes rows : List ℕ) (n : ℕ) (p : PassedParts text list 
 
   -- one entry too many
   pub too_many : (file entry after : List ℕ) (size : ℕ) → size ≡ entry_size ks → most_entries < whole_in ks file
-      → Reports text list file (C.Refused 25 (P.Entry (most_entries * size))) entry after
+      → Reports text list file (refusal 25 (P.Entry (most_entries * size))) entry after
   unfolding count_answer counted
   too_many file entry after size is beyond =
       rw is (record { says = rw (p.rooted.passed, p.parted.are, lt-leb (whole_in ks file) most_entries beyond); notes = tt })

@@ -10,7 +10,7 @@ use files::{
     whole_entries,
 };
 use lines::start;
-use paper::{Counted, Counting};
+use paper::{Counted};
 use std::env::Env;
 use std::io;
 use std::rt::Files;
@@ -46,7 +46,13 @@ fn count_file(
         &mut counts,
     );
     progress::clear(rt, watched);
-    if let Counting::Counted(_, _, _, _, _) = counted {
+    if let Ok(Counted {
+parts: _,
+accepted: _,
+violated: _,
+refused: _,
+cut: _,
+}) = counted {
         if let Some(reason) = not_at_end(&mut file) {
             return cannot_read(rt, path, reason);
         }
@@ -85,8 +91,8 @@ fn count_by(
     let mut nodes = [0u32; reading::NODE_WORDS];
     let mut rows = [0u32; reading::PART_WORDS];
     match reading::restrict_parts(text, list, &mut nodes, &mut rows) {
-        Counted::Refused(number, place) => say_refusal(rt, number, place, text_file, list_file),
-        Counted::Count(n) => count_argument(rt, watched, list, &nodes, &rows, n, entries),
+        Err(refusal) => say_refusal(rt, number, place, text_file, list_file),
+        Ok(n) => count_argument(rt, watched, list, &nodes, &rows, n, entries),
     }
 }
 

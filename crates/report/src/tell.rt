@@ -4,7 +4,7 @@ ghost use Rattle.std.specs.Prelude.{◌^◌, ◌<◌};
 use files::{File, true_offset};
 use lines::{first, say, say_number};
 use paper::refused::ENTRIES_MANY;
-use paper::{Counting, Place};
+use paper::{Counted, Place, Refusal};
 use std::io;
 
 fn say_line(rt: &impl Print, word: &[u8], n: u64) -> io::Result<()> {
@@ -39,16 +39,22 @@ fn say_cut(rt: &impl Print, cut: usize) -> io::Result<()> {
 }
 
 // What a file is counted as. Its own refusal is that of too many entries, which is told by its number alone.
-pub(crate) fn say_counting(rt: &impl Print, counting: Counting, counts: &[u64]) -> io::Result<()> {
+pub(crate) fn say_counting(rt: &impl Print, counting: Result<Counted, Refusal>, counts: &[u64]) -> io::Result<()> {
     match counting {
-        Counting::Counted(n, accepted, violated, refused, cut) => {
+        Ok(Counted {
+parts: n,
+accepted: accepted,
+violated: violated,
+refused: refused,
+cut: cut,
+}) => {
             say_parts(rt, first(counts, n))?;
             say_line(rt, b"accepted ", accepted)?;
             say_line(rt, b"violated ", violated)?;
             say_line(rt, b"refused ", refused)?;
             say_cut(rt, cut)
         }
-        Counting::Refused(_, _) => say_line(rt, b"refusal ", ENTRIES_MANY as u64),
+        Err(_) => say_line(rt, b"refusal ", ENTRIES_MANY as u64),
     }
 }
 

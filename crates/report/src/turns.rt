@@ -10,7 +10,7 @@ use crate::progress;
 use files::read_full;
 use lines::start;
 use paper::refused::ENTRIES_MANY;
-use paper::{Counting, Place};
+use paper::{Counted, Place, Refusal};
 use std::io::Read;
 
 // The most entries that are counted.
@@ -28,7 +28,7 @@ pub(crate) fn count_turns(
     file: &mut impl Read,
     part: &mut [u8],
     counts: &mut [u64],
-) -> Counting
+) -> Result<Counted, Refusal>
     requires by_index { (text : List ℕ) × PassedParts text list.now nodes.now rows.now n }
     requires part_value { cut_in (keys_in list.now) part.old ≡ 0 }
     requires n_in_bounds { n ≤ length counts.old }
@@ -42,7 +42,10 @@ pub(crate) fn count_turns(
     while 0 < turns {
         let got = read_full(file, part);
         if MOST_ENTRIES - course.whole < got / size {
-            return Counting::Refused(ENTRIES_MANY, Place::Entry(MOST_ENTRIES * size));
+            return Err(Refusal {
+number: ENTRIES_MANY,
+place: Place::Entry(MOST_ENTRIES * size),
+});
         }
         let before = course.whole;
         course = add_held(list, nodes, rows, n, start(part, got), counts, course);
@@ -54,11 +57,11 @@ pub(crate) fn count_turns(
         }
     }
     let totals = course.totals;
-    Counting::Counted(
-        n,
-        totals.accepted,
-        totals.violated,
-        totals.refused,
-        course.cut,
-    )
+    Ok(Counted {
+parts: n,
+accepted: totals.accepted,
+violated: totals.violated,
+refused: totals.refused,
+cut: course.cut,
+})
 }

@@ -1,11 +1,9 @@
 -- How many entries were given each answer, and what blocks say of many.
-use Rattle.std.specs.Prelude.{◌≡◌, ℕ, ◌+◌, ◌%◌, ◌^◌, Bool, true, false, cond, List, length, ◌==◌}
-use Rattle.paper.specs.Answers.{Answer, ok, refused}
+use Rattle.std.specs.Prelude.{◌≡◌, ℕ, ◌+◌, ◌%◌, ◌^◌, Bool, true, false, cond, List, length, ◌==◌, Err}
+use Rattle.paper.specs.Answers.{Answer, ok, refused, Judgement}
 use Rattle.paper.specs.Counting.{entry_size}
 use Rattle.paper.specs.RunAll.{AllRan, run_all_answer}
 use Rattle.keys.specs.Says.{keys_in}
-use Rattle.paper.specs.declared.Judgement.{Judgement}
-use Rattle.paper.specs.declared.Judgement.TheVariants.{Accepted, Violated, Refused}
 use Rattle.paper.specs.declared.Rechecking.{Rechecking}
 use Rattle.paper.specs.declared.Rechecking.TheVariants.{Reused, Judged}
 use Rattle.streaming.specs.Sizes.{whole_of}
@@ -21,7 +19,7 @@ total t = t.accepted + t.violated + t.refused
 abbrev pub counted : Judgement → Tally → Tally
 counted Accepted t = record { accepted = t.accepted + 1; violated = t.violated; refused = t.refused }
 counted Violated t = record { accepted = t.accepted; violated = t.violated + 1; refused = t.refused }
-counted (Refused n p) t = record { accepted = t.accepted; violated = t.violated; refused = t.refused + 1 }
+counted (Err v) t = record { accepted = t.accepted; violated = t.violated; refused = t.refused + 1 }
 
 -- Entries by blocks, which are given a byte each.
 

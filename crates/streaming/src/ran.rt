@@ -12,18 +12,24 @@ use crate::sizes::{entry_end, whole_of};
 use crate::tally::{Tally, Totals};
 use keys::entry_size;
 use machine::{ACCEPTED, VIOLATED};
-use paper::{Judgement, Running, RunningAll};
+use paper::{Ended, Judgement, RanAll, Refusal, Verdict};
 use std::io;
 use wording::broken::say_judgement;
 
 // The judgement of a run, its steps aside.
-fn judged_by(running: Running) -> Judgement
+fn judged_by(running: Result<Ended, Refusal>) -> Judgement
     ensures { result ≡ judgement_of_run running }
 {
     match running {
-        Running::Accepted(_) => Judgement::Accepted,
-        Running::Violated(_) => Judgement::Violated,
-        Running::Refused(number, place) => Judgement::Refused(number, place),
+        Ok(Ended {
+verdict: Verdict::Accepted,
+steps: _,
+}) => Ok(Verdict::Accepted),
+        Ok(Ended {
+verdict: Verdict::Violated,
+steps: _,
+}) => Ok(Verdict::Violated),
+        Err(refusal) => Err(refusal),
     }
 }
 
@@ -39,8 +45,8 @@ fn judgement_of(list: &[u8], blocks: &[u8], entry: &[u8], byte: u8) -> Judgement
     ensures { judgement_says result ≡ verdict_by byte (verdict_of (run_answer list.now blocks.now entry.now)) }
 {
     match byte {
-        ACCEPTED => Judgement::Accepted,
-        VIOLATED => Judgement::Violated,
+        ACCEPTED => Ok(Verdict::Accepted),
+        VIOLATED => Ok(Verdict::Violated),
         _ => judged_by(valve::run(list, blocks, entry)),
     }
 }
@@ -72,12 +78,15 @@ fn tell_each(
     Ok(tally)
 }
 
-fn steps_of(running: RunningAll) -> u64
+fn steps_of(running: Result<RanAll, Refusal>) -> u64
     ensures { result ≡ steps_of (running_all_says running) }
 {
     match running {
-        RunningAll::Ran(_, steps) => steps,
-        RunningAll::Refused(_, _) => 0,
+        Ok(RanAll {
+entries: _,
+steps: steps,
+}) => steps,
+        Err(_) => 0,
     }
 }
 

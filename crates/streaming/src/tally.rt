@@ -3,7 +3,7 @@ ghost use Rattle.std.specs.Prelude.{◌≡◌, ◌+◌, ◌<◌, ◌≤◌};
 ghost use Rattle.streaming.specs.Tallies.{total, counted, most_counted};
 
 use lines::say;
-use paper::Judgement;
+use paper::{Judgement, Verdict};
 use std::io;
 use wording::say::{say_count, say_three};
 
@@ -34,9 +34,9 @@ impl Tally {
         ensures result_value { total result ≡ total self + 1 }
     {
         match judgement {
-            Judgement::Accepted => self.accepted += 1,
-            Judgement::Violated => self.violated += 1,
-            Judgement::Refused(_, _) => self.refused += 1,
+            Ok(Verdict::Accepted) => self.accepted += 1,
+            Ok(Verdict::Violated) => self.violated += 1,
+            Err(_) => self.refused += 1,
         }
         self
     }

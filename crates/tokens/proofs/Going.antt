@@ -1,5 +1,6 @@
 -- The loop over a text: the tokens that are on the tape, and those from the next byte on, are the text's.
 use Prim.Native.Nat.{ℕ, suc, ◌+◌, ◌*◌, ◌-◌, ◌≤◌, ◌<◌}
+use Rattle.std.specs.Prelude.{Err}
 use mathlib.Core.Path.{◌≡◌, refl, ap, sym, ◌∙◌}
 use mathlib.Core.Bool.{Bool, true, false, cond}
 use mathlib.Core.List.{List, [], append-nil}
@@ -15,9 +16,9 @@ use Rattle.number.specs.Bases.{literal_meant}
 use Rattle.number.specs.declared.base.Literal as N
 use Rattle.tokens.specs.Scanned.{Stands, kind_in, plain_end, plain_scan, plain_found}
 use Rattle.tokens.specs.Tape.{Tape, tape_of, row_words, row_at, Has, Room, RoomFor, row_of, tokens_on}
-use Rattle.tokens.specs.Tokenized.{CutSays, Placed, octal_refusal, row_refusal, Sound, SpansOn, EndsOn}
+use Rattle.tokens.specs.Tokenized.{CutSays, Placed, octal_refusal, row_refusal, Sound, SpansOn, EndsOn, refused_there}
 use Rattle.paper.specs.declared.Place.TheVariants.{Text}
-use Rattle.tokens.specs.declared.Cut.TheVariants.{Refused, Over}
+use Rattle.tokens.specs.declared.Stop.TheVariants.{Over}
 use Rattle.tokens.specs.declared.found.Lexeme.{Lexeme}
 use Rattle.tokens.specs.declared.found.Lexeme.TheVariants as F
 use Rattle.tokens.proofs.SignBytes.{plain_scanned}
@@ -117,11 +118,11 @@ module _ (text rows : List ℕ) (n at : ℕ) (g : Going (tape_of text rows) n at
 
   -- a token for which there is no row
   pub going_no_row : (v : Literal) (kind end : ℕ) → RoomFor (length rows) n → Here text at v (F.Token kind end)
-      → CutSays (tape_of text rows) (row_refusal n at) × Placed (tape_of text rows) (row_refusal n at)
+      → CutSays (tape_of text rows) (Err (row_refusal n at)) × Placed (tape_of text rows) (Err (row_refusal n at))
   going_no_row v kind end room w = go (eqb n most_tokens) refl
     where
       go : (full : Bool) → eqb n most_tokens ≡ full
-          → CutSays (tape_of text rows) (cond full (Refused 7 (Text at)) Over) × Placed (tape_of text rows) (cond full (Refused 7 (Text at)) Over)
+          → CutSays (tape_of text rows) (Err (cond full (refused_there 7 at) Over)) × Placed (tape_of text rows) (Err (cond full (refused_there 7 at) Over))
       go true e = (going_full v kind end (eqb-true n most_tokens e) w, tt)
       go false e =
           let few : n < most_tokens = omega (arith, g.few, eqb-false n most_tokens e) in
@@ -137,7 +138,7 @@ module _ (text rows : List ℕ) (n at : ℕ) (g : Going (tape_of text rows) n at
 
   -- an octal numeral: there is room for a token or not
   pub going_octal : (v m : ℕ) → octal_numeral v m ≡ scan (get_or text at 0) (drop (at + 1) text)
-      → CutSays (tape_of text rows) (octal_refusal n at)
+      → CutSays (tape_of text rows) (Err (octal_refusal n at))
   going_octal v m e = go (eqb n most_tokens) refl
     where
       go : (full : Bool) → eqb n most_tokens ≡ full → refused (cond full 7 22) in_text at ≡ tokens text

@@ -1,9 +1,8 @@
 -- What the pass for texts on file does at each piece, and what it answers.
-use Rattle.std.specs.Prelude.{ℕ, ◌+◌, ◌≡◌, cond, List, ◌++◌, length, take, eqb}
+use Rattle.std.specs.Prelude.{ℕ, ◌+◌, ◌≡◌, cond, List, ◌++◌, length, take, eqb, Result, Ok, Err}
+use Rattle.paper.specs.declared.Refusal.{Refusal}
 use Rattle.std.proofs.lemmas.List.Edits.{sets}
-use Rattle.paper.specs.declared.Counted.{Counted}
-use Rattle.paper.specs.declared.Counted.TheVariants.{Count, Refused}
-use Rattle.paper.specs.Answers.{ok, ◌>>=◌, counted_says}
+use Rattle.paper.specs.Answers.{ok, ◌>>=◌, says}
 use Rattle.paper.specs.Tokens.{bytes, most_tokens}
 use Rattle.paper.specs.Print.{numeral_in}
 use Rattle.paper.specs.Fixing.{old_tokens, fixed}
@@ -31,10 +30,10 @@ pub record Put (before : List ℕ) (at : ℕ) (s after : List ℕ) (r : ℕ) : T
   pub ends : r ≡ at + length s
 
 -- where it counts, what it was to write stands first
-abbrev pub StandsFirst : List ℕ → List ℕ → Counted → Type 0
-StandsFirst s out (Count n) = take n out ≡ s
-StandsFirst s out (Refused k p) = Unit {0}
+abbrev pub StandsFirst : List ℕ → List ℕ → Result ℕ Refusal → Type 0
+StandsFirst s out (Ok n) = take n out ≡ s
+StandsFirst s out (Err v) = Unit {0}
 
-pub record Fixes (text out : List ℕ) (r : Counted) : Type 0 where
-  pub says : counted_says r ≡ (old_tokens text >>= λ _. ok (length (fixed text)))
+pub record Fixes (text out : List ℕ) (r : Result ℕ Refusal) : Type 0 where
+  pub says : says r ≡ (old_tokens text >>= λ _. ok (length (fixed text)))
   pub holds : StandsFirst (fixed text) out r

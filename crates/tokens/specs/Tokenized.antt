@@ -1,27 +1,31 @@
 -- What `tokenize` answers, read with the tape as it leaves it.
-use Rattle.std.specs.Prelude.{ℕ, ◌*◌, ◌≤◌, ◌<◌, ◌≡◌, cond, length, eqb}
+use Rattle.std.specs.Prelude.{ℕ, ◌*◌, ◌≤◌, ◌<◌, ◌≡◌, cond, length, eqb, Result, Ok, Err}
 use Rattle.paper.specs.declared.Place.TheVariants.{Text}
-use Rattle.paper.specs.Answers.{ok, refused, input_of, offset_of}
+use Rattle.paper.specs.Answers.{ok, refused_by}
 use Rattle.paper.specs.Tokens.{tokens, most_tokens}
 use Rattle.paper.specs.Parts.{token_end}
 use Rattle.tokens.specs.Scanned.{Spans}
 use Rattle.tokens.specs.Tape.{Tape, row_words, Room, kind_at, start_at, end_at, tokens_on}
-use Rattle.tokens.specs.declared.Cut.{Cut}
-use Rattle.tokens.specs.declared.Cut.TheVariants.{Counted, Refused, Over}
+use Rattle.tokens.specs.declared.Stop.{Stop}
+use Rattle.tokens.specs.declared.Stop.TheVariants.{Refused, Over}
 
 -- so many tokens, which are the text's, or the text's refusal; or there is not a row for each token that the text could have
-abbrev pub CutSays : Tape → Cut → Type 0
-CutSays T (Counted n) = ok (tokens_on T 0 n) ≡ tokens T.text
-CutSays T (Refused k p) = refused k (input_of p) (offset_of p) ≡ tokens T.text
-CutSays T Over = Room T.text T.rows → ⊥
+abbrev pub CutSays : Tape → Result ℕ Stop → Type 0
+CutSays T (Ok n) = ok (tokens_on T 0 n) ≡ tokens T.text
+CutSays T (Err (Refused v)) = refused_by v ≡ tokens T.text
+CutSays T (Err Over) = Room T.text T.rows → ⊥
+
+-- a refusal of this number at an offset of the text
+abbrev pub refused_there : ℕ → ℕ → Stop
+refused_there number at = Refused (record { number = number; place = Text at })
 
 -- what is answered at an octal numeral after n tokens
-abbrev pub octal_refusal : ℕ → ℕ → Cut
-octal_refusal n at = Refused (cond (eqb n most_tokens) 7 22) (Text at)
+abbrev pub octal_refusal : ℕ → ℕ → Stop
+octal_refusal n at = refused_there (cond (eqb n most_tokens) 7 22) at
 
 -- and at a token after n, where there is no row for it
-abbrev pub row_refusal : ℕ → ℕ → Cut
-row_refusal n at = cond (eqb n most_tokens) (Refused 7 (Text at)) Over
+abbrev pub row_refusal : ℕ → ℕ → Stop
+row_refusal n at = cond (eqb n most_tokens) (refused_there 7 at) Over
 
 -- the token of an index stands in the text
 abbrev pub SpansOn : Tape → ℕ → Type 0
@@ -43,7 +47,6 @@ pub record Sound (T : Tape) (n : ℕ) : Type 0 where
   pub cut : CutInto T n
   pub has : n * row_words ≤ length T.rows
 
-abbrev pub Placed : Tape → Cut → Type 0
-Placed T (Counted n) = Sound T n
-Placed T (Refused k p) = Unit {0}
-Placed T Over = Unit {0}
+abbrev pub Placed : Tape → Result ℕ Stop → Type 0
+Placed T (Ok n) = Sound T n
+Placed T (Err s) = Unit {0}

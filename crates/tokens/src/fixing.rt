@@ -8,7 +8,7 @@ ghost use Rattle.tokens.specs.Fixes.{step_for, hex_numeral, Put, Fixes};
 use crate::found::Lexeme;
 use crate::{MOST_TOKENS, scan};
 use number::Magnitude;
-use paper::{Counted, Place, refused};
+use paper::{Place, Refusal, refused};
 use spelling::bytes;
 
 // How the pass goes on, by what is found after n tokens: a piece up to an offset is copied or written in hex, with so many tokens before the next
@@ -74,7 +74,7 @@ fn put_hex(number: Magnitude, at: usize, out: &mut [u8]) -> usize
 
 // Writes a text anew from the start of a slice that is as long at least, and answers how many bytes were written, or the refusal. No piece is
 // longer than the one that it stands for, so there is always room.
-pub fn fix(text: &[u8], out: &mut [u8]) -> Counted
+pub fn fix(text: &[u8], out: &mut [u8]) -> Result<usize, Refusal>
     requires { length text.now ≤ length out.old }
     ensures { Fixes text.now out.new result }
 {
@@ -98,8 +98,11 @@ pub fn fix(text: &[u8], out: &mut [u8]) -> Counted
                 at = end;
                 n = tokens;
             }
-            Step::Refused(number) => return Counted::Refused(number, Place::Text(at)),
+            Step::Refused(number) => return Err(Refusal {
+                number: number,
+                place: Place::Text(at),
+            }),
         }
     }
-    Counted::Count(written)
+    Ok(written)
 }

@@ -8,12 +8,12 @@
 ghost use Rattle.std.specs.Prelude.{◌≡◌, ◌≤◌, length};
 ghost use Rattle.paper.specs.Tokens.{most_text};
 ghost use Rattle.tokens.specs.Tape.{tape_of};
-ghost use Rattle.tokens.specs.Tokenized.{CutSays, Placed, octal_refusal, row_refusal};
+ghost use Rattle.tokens.specs.Tokenized.{CutSays, Placed, refused_there, octal_refusal, row_refusal};
 
 use crate::found::Lexeme;
 use crate::rows::Row;
 use crate::signs::LENGTHS;
-use paper::{Place, refused};
+use paper::{Place, Refusal, refused};
 use spelling::bytes::is_blank;
 
 pub mod fixing;
@@ -27,40 +27,46 @@ mod signs;
 
 pub const MOST_TOKENS: usize = 1024;
 
-// What a text is cut into.
+// Why there are no tokens of a text, nor anything that is made of them.
 #[derive(Clone, Copy)]
-pub enum Cut {
-    // So many tokens, which stand on the tape.
-    Counted(usize),
-    // A refusal of the text.
-    Refused(u8, Place),
-    // More tokens than the tape has rows for: what was lent is too small, and nothing is said of the text.
+pub enum Stop {
+    Refused(Refusal),
+    // The text has more tokens than the tape has rows for: what was lent is too small, and nothing is said of the text.
     Over,
 }
 
+fn refused(number: u8, at: usize) -> Stop
+    ensures { result ≡ refused_there number at }
+{
+    Stop::Refused(Refusal {
+        number,
+        place: Place::Text(at),
+    })
+}
+
 // An octal numeral after n tokens: one more than there is room for is told as such.
-fn octal_refused(n: usize, at: usize) -> Cut
+fn octal_refused(n: usize, at: usize) -> Stop
     ensures { result ≡ octal_refusal n at }
 {
     if n == MOST_TOKENS {
-        return Cut::Refused(refused::TOKENS_MANY, Place::Text(at));
+        return refused(refused::TOKENS_MANY, at);
     }
-    Cut::Refused(refused::OCTAL, Place::Text(at))
+    refused(refused::OCTAL, at)
 }
 
 // A token after n for which there is no row.
-fn no_row(n: usize, at: usize) -> Cut
+fn no_row(n: usize, at: usize) -> Stop
     ensures { result ≡ row_refusal n at }
 {
     if n == MOST_TOKENS {
-        return Cut::Refused(refused::TOKENS_MANY, Place::Text(at));
+        return refused(refused::TOKENS_MANY, at);
     }
-    Cut::Over
+    Stop::Over
 }
 
 // Cuts a text into tokens and stores each in its row, as far as the tape has rows. The limit comes first: a tape with a row for each token that
 // a text may have is never too small.
-pub fn tokenize(text: &[u8], tape: &mut [u32]) -> Cut
+pub fn tokenize(text: &[u8], tape: &mut [u32]) -> Result<usize, Stop>
     requires { length text.now ≤ most_text }
     ensures says { CutSays (tape_of text.now tape.new) result }
     ensures placed { Placed (tape_of text.now tape.new) result }
@@ -77,7 +83,7 @@ pub fn tokenize(text: &[u8], tape: &mut [u32]) -> Cut
         let code = plain::code_at(text, at);
         if code != 0 {
             if n == room {
-                return no_row(n, at);
+                return Err(no_row(n, at));
             }
             let end = plain::end_of(text, at, code);
             rows::put_plain(tape, n, code / LENGTHS, at, end);
@@ -91,7 +97,7 @@ pub fn tokenize(text: &[u8], tape: &mut [u32]) -> Cut
             Lexeme::Blank(end) => at = end,
             Lexeme::Token(kind, end) => {
                 if n == room {
-                    return no_row(n, at);
+                    return Err(no_row(n, at));
                 }
                 let literal = scanned.literal;
                 let row = Row {
@@ -104,11 +110,11 @@ pub fn tokenize(text: &[u8], tape: &mut [u32]) -> Cut
                 n += 1;
                 at = end;
             }
-            Lexeme::Octal(_) => return octal_refused(n, at),
-            Lexeme::OctalTooLarge => return octal_refused(n, at),
-            Lexeme::NoToken => return Cut::Refused(refused::NO_TOKEN, Place::Text(at)),
-            Lexeme::TooLarge => return Cut::Refused(refused::NUMERAL_LARGE, Place::Text(at)),
+            Lexeme::Octal(_) => return Err(octal_refused(n, at)),
+            Lexeme::OctalTooLarge => return Err(octal_refused(n, at)),
+            Lexeme::NoToken => return Err(refused(refused::NO_TOKEN, at)),
+            Lexeme::TooLarge => return Err(refused(refused::NUMERAL_LARGE, at)),
         }
     }
-    Cut::Counted(n)
+    Ok(n)
 }

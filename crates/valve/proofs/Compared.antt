@@ -1,17 +1,13 @@
 -- From the stages' answers to those of `recheck`.
 use Prim.Native.Nat.{ℕ}
+use Rattle.std.specs.Prelude.{Result, Err}
+use Rattle.paper.specs.declared.Refusal.{Refusal}
 use mathlib.Core.Path.{◌≡◌, refl, sym, ap, ◌∙◌}
 use mathlib.Core.Bool.{Bool, true, false, cond, ◌&&◌, and-false}
 use mathlib.Core.List.{List}
 use lib.ListN.{length}
 use Rattle.paper.specs.declared.Place.{Place}
-use Rattle.paper.specs.declared.Counted.{Counted}
-use Rattle.paper.specs.declared.Counted.TheVariants as S
-use Rattle.paper.specs.declared.Checking.{Checking}
-use Rattle.paper.specs.declared.Checking.TheVariants as C
-use Rattle.paper.specs.declared.Judgement.{Judgement}
-use Rattle.paper.specs.declared.Judgement.TheVariants as J
-use Rattle.paper.specs.Answers.{Answer, checking_says}
+use Rattle.paper.specs.Answers.{Answer, says, refusal, Judgement}
 use Rattle.paper.specs.Grammar as G
 use Rattle.paper.specs.Keys.{Key}
 use Rattle.paper.specs.Entry.{entry_of}
@@ -43,10 +39,10 @@ module _ (text list old new : List ℕ) where
 
   -- where text or list are refused, and where an entry is, nothing is reused
 
-  pub not_passed : (nodes : List ℕ) (r : Counted) → Restricts text list nodes r
-      → {n : ℕ} {p : Place} → r ≡ S.Refused n p → Compared text list old new (Other (J.Refused n p))
+  pub not_passed : (nodes : List ℕ) (r : Result ℕ Refusal) → Restricts text list nodes r
+      → {v : Refusal} → r ≡ Err v → Compared text list old new (Other (refusal n p))
   not_passed nodes r told {n} {p} e =
-      judged_afresh (ap (λ (x : Answer Restriction). reuses_by x old new) (not_restricted text list nodes r told e)) (J.Refused n p) (verdicts.not_passed text list new nodes r told e)
+      judged_afresh (ap (λ (x : Answer Restriction). reuses_by x old new) (not_restricted text list nodes r told e)) (refusal n p) (verdicts.not_passed text list new nodes r told e)
 
   module _ (nodes : List ℕ) (k : ℕ) (r : Rooted text list nodes k) where
     abbrev ks : List Key
@@ -62,14 +58,14 @@ module _ (text list old new : List ℕ) where
     tests : (a b : Bool) → passes (entry_of ks old) ≡ a → passes (entry_of ks new) ≡ b → same_in text list old new ≡ (a && b && same_from (names ks root) old new 0 (length ks) && same_priority (marked root) old new)
     tests a b e f = rw (r.passed, e, f)
 
-    pub new_refused : (x : Checking) → checking_says x ≡ conforms ks new
-        → {n : ℕ} {p : Place} → x ≡ C.Refused n p → Compared text list old new (Other (J.Refused n p))
+    pub new_refused : (x : Result (Unit {0}) Refusal) → says x ≡ conforms ks new
+        → {v : Refusal} → x ≡ Err v → Compared text list old new (Other (refusal n p))
     new_refused x says {n} {p} e =
-        let stop : passes (entry_of ks new) ≡ false = ap passes (K.not_entered ks new (sym says ∙ ap checking_says e)) in
-        judged_afresh (tests _ false refl stop ∙ rw (and-false (passes (entry_of ks old)))) (J.Refused n p) (verdicts.not_entered text list new nodes k r x says e)
+        let stop : passes (entry_of ks new) ≡ false = ap passes (K.not_entered ks new (sym says ∙ ap says e)) in
+        judged_afresh (tests _ false refl stop ∙ rw (and-false (passes (entry_of ks old)))) (refusal n p) (verdicts.not_entered text list new nodes k r x says e)
 
-    pub old_refused : (x : Checking) → checking_says x ≡ conforms ks old → {n : ℕ} {p : Place} → x ≡ C.Refused n p → false ≡ same_in text list old new
-    old_refused x says e = sym (tests false _ (ap passes (K.not_entered ks old (sym says ∙ ap checking_says e))) refl)
+    pub old_refused : (x : Result (Unit {0}) Refusal) → says x ≡ conforms ks old → {v : Refusal} → x ≡ Err v → false ≡ same_in text list old new
+    old_refused x says e = sym (tests false _ (ap passes (K.not_entered ks old (sym says ∙ ap says e))) refl)
 
     pub both_enter : Conforming list old → Conforming list new → same_named ≡ same_in text list old new
     both_enter was is = sym (tests true true (ap passes was.entered) (ap passes is.entered))

@@ -7,8 +7,7 @@ use lib.ListN.{length}
 use borrow.Author.Tests.{le-leb, lt-leb}
 use Rattle.paper.specs.declared.Place.{Place}
 use Rattle.paper.specs.declared.Place.TheVariants as P
-use Rattle.paper.specs.declared.Drafting.TheVariants as D
-use Rattle.paper.specs.Answers.{ok, refused, ◌>>=◌, input_of, offset_of}
+use Rattle.paper.specs.Answers.{ok, refused, ◌>>=◌, input_of, offset_of, refusal}
 use Rattle.paper.specs.Keys.{records_in}
 use Rattle.paper.specs.Grammar.{Tree}
 use Rattle.paper.specs.Print.{print}
@@ -23,7 +22,7 @@ use Rattle.valve.specs.Lent.{LentDraft}
 
 -- a refusal leaves the buffer
 abbrev pub unwritten : ℕ → Place → List ℕ → DraftResult
-unwritten n p buffer = record { answer = D.Refused n p; buffer = buffer }
+unwritten n p buffer = record { answer = refusal n p; buffer = buffer }
 
 module _ (contract table list buffer : List ℕ) where
   pub names_refused : {n : ℕ} (p : Place) → names_of list ≡ refused n (input_of p) (offset_of p)

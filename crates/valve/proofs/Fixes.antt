@@ -1,6 +1,8 @@
 -- From the answer of the pass to that of `fix_octal`: a refusal by the old rules leaves the buffer, and a result, which is never longer than the text
 -- and so not past the limit, is lent where the buffer has room.
 use Prim.Native.Nat.{ℕ, ◌≤◌, ◌<◌}
+use Rattle.std.specs.Prelude.{Result, Ok}
+use Rattle.paper.specs.declared.Refusal.{Refusal}
 use native.Mathlib.Omega.{arith}
 use mathlib.Core.Path.{◌≡◌, refl, ap, sym, subst, ◌∙◌}
 use mathlib.Core.Bool.{true}
@@ -10,24 +12,21 @@ use lib.Dec.{leb}
 use borrow.Author.Tests.{le-leb, lt-leb}
 use Rattle.paper.specs.declared.Place.{Place}
 use Rattle.paper.specs.declared.Place.TheVariants as P
-use Rattle.paper.specs.declared.Counted.{Counted}
-use Rattle.paper.specs.declared.Counted.TheVariants as S
-use Rattle.paper.specs.declared.Fixing.TheVariants as F
-use Rattle.paper.specs.Answers.{Answer, ok, refused, ◌>>=◌, in_text, in_buffer, input_of, offset_of, counted_says}
+use Rattle.paper.specs.Answers.{Answer, ok, refused, ◌>>=◌, in_text, in_buffer, input_of, offset_of, says, refusal}
 use Rattle.paper.specs.Tokens.{Token, most_text}
 use Rattle.paper.specs.Calls.{over, laid, lends}
-use Rattle.paper.specs.Fixing.{old_tokens, fixed, fixable, fix_answer, fix_buffer, fixing_says}
+use Rattle.paper.specs.Fixing.{old_tokens, fixed, fixable, fix_answer, fix_buffer, says}
 use Rattle.paper.specs.Promised.{FixResult, FixPromised}
 use Rattle.paper.proofs.NeverLonger.{never_longer}
 use Rattle.tokens.specs.Fixes.{StandsFirst, Fixes}
 
 -- a refusal leaves the buffer
 abbrev refusal : ℕ → Place → List ℕ → FixResult
-refusal n p buffer = record { answer = F.Refused n p; buffer = buffer }
+refusal n p buffer = record { answer = refusal n p; buffer = buffer }
 
 -- by what the call is to lend, or the refusal in its place
 promised : {text buffer : List ℕ} {a : Answer (List ℕ)} → fixable text buffer ≡ a → (r : FixResult)
-    → fixing_says r.answer ≡ (a >>= λ s. ok (length s)) → r.buffer ≡ laid a buffer → FixPromised text buffer r
+    → says r.answer ≡ (a >>= λ s. ok (length s)) → r.buffer ≡ laid a buffer → FixPromised text buffer r
 unfolding fix_answer fix_buffer
 promised e r says holds = record { says = rw e says; holds = rw e holds }
 
@@ -45,10 +44,10 @@ pub record Fixed (text scratch : List ℕ) (n : ℕ) : Type 0 where
   pub bytes : take n scratch ≡ fixed text
   pub short : n ≤ length text
 
-module _ (text scratch : List ℕ) (r : Counted) (fixes : Fixes text scratch r) where
-  pub not_fixed : {n : ℕ} {p : Place} (buffer : List ℕ) → length text ≤ most_text → r ≡ S.Refused n p → FixPromised text buffer (refusal n p buffer)
+module _ (text scratch : List ℕ) (r : Result ℕ Refusal) (fixes : Fixes text scratch r) where
+  pub not_fixed : {n : ℕ} {p : Place} (buffer : List ℕ) → length text ≤ most_text → r ≡ refusal n p → FixPromised text buffer (refusal n p buffer)
   unfolding fixable
-  not_fixed {n} {p} buffer few e = go (old_tokens text) refl (ap counted_says (sym e) ∙ fixes.says)
+  not_fixed {n} {p} buffer few e = go (old_tokens text) refl (ap says (sym e) ∙ fixes.says)
     where
       go : (a : Answer (List Token)) → old_tokens text ≡ a → refused n (input_of p) (offset_of p) ≡ (a >>= λ _. ok (length (fixed text)))
           → FixPromised text buffer (refusal n p buffer)
@@ -57,8 +56,8 @@ module _ (text scratch : List ℕ) (r : Counted) (fixes : Fixes text scratch r) 
           let old : fixable text buffer ≡ refused m i at = rw (le-leb (length text) most_text few, o) in
           promised old _ f refl
 
-  pub is_fixed : {n : ℕ} → r ≡ S.Count n → Fixed text scratch n
-  is_fixed {n} e = go (old_tokens text) refl (ap counted_says (sym e) ∙ fixes.says) (subst (StandsFirst (fixed text) scratch) e fixes.holds)
+  pub is_fixed : {n : ℕ} → r ≡ Ok n → Fixed text scratch n
+  is_fixed {n} e = go (old_tokens text) refl (ap says (sym e) ∙ fixes.says) (subst (StandsFirst (fixed text) scratch) e fixes.holds)
     where
       go : (a : Answer (List Token)) → old_tokens text ≡ a → ok n ≡ (a >>= λ _. ok (length (fixed text))) → take n scratch ≡ fixed text → Fixed text scratch n
       go (ok ts) o f s =
@@ -82,7 +81,7 @@ module _ {text scratch : List ℕ} {n : ℕ} (f : Fixed text scratch n) (few : l
       promised (lends_it past) _ refl refl
 
   pub lent : (exit : List ℕ) → n ≤ length buffer → exit ≡ over (take n scratch) buffer
-      → FixPromised text buffer (record { answer = F.Fixed n; buffer = exit })
+      → FixPromised text buffer (record { answer = Ok n; buffer = exit })
   lent exit h e =
       let fits : lends (fixed text) buffer ≡ ok (fixed text) =
       rw (within_limit, le-leb (length (fixed text)) (length buffer) (omega (arith, f.count)))

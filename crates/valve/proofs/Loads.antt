@@ -1,12 +1,12 @@
 -- The stages of a load: its answer from theirs.
 use Prim.Native.Nat.{ℕ}
+use Rattle.std.specs.Prelude.{Result, Ok, Err}
+use Rattle.paper.specs.declared.Refusal.{Refusal}
 use mathlib.Core.Path.{◌≡◌, refl, sym, ap, ◌∙◌}
 use mathlib.Core.List.{List}
 use lib.ListN.{length}
 use Rattle.paper.specs.declared.Place.{Place}
-use Rattle.paper.specs.declared.Counted.{Counted}
-use Rattle.paper.specs.declared.Counted.TheVariants as S
-use Rattle.paper.specs.Answers.{Answer, ok, refused, ◌>>=◌, Input, input_of, offset_of, counted_says}
+use Rattle.paper.specs.Answers.{Answer, ok, refused, ◌>>=◌, Input, input_of, offset_of, says, refused_by}
 use Rattle.paper.specs.Keys.{Key}
 use Rattle.paper.specs.Blocks.{total_of, layout}
 use Rattle.paper.specs.Loading.{instructions_from, types_along, load_check, loaded}
@@ -32,11 +32,11 @@ module _ (ks : List Key) (blocks : List ℕ) where
   staged = total_kept (layout (length ks) blocks) (total_of blocks)
 
   -- the layout's answer: a refusal is passed up, a count goes on to the types
-  module _ (r : Counted) (says : counted_says r ≡ laid_out (length ks) blocks) where
-    pub layout_refused : {k : ℕ} {p : Place} → r ≡ S.Refused k p → refused k (input_of p) (offset_of p) ≡ loaded ks blocks
+  module _ (r : Result ℕ Refusal) (says : says r ≡ laid_out (length ks) blocks) where
+    pub layout_refused : {v : Refusal} → r ≡ Err v → refused_by v ≡ loaded ks blocks
     layout_refused e = refused_up (λ m. types_ok m >>= λ _. ok m) r says e ∙ sym staged
 
-    pub types_told : {n : ℕ} {a : Answer (Unit {0})} → r ≡ S.Count n → types_ok n ≡ a → (a >>= λ _. ok n) ≡ loaded ks blocks
+    pub types_told : {n : ℕ} {a : Answer (Unit {0})} → r ≡ Ok n → types_ok n ≡ a → (a >>= λ _. ok n) ≡ loaded ks blocks
     types_told {n} e f =
         sym (ap (λ (x : Answer (Unit {0})). x >>= λ _. ok n) f) ∙ counted_on (λ m. types_ok m >>= λ _. ok m) r says e ∙ sym staged
 

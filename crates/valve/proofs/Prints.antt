@@ -1,5 +1,7 @@
 -- From the stages' answers to that of `print`, and from what was written to scratch to what is lent.
 use Prim.Native.Nat.{ℕ, ◌-◌, ◌≤◌, ◌<◌}
+use Rattle.std.specs.Prelude.{Result, Ok, Err}
+use Rattle.paper.specs.declared.Refusal.{Refusal}
 use native.Mathlib.Omega.{arith}
 use mathlib.Core.Path.{◌≡◌, subst}
 use mathlib.Core.List.{List}
@@ -7,11 +9,7 @@ use lib.ListN.{length, take}
 use borrow.Author.Tests.{le-leb, lt-leb, le-ltb}
 use Rattle.paper.specs.declared.Place.{Place}
 use Rattle.paper.specs.declared.Place.TheVariants as P
-use Rattle.paper.specs.declared.Counted.{Counted}
-use Rattle.paper.specs.declared.Counted.TheVariants as S
-use Rattle.paper.specs.declared.Printing.{Printing}
-use Rattle.paper.specs.declared.Printing.TheVariants as W
-use Rattle.paper.specs.Answers.{refused, input_of, offset_of}
+use Rattle.paper.specs.Answers.{refused, input_of, offset_of, refusal}
 use Rattle.paper.specs.Tokens.{most_text}
 use Rattle.paper.specs.Grammar.{Tree}
 use Rattle.paper.specs.Print.{rung, looser, enclosed, print}
@@ -25,7 +23,7 @@ use Rattle.valve.specs.Lent.{Lent}
 
 -- a refusal leaves the buffer
 abbrev pub refusal : ℕ → Place → List ℕ → PrintResult
-refusal n p buffer = record { answer = W.Refused n p; buffer = buffer }
+refusal n p buffer = record { answer = refusal n p; buffer = buffer }
 
 -- bytes that are lent, or not
 
@@ -41,7 +39,7 @@ module _ (new buffer : List ℕ) where
       }
 
   pub lent_whole : length new ≤ most_text → length new ≤ length buffer
-      → Lent new buffer (record { answer = W.Printed (length new); buffer = over new buffer })
+      → Lent new buffer (record { answer = Ok (length new); buffer = over new buffer })
   lent_whole few room =
       record {
         says = rw (le-leb (length new) most_text few, le-leb (length new) (length buffer) room);
@@ -58,13 +56,13 @@ module _ {scratch written : List ℕ} {n : ℕ} (t : Tree) (limit : length scrat
   whole : n ≤ most_text → Whole scratch (print t) written n
   whole few = came_to_the_end writes_print (omega (arith, limit, few))
 
-  pub past_the_limit : most_text < n → (answer : Printing) → answer ≡ W.Refused 21 (P.Buffer (length buffer))
+  pub past_the_limit : most_text < n → (answer : Result ℕ Refusal) → answer ≡ refusal 21 (P.Buffer (length buffer))
       → Lent (print t) buffer (record { answer = answer; buffer = buffer })
   past_the_limit many answer e =
       let over-it = came_past_the_room writes_print (omega (arith, limit, many)) in
       rw e (over_scratch (print t) buffer (omega (arith, limit, over-it)))
 
-  pub past_the_buffer : n ≤ most_text → length buffer < n → (answer : Printing) → answer ≡ W.Refused 21 (P.Buffer (length buffer))
+  pub past_the_buffer : n ≤ most_text → length buffer < n → (answer : Result ℕ Refusal) → answer ≡ refusal 21 (P.Buffer (length buffer))
       → Lent (print t) buffer (record { answer = answer; buffer = buffer })
   past_the_buffer few h answer e =
       let w = whole few in
@@ -75,7 +73,7 @@ module _ {scratch written : List ℕ} {n : ℕ} (t : Tree) (limit : length scrat
   written_there few = omega (arith, few, limit, writes.kept)
 
   pub lent_first : n ≤ most_text → n ≤ length buffer → (exit : List ℕ) → exit ≡ over (take n written) buffer
-      → Lent (print t) buffer (record { answer = W.Printed n; buffer = exit })
+      → Lent (print t) buffer (record { answer = Ok n; buffer = exit })
   lent_first few h exit e =
       let w = whole few in
       rw (e, w.bytes, w.count) (lent_whole (print t) buffer (omega (arith, limit, w.room)) (omega (arith, h, w.count)))
@@ -86,8 +84,8 @@ module _ (text buffer : List ℕ) where
   unfolding print_answer print_buffer printable
   too_long h = record { says = rw (lt-leb (length text) most_text h); holds = rw (lt-leb (length text) most_text h) }
 
-  module _ (h : length text ≤ most_text) (nodes : List ℕ) (r : Counted) (grows : Grows text nodes r) where
-    pub not_printed : {n : ℕ} {p : Place} → r ≡ S.Refused n p → PrintPromised text buffer (refusal n p buffer)
+  module _ (h : length text ≤ most_text) (nodes : List ℕ) (r : Result ℕ Refusal) (grows : Grows text nodes r) where
+    pub not_printed : {v : Refusal} → r ≡ Err v → PrintPromised text buffer (refusal n p buffer)
     unfolding print_answer print_buffer printable
     not_printed {n} {p} e =
         let g : tree text ≡ refused n (input_of p) (offset_of p) = subst (Grows text nodes) e grows in

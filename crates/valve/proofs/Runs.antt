@@ -9,8 +9,7 @@ use lib.ListN.{length, get_or, length-map}
 use borrow.Author.Tests.{eq-eqb, ne_eqb, le-leb, lt-leb}
 use Rattle.paper.specs.declared.Place.{Place}
 use Rattle.paper.specs.declared.Place.TheVariants as P
-use Rattle.paper.specs.declared.RunningAll.TheVariants as A
-use Rattle.paper.specs.Answers.{Answer, ok, refused, ◌>>=◌, Input, in_entry, input_of, offset_of, Ran}
+use Rattle.paper.specs.Answers.{Answer, ok, refused, ◌>>=◌, Input, in_entry, input_of, offset_of, Ran, refusal}
 use Rattle.paper.specs.Keys.{Key, keys}
 use Rattle.paper.specs.Entry.{Entry, entry_of}
 use Rattle.paper.specs.Loading.{program, loaded, run_along, left_true}
@@ -29,7 +28,7 @@ use Rattle.keys.proofs.Conforming.{entry_in, entered, not_entered}
 
 -- what is promised of a table that is refused: the answers stay
 abbrev refusal : ℕ → Place → List ℕ → RunAllResult
-refusal n p answers = record { answer = A.Refused n p; bytes = answers }
+refusal n p answers = record { answer = refusal n p; bytes = answers }
 
 module _ (list blocks : List ℕ) where
   -- a load that is refused refuses the call

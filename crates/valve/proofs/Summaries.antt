@@ -1,11 +1,11 @@
 -- From the answer of a check and a walk over the tree to that of `summarize`.
 use Prim.Native.Nat.{ℕ}
+use Rattle.std.specs.Prelude.{Result, Err}
+use Rattle.paper.specs.declared.Refusal.{Refusal}
 use mathlib.Core.Path.{◌≡◌}
 use mathlib.Core.List.{List}
 use Rattle.paper.specs.declared.Place.{Place}
-use Rattle.paper.specs.declared.Counted.{Counted}
-use Rattle.paper.specs.declared.Counted.TheVariants as S
-use Rattle.paper.specs.Answers.{ok, refused, input_of, offset_of}
+use Rattle.paper.specs.Answers.{ok, refused, input_of, offset_of, refused_by}
 use Rattle.paper.specs.Named as P
 use Rattle.paper.specs.Named.{names, marked, summary_answer}
 use Rattle.keys.specs.Says.{keys_in}
@@ -20,8 +20,8 @@ abbrev pub meant : Summary → P.Summary
 meant s = record { keys = s.keys; priority = s.priority }
 
 module _ (text list : List ℕ) where
-  pub not_passed : (nodes : List ℕ) (r : Counted) → Restricts text list nodes r
-      → {n : ℕ} {p : Place} → r ≡ S.Refused n p → refused n (input_of p) (offset_of p) ≡ summary_answer text list
+  pub not_passed : (nodes : List ℕ) (r : Result ℕ Refusal) → Restricts text list nodes r
+      → {v : Refusal} → r ≡ Err v → refused_by v ≡ summary_answer text list
   unfolding summary_answer
   not_passed nodes r told e = rw (not_restricted text list nodes r told e)
 

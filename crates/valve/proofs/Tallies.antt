@@ -7,8 +7,7 @@ use lib.ListN.{length, replicate, length-map}
 use borrow.Author.Tests.{le-leb, lt-leb}
 use Rattle.paper.specs.declared.Place.{Place}
 use Rattle.paper.specs.declared.Place.TheVariants as P
-use Rattle.paper.specs.declared.Counting.TheVariants as C
-use Rattle.paper.specs.Answers.{ok, refused, input_of, offset_of}
+use Rattle.paper.specs.Answers.{ok, refused, input_of, offset_of, refusal}
 use Rattle.paper.specs.Calls.{restriction, over}
 use Rattle.paper.specs.Counting.{entry_size, whole_in, cut_in, most_entries, Counts, counts_of, counted, count_answer, count_numbers}
 use Rattle.paper.specs.Promised.{CountResult, CountPromised}
@@ -23,7 +22,7 @@ use Rattle.counting.proofs.Growing.{from_zeros}
 
 -- a refusal leaves the numbers
 abbrev refusal : ℕ → Place → List ℕ → CountResult
-refusal n p numbers = record { answer = C.Refused n p; numbers = numbers }
+refusal n p numbers = record { answer = refusal n p; numbers = numbers }
 
 module _ (text list entries numbers : List ℕ) where
   pub text_refused : {n : ℕ} {p : Place} → restriction text list ≡ refused n (input_of p) (offset_of p)

@@ -1,13 +1,13 @@
 -- From the stages' answers to those of `read` and `check`.
 use Prim.Native.Nat.{ℕ, ◌≤◌, ◌<◌}
+use Rattle.std.specs.Prelude.{Result, Ok, Err}
+use Rattle.paper.specs.declared.Refusal.{Refusal}
 use mathlib.Core.Path.{◌≡◌, sym, ◌∙◌, ap, subst}
 use mathlib.Core.List.{List}
 use lib.ListN.{length}
 use borrow.Author.Tests.{le-leb, lt-leb}
 use Rattle.paper.specs.declared.Place.{Place}
-use Rattle.paper.specs.declared.Counted.{Counted}
-use Rattle.paper.specs.declared.Counted.TheVariants as S
-use Rattle.paper.specs.Answers.{Answer, ok, refused, ◌>>=◌, in_text, input_of, offset_of}
+use Rattle.paper.specs.Answers.{Answer, ok, refused, ◌>>=◌, in_text, input_of, offset_of, refused_by}
 use Rattle.paper.specs.Tokens.{most_text}
 use Rattle.paper.specs.Grammar as G
 use Rattle.paper.specs.Calls.{tree, Restriction, restriction, read_answer, check_answer}
@@ -20,26 +20,26 @@ module _ (text : List ℕ) where
   unfolding read_answer
   too_long h = rw (lt-leb (length text) most_text h)
 
-  module _ (h : length text ≤ most_text) (nodes : List ℕ) (r : Counted) (grows : Grows text nodes r) where
+  module _ (h : length text ≤ most_text) (nodes : List ℕ) (r : Result ℕ Refusal) (grows : Grows text nodes r) where
     short : read_answer text ≡ (tree text >>= λ t. ok (G.nodes t))
     unfolding read_answer
     short = rw (le-leb (length text) most_text h)
 
-    pub not_read : {n : ℕ} {p : Place} → r ≡ S.Refused n p → refused n (input_of p) (offset_of p) ≡ read_answer text
+    pub not_read : {v : Refusal} → r ≡ Err v → refused_by v ≡ read_answer text
     not_read {n} {p} e =
         let g : tree text ≡ refused n (input_of p) (offset_of p) = subst (Grows text nodes) e grows in
         sym (short ∙ rw g)
 
-    pub is_read : {m : ℕ} → r ≡ S.Count m → ok m ≡ read_answer text
+    pub is_read : {m : ℕ} → r ≡ Ok m → ok m ≡ read_answer text
     is_read {m} e =
         let g : Planted text nodes m = subst (Grows text nodes) e grows in
         sym (short ∙ rw g.read (ap ok (sym g.count)))
 
-module _ (text list nodes : List ℕ) (r : Counted) (told : Restricts text list nodes r) where
-  pub not_checked : {n : ℕ} {p : Place} → r ≡ S.Refused n p → refused n (input_of p) (offset_of p) ≡ check_answer text list
+module _ (text list nodes : List ℕ) (r : Result ℕ Refusal) (told : Restricts text list nodes r) where
+  pub not_checked : {v : Refusal} → r ≡ Err v → refused_by v ≡ check_answer text list
   unfolding check_answer restriction
   not_checked e = sym (ap (λ (x : Answer Restriction). x >>= λ _. ok tt) (not_restricted text list nodes r told e))
 
-  pub is_checked : {k : ℕ} → r ≡ S.Count k → ok tt ≡ check_answer text list
+  pub is_checked : {k : ℕ} → r ≡ Ok k → ok tt ≡ check_answer text list
   unfolding check_answer restriction
   is_checked e = sym (ap (λ (x : Answer Restriction). x >>= λ _. ok tt) (rooted text list nodes r told e).passed)

@@ -1,14 +1,12 @@
 -- From the stages' answers to those of `judge`.
 use Prim.Native.Nat.{ℕ}
+use Rattle.std.specs.Prelude.{Result, Ok, Err}
+use Rattle.paper.specs.declared.Refusal.{Refusal}
 use mathlib.Core.Path.{◌≡◌, sym, ◌∙◌, ap}
 use mathlib.Core.Bool.{Bool}
 use mathlib.Core.List.{List}
 use Rattle.paper.specs.declared.Place.{Place}
-use Rattle.paper.specs.declared.Counted.{Counted}
-use Rattle.paper.specs.declared.Counted.TheVariants as S
-use Rattle.paper.specs.declared.Checking.{Checking}
-use Rattle.paper.specs.declared.Checking.TheVariants as C
-use Rattle.paper.specs.Answers.{ok, refused, ◌>>=◌, input_of, offset_of, checking_says}
+use Rattle.paper.specs.Answers.{ok, refused, ◌>>=◌, input_of, offset_of, says, refused_by}
 use Rattle.paper.specs.Grammar as G
 use Rattle.paper.specs.Entry.{entry_of}
 use Rattle.paper.specs.Meaning.{value_of, is_true}
@@ -22,8 +20,8 @@ use Rattle.reading.proofs.Stages.{not_restricted}
 use Rattle.judging.specs.Holding.{tree_holds}
 
 module _ (text list entry : List ℕ) where
-  pub not_passed : (nodes : List ℕ) (r : Counted) → Restricts text list nodes r
-      → {n : ℕ} {p : Place} → r ≡ S.Refused n p → refused n (input_of p) (offset_of p) ≡ judge_answer text list entry
+  pub not_passed : (nodes : List ℕ) (r : Result ℕ Refusal) → Restricts text list nodes r
+      → {v : Refusal} → r ≡ Err v → refused_by v ≡ judge_answer text list entry
   unfolding judge_answer
   not_passed nodes r told e = rw (not_restricted text list nodes r told e)
 
@@ -35,12 +33,12 @@ module _ (text list entry : List ℕ) where
     unfolding judge_answer
     by_entry = rw r.passed
 
-    module _ (x : Checking) (says : checking_says x ≡ conforms (keys_in list) entry) where
-      pub not_entered : {n : ℕ} {p : Place} → x ≡ C.Refused n p → refused n (input_of p) (offset_of p) ≡ judge_answer text list entry
-      not_entered e = sym (by_entry ∙ rw (K.not_entered (keys_in list) entry (sym says ∙ ap checking_says e)))
+    module _ (x : Result (Unit {0}) Refusal) (says : says x ≡ conforms (keys_in list) entry) where
+      pub not_entered : {v : Refusal} → x ≡ Err v → refused_by v ≡ judge_answer text list entry
+      not_entered e = sym (by_entry ∙ rw (K.not_entered (keys_in list) entry (sym says ∙ ap says e)))
 
-      pub conforming : x ≡ C.Passed → Conforming list entry
-      conforming e = record { listed = r.listed; entered = K.entered (keys_in list) entry (sym says ∙ ap checking_says e) }
+      pub conforming : x ≡ (Ok tt) → Conforming list entry
+      conforming e = record { listed = r.listed; entered = K.entered (keys_in list) entry (sym says ∙ ap says e) }
 
     -- the judgement is whether the tree is true on an entry that conforms
     pub judged_by : Conforming list entry → (b : Bool) → b ≡ tree_holds text list entry nodes k → ok b ≡ judge_answer text list entry

@@ -3,9 +3,9 @@
 ghost use Rattle.paper.specs.Demands.{CheckAnswered};
 
 use crate::text;
-use paper::Checking;
+use paper::{Refusal};
 
-fn checked(text: &[u8], list: &[u8]) -> Checking
+fn checked(text: &[u8], list: &[u8]) -> Result<(), Refusal>
     ensures { CheckAnswered text.now list.now result }
 {
     text::check(text, list)

@@ -11,7 +11,7 @@ ghost use Rattle.valve.specs.Divided.{fits_parts};
 use crate::loading;
 use blocks::Block;
 use keys::KeyRecord;
-use paper::{Agreement, Counted, Loading};
+use paper::{Agreement, Refusal};
 use reading::Tried;
 
 // The bytes of a node's code; and of the skip and the join of the first part, which the text's own code has not.
@@ -24,13 +24,13 @@ const CODE: usize = NODE_CODE * reading::MOST_NODES + FIRST_JOINED;
 // Where each part begins, and the end.
 const STARTS: usize = parts::MOST_PARTS + 1;
 
-fn agreement(agrees: bool) -> Agreement
+fn agreement(agrees: bool) -> Result<Agreement, Refusal>
     ensures { agreement_says result ≡ ok agrees }
 {
     if agrees {
-        return Agreement::Agrees;
+        return Ok(Agreement::Agrees);
     }
-    Agreement::Differs
+    Ok(Agreement::Differs)
 }
 
 // Whether the first `count` instructions of blocks are the parts in some order.
@@ -54,15 +54,15 @@ fn agrees_by(
 }
 
 // By the parts of a text that passed: 16; 17; 18; and whether the blocks agree.
-fn compare_by(list: &[u8], blocks: &[u8], nodes: &[u32], rows: &[u32], n: usize) -> Agreement
+fn compare_by(list: &[u8], blocks: &[u8], nodes: &[u32], rows: &[u32], n: usize) -> Result<Agreement, Refusal>
     requires { (text : List ℕ) × PassedParts text list.now nodes.now rows.now n }
     ensures { (text : List ℕ) → PassedParts text list.now nodes.now rows.now n
         → ComparePromised text list.now blocks.now result }
 {
     let loaded = loading::load_for(list, blocks, list.len() / KeyRecord::SIZE);
     match loaded {
-        Loading::Refused(number, place) => Agreement::Refused(number, place),
-        Loading::Loaded(count) => agreement(agrees_by(list, blocks, count, nodes, rows, n)),
+        Err(refusal) => Err(refusal),
+        Ok(count) => agreement(agrees_by(list, blocks, count, nodes, rows, n)),
     }
 }
 
@@ -73,20 +73,20 @@ fn compare_told(
     blocks: &[u8],
     nodes: &[u32],
     rows: &[u32],
-    restricted: Counted,
-) -> Agreement
+    restricted: Result<usize, Refusal>,
+) -> Result<Agreement, Refusal>
     requires { (text : List ℕ) × RestrictsParts text list.now nodes.now rows.now restricted }
     ensures { (text : List ℕ) → RestrictsParts text list.now nodes.now rows.now restricted
         → ComparePromised text list.now blocks.now result }
 {
     match restricted {
-        Counted::Refused(number, place) => Agreement::Refused(number, place),
-        Counted::Count(n) => compare_by(list, blocks, nodes, rows, n),
+        Err(refusal) => Err(refusal),
+        Ok(n) => compare_by(list, blocks, nodes, rows, n),
     }
 }
 
 // With nodes for any text. The rows are lent, so that there is one set of them.
-fn compare_long(text: &[u8], list: &[u8], blocks: &[u8], rows: &mut [u32]) -> Agreement
+fn compare_long(text: &[u8], list: &[u8], blocks: &[u8], rows: &mut [u32]) -> Result<Agreement, Refusal>
     requires { RowRoom rows.old }
     ensures { ComparePromised text.now list.now blocks.now result }
 {
@@ -96,7 +96,7 @@ fn compare_long(text: &[u8], list: &[u8], blocks: &[u8], rows: &mut [u32]) -> Ag
 }
 
 // Whether the blocks are our translation of the text's parts, each used once, in some order, joined from the left.
-pub fn compare(text: &[u8], list: &[u8], blocks: &[u8]) -> Agreement
+pub fn compare(text: &[u8], list: &[u8], blocks: &[u8]) -> Result<Agreement, Refusal>
     ensures { ComparePromised text.now list.now blocks.now result }
 {
     let mut nodes = [0u32; reading::SHORT_NODE_WORDS];

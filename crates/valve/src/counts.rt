@@ -4,7 +4,7 @@ ghost use Rattle.paper.specs.Promised.{CountPromised};
 ghost use Rattle.reading.specs.Grown.{RowRoom};
 ghost use Rattle.reading.specs.Parted.{PassedParts, RestrictsParts};
 
-use paper::{Counted, Counting, Place, refused};
+use paper::{Counted, Place, Refusal, refused};
 use reading::Tried;
 
 // The most entries that are counted.
@@ -18,24 +18,27 @@ fn count_by(
     rows: &[u32],
     n: usize,
     parts: &mut [u64; parts::MOST_PARTS],
-) -> Counting
+) -> Result<Counted, Refusal>
     requires { (text : List ℕ) × PassedParts text list.now nodes.now rows.now n }
     ensures { (text : List ℕ) → PassedParts text list.now nodes.now rows.now n
         → CountPromised text list.now entries.now parts.old (record { answer = result; numbers = parts.new }) }
 {
     let size = keys::entry_size(list);
     if MOST_ENTRIES < entries.len() / size {
-        return Counting::Refused(refused::ENTRIES_MANY, Place::Entry(MOST_ENTRIES * size));
+        return Err(Refusal {
+number: refused::ENTRIES_MANY,
+place: Place::Entry(MOST_ENTRIES * size),
+});
     }
     counting::clear(parts, n);
     let totals = counting::tally(list, nodes, rows, n, entries, parts);
-    Counting::Counted(
-        n,
-        totals.accepted,
-        totals.violated,
-        totals.refused,
-        entries.len() % size,
-    )
+    Ok(Counted {
+parts: n,
+accepted: totals.accepted,
+violated: totals.violated,
+refused: totals.refused,
+cut: entries.len() % size,
+})
 }
 
 // By what was answered of text and list, with the tree in nodes and the parts in rows that are lent.
@@ -44,16 +47,16 @@ fn count_told(
     entries: &[u8],
     nodes: &[u32],
     rows: &[u32],
-    restricted: Counted,
+    restricted: Result<usize, Refusal>,
     parts: &mut [u64; parts::MOST_PARTS],
-) -> Counting
+) -> Result<Counted, Refusal>
     requires { (text : List ℕ) × RestrictsParts text list.now nodes.now rows.now restricted }
     ensures { (text : List ℕ) → RestrictsParts text list.now nodes.now rows.now restricted
         → CountPromised text list.now entries.now parts.old (record { answer = result; numbers = parts.new }) }
 {
     match restricted {
-        Counted::Refused(number, place) => Counting::Refused(number, place),
-        Counted::Count(n) => count_by(list, entries, nodes, rows, n, parts),
+        Err(refusal) => Err(refusal),
+        Ok(n) => count_by(list, entries, nodes, rows, n, parts),
     }
 }
 
@@ -64,7 +67,7 @@ fn count_long(
     entries: &[u8],
     rows: &mut [u32],
     parts: &mut [u64; parts::MOST_PARTS],
-) -> Counting
+) -> Result<Counted, Refusal>
     requires { RowRoom rows.old }
     ensures { CountPromised text.now list.now entries.now parts.old (record { answer = result; numbers = parts.new }) }
 {
@@ -80,7 +83,7 @@ pub fn count(
     list: &[u8],
     entries: &[u8],
     parts: &mut [u64; parts::MOST_PARTS],
-) -> Counting
+) -> Result<Counted, Refusal>
     ensures { CountPromised text.now list.now entries.now parts.old (record { answer = result; numbers = parts.new }) }
 {
     let mut nodes = [0u32; reading::SHORT_NODE_WORDS];

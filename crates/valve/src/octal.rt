@@ -5,29 +5,32 @@ ghost use Rattle.paper.specs.Promised.{FixPromised};
 ghost use Rattle.reading.specs.Grown.{Short};
 
 use crate::style;
-use paper::{Counted, Fixing, Place, refused};
+use paper::{Place, Refusal, refused};
 use tokens::fixing;
 
 // It is written to a scratch first, so that the buffer is known to be large enough before its first byte changes.
-fn fix_in(text: &[u8], scratch: &mut [u8], buffer: &mut [u8]) -> Fixing
+fn fix_in(text: &[u8], scratch: &mut [u8], buffer: &mut [u8]) -> Result<usize, Refusal>
     requires text_len_bound { length text.now ≤ most_text }
     requires text_in_bounds { length text.now ≤ length scratch.old }
     ensures { FixPromised text.now buffer.old (record { answer = result; buffer = buffer.new }) }
 {
     let fixed = fixing::fix(text, scratch);
     match fixed {
-        Counted::Refused(number, place) => Fixing::Refused(number, place),
-        Counted::Count(n) => {
+        Err(refusal) => Err(refusal),
+        Ok(n) => {
             if buffer.len() < n {
-                return Fixing::Refused(refused::PRINT_LONG, Place::Buffer(buffer.len()));
+                return Err(Refusal {
+number: refused::PRINT_LONG,
+place: Place::Buffer(buffer.len()),
+});
             }
             style::lend_first(scratch, n, buffer);
-            Fixing::Fixed(n)
+            Ok(n)
         }
     }
 }
 
-fn fix_short(text: &[u8], buffer: &mut [u8]) -> Fixing
+fn fix_short(text: &[u8], buffer: &mut [u8]) -> Result<usize, Refusal>
     requires { Short text.now }
     ensures { FixPromised text.now buffer.old (record { answer = result; buffer = buffer.new }) }
 {
@@ -35,7 +38,7 @@ fn fix_short(text: &[u8], buffer: &mut [u8]) -> Fixing
     fix_in(text, &mut scratch, buffer)
 }
 
-fn fix_long(text: &[u8], buffer: &mut [u8]) -> Fixing
+fn fix_long(text: &[u8], buffer: &mut [u8]) -> Result<usize, Refusal>
     requires { length text.now ≤ most_text }
     ensures { FixPromised text.now buffer.old (record { answer = result; buffer = buffer.new }) }
 {
@@ -44,11 +47,14 @@ fn fix_long(text: &[u8], buffer: &mut [u8]) -> Fixing
 }
 
 // The length of the result, which stands at the front of the buffer. Every later byte of the buffer stays, and all of it on a refusal.
-pub fn fix_octal(text: &[u8], buffer: &mut [u8]) -> Fixing
+pub fn fix_octal(text: &[u8], buffer: &mut [u8]) -> Result<usize, Refusal>
     ensures { FixPromised text.now buffer.old (record { answer = result; buffer = buffer.new }) }
 {
     if reading::MOST_TEXT < text.len() {
-        return Fixing::Refused(refused::TEXT_TOO_LONG, Place::Text(reading::MOST_TEXT));
+        return Err(Refusal {
+number: refused::TEXT_TOO_LONG,
+place: Place::Text(reading::MOST_TEXT),
+});
     }
     if text.len() <= reading::SHORT_TEXT {
         return fix_short(text, buffer);

@@ -10,20 +10,20 @@ ghost use Rattle.valve.specs.Lent.{LentDraft};
 
 use crate::style;
 use drafting::Outcome;
-use paper::{Counted, Drafting, Place, Printing, refused};
+use paper::{Place, Refusal, refused};
 
 // How many user numbers there may be.
 const MOST_USERS: usize = 16;
 
 // The text of the tree at a node, whose names lie in the list.
-fn lend_text(names: &[u8], nodes: &[u32], node: usize, buffer: &mut [u8]) -> Drafting
+fn lend_text(names: &[u8], nodes: &[u32], node: usize, buffer: &mut [u8]) -> Result<usize, Refusal>
     requires { node * 8 + 8 ≤ length nodes.now }
     ensures { LentDraft (print (tree_at names.now nodes.now node)) buffer.old (record { answer = result; buffer = buffer.new }) }
 {
     let lent = style::lend_print(names, nodes, node, buffer);
     match lent {
-        Printing::Refused(number, place) => Drafting::Refused(number, place),
-        Printing::Printed(n) => Drafting::Drafted(n),
+        Err(refusal) => Err(refusal),
+        Ok(n) => Ok(n),
     }
 }
 
@@ -34,37 +34,46 @@ fn pact_in(
     names: &[u8],
     nodes: &mut [u32],
     buffer: &mut [u8],
-) -> Drafting
+) -> Result<usize, Refusal>
     requires named { Named names.now × (length table.now ≤ most_indices) }
     requires most_nodes_in_bounds { most_nodes * 8 ≤ length nodes.old }
     ensures { DraftPromised contract.now table.now names.now buffer.old (record { answer = result; buffer = buffer.new }) }
 {
     let drawn = drafting::draft(contract, table, names, nodes);
     match drawn {
-        Outcome::Fault(at) => Drafting::Refused(refused::CONTRACT, Place::Contract(at)),
-        Outcome::Over => Drafting::Refused(refused::PRINT_LONG, Place::Buffer(buffer.len())),
+        Outcome::Fault(at) => Err(Refusal {
+number: refused::CONTRACT,
+place: Place::Contract(at),
+}),
+        Outcome::Over => Err(Refusal {
+number: refused::PRINT_LONG,
+place: Place::Buffer(buffer.len()),
+}),
         Outcome::Tree(root) => lend_text(names, nodes, root, buffer),
     }
 }
 
-fn pact_named(contract: &[u8], table: &[u64], names: &[u8], buffer: &mut [u8]) -> Drafting
+fn pact_named(contract: &[u8], table: &[u64], names: &[u8], buffer: &mut [u8]) -> Result<usize, Refusal>
     requires { Named names.now }
     ensures { DraftPromised contract.now table.now names.now buffer.old (record { answer = result; buffer = buffer.new }) }
 {
     if MOST_USERS < table.len() {
-        return Drafting::Refused(refused::CONTRACT, Place::Table(MOST_USERS));
+        return Err(Refusal {
+number: refused::CONTRACT,
+place: Place::Table(MOST_USERS),
+});
     }
     let mut nodes = [0u32; drafting::NODE_WORDS];
     pact_in(contract, table, names, &mut nodes, buffer)
 }
 
 // The length of the text, which stands at the front of the buffer. Every later byte of the buffer stays, and all of it on a refusal.
-pub fn pact(contract: &[u8], table: &[u64], names: &[u8], buffer: &mut [u8]) -> Drafting
+pub fn pact(contract: &[u8], table: &[u64], names: &[u8], buffer: &mut [u8]) -> Result<usize, Refusal>
     ensures { DraftPromised contract.now table.now names.now buffer.old (record { answer = result; buffer = buffer.new }) }
 {
     let counted = keys::check_names(names);
     match counted {
-        Counted::Refused(number, place) => Drafting::Refused(number, place),
-        Counted::Count(_) => pact_named(contract, table, names, buffer),
+        Err(refusal) => Err(refusal),
+        Ok(_) => pact_named(contract, table, names, buffer),
     }
 }

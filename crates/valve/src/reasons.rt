@@ -4,7 +4,7 @@ ghost use Rattle.paper.specs.Promised.{ExplainPromised};
 ghost use Rattle.reading.specs.Grown.{RowRoom};
 ghost use Rattle.reading.specs.Parted.{PassedParts, RestrictsParts};
 
-use paper::{Checking, Counted, Explanation};
+use paper::{Explanation, Refusal};
 use reading::Tried;
 
 // By the parts of a text that passed: 19; 20; and the first that is false on the entry.
@@ -15,8 +15,8 @@ fn reason_by(list: &[u8], entry: &[u8], nodes: &[u32], rows: &[u32], n: usize) -
 {
     let entered = keys::check_entry(list, entry);
     match entered {
-        Checking::Refused(number, place) => explaining::of_refusal(list, number, place),
-        Checking::Passed => explaining::of_entry(list, entry, nodes, rows, n),
+        Err(refusal) => explaining::of_refusal(list, number, place),
+        Ok(()) => explaining::of_entry(list, entry, nodes, rows, n),
     }
 }
 
@@ -26,15 +26,15 @@ fn reason_told(
     entry: &[u8],
     nodes: &[u32],
     rows: &[u32],
-    restricted: Counted,
+    restricted: Result<usize, Refusal>,
 ) -> Explanation
     requires { (text : List ℕ) × RestrictsParts text list.now nodes.now rows.now restricted }
     ensures { (text : List ℕ) → RestrictsParts text list.now nodes.now rows.now restricted
         → ExplainPromised text list.now entry.now result }
 {
     match restricted {
-        Counted::Refused(number, place) => explaining::of_refusal(list, number, place),
-        Counted::Count(n) => reason_by(list, entry, nodes, rows, n),
+        Err(refusal) => explaining::of_refusal(list, number, place),
+        Ok(n) => reason_by(list, entry, nodes, rows, n),
     }
 }
 

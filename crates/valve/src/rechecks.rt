@@ -6,7 +6,7 @@ ghost use Rattle.reading.specs.Restricted.{Rooted, Restricts};
 ghost use Rattle.valve.specs.Beside.{Compared, same_in};
 
 use crate::verdict;
-use paper::{Checking, Counted, Judgement, Rechecking};
+use paper::{Judgement, Rechecking, Refusal};
 use reading::Tried;
 
 // What is found of the new entry.
@@ -28,8 +28,8 @@ fn same_by(list: &[u8], old: &[u8], new: &[u8], nodes: &[u32], root: usize) -> b
 {
     let entered = keys::check_entry(list, old);
     match entered {
-        Checking::Refused(_, _) => false,
-        Checking::Passed => {
+        Err(_) => false,
+        Ok(()) => {
             let summary = summarizing::summary_at(nodes, root);
             summarizing::same_named(list, old, new, summary)
         }
@@ -45,8 +45,8 @@ fn compare_by(list: &[u8], old: &[u8], new: &[u8], nodes: &[u32], root: usize) -
 {
     let entered = keys::check_entry(list, new);
     match entered {
-        Checking::Refused(number, place) => Beside::Other(Judgement::Refused(number, place)),
-        Checking::Passed => {
+        Err(refusal) => Beside::Other(Err(refusal)),
+        Ok(()) => {
             if same_by(list, old, new, nodes, root) {
                 return Beside::Same;
             }
@@ -56,14 +56,14 @@ fn compare_by(list: &[u8], old: &[u8], new: &[u8], nodes: &[u32], root: usize) -
 }
 
 // By what was answered of text and list, with the tree in nodes that are lent.
-fn compare_told(list: &[u8], old: &[u8], new: &[u8], nodes: &[u32], restricted: Counted) -> Beside
+fn compare_told(list: &[u8], old: &[u8], new: &[u8], nodes: &[u32], restricted: Result<usize, Refusal>) -> Beside
     requires { (text : List ℕ) × Restricts text list.now nodes.now restricted }
     ensures { (text : List ℕ) → Restricts text list.now nodes.now restricted
         → Compared text list.now old.now new.now result }
 {
     match restricted {
-        Counted::Refused(number, place) => Beside::Other(Judgement::Refused(number, place)),
-        Counted::Count(root) => compare_by(list, old, new, nodes, root),
+        Err(refusal) => Beside::Other(Err(refusal)),
+        Ok(root) => compare_by(list, old, new, nodes, root),
     }
 }
 

@@ -10,7 +10,7 @@ ghost use Rattle.trees.specs.Standing.{tree_at};
 ghost use Rattle.reading.specs.Grown.{Grows};
 ghost use Rattle.valve.specs.Lent.{Lent};
 
-use paper::{Counted, Place, Printing, refused};
+use paper::{Place, Refusal, refused};
 use printing::Rung;
 use reading::Tried;
 use spelling::bytes;
@@ -23,15 +23,18 @@ pub(crate) fn lend_first(scratch: &[u8], n: usize, buffer: &mut [u8])
     bytes::copy(&scratch[..n], 0, buffer)
 }
 
-fn too_long(buffer: &[u8]) -> Printing
+fn too_long(buffer: &[u8]) -> Result<usize, Refusal>
     ensures { result ≡ W.Refused 21 (P.Buffer (length buffer.now)) }
 {
-    Printing::Refused(refused::PRINT_LONG, Place::Buffer(buffer.len()))
+    Err(Refusal {
+number: refused::PRINT_LONG,
+place: Place::Buffer(buffer.len()),
+})
 }
 
 // The print of the tree at a node. It is written to scratch first, so that the buffer is known to be large enough before its first byte
 // changes.
-pub(crate) fn lend_print(text: &[u8], nodes: &[u32], node: usize, buffer: &mut [u8]) -> Printing
+pub(crate) fn lend_print(text: &[u8], nodes: &[u32], node: usize, buffer: &mut [u8]) -> Result<usize, Refusal>
     requires { node * 8 + 8 ≤ length nodes.now }
     ensures { Lent (print (tree_at text.now nodes.now node)) buffer.old (record { answer = result; buffer = buffer.new }) }
 {
@@ -44,22 +47,22 @@ pub(crate) fn lend_print(text: &[u8], nodes: &[u32], node: usize, buffer: &mut [
         return too_long(buffer);
     }
     lend_first(&scratch, n, buffer);
-    Printing::Printed(n)
+    Ok(n)
 }
 
 // By what was answered of a text that is not too long, with the tree in nodes that are lent.
-fn print_told(text: &[u8], nodes: &[u32], grown: Counted, buffer: &mut [u8]) -> Printing
+fn print_told(text: &[u8], nodes: &[u32], grown: Result<usize, Refusal>, buffer: &mut [u8]) -> Result<usize, Refusal>
     requires text_len_bound { length text.now ≤ most_text }
     requires grows { Grows text.now nodes.now grown }
     ensures { PrintPromised text.now buffer.old (record { answer = result; buffer = buffer.new }) }
 {
     match grown {
-        Counted::Refused(number, place) => Printing::Refused(number, place),
-        Counted::Count(size) => lend_print(text, nodes, size - 1, buffer),
+        Err(refusal) => Err(refusal),
+        Ok(size) => lend_print(text, nodes, size - 1, buffer),
     }
 }
 
-fn print_long(text: &[u8], buffer: &mut [u8]) -> Printing
+fn print_long(text: &[u8], buffer: &mut [u8]) -> Result<usize, Refusal>
     requires { length text.now ≤ most_text }
     ensures { PrintPromised text.now buffer.old (record { answer = result; buffer = buffer.new }) }
 {
@@ -69,11 +72,14 @@ fn print_long(text: &[u8], buffer: &mut [u8]) -> Printing
 }
 
 // The length of the print, which stands at the front of the buffer. Every later byte of the buffer stays, and all of it on a refusal.
-pub fn print(text: &[u8], buffer: &mut [u8]) -> Printing
+pub fn print(text: &[u8], buffer: &mut [u8]) -> Result<usize, Refusal>
     ensures { PrintPromised text.now buffer.old (record { answer = result; buffer = buffer.new }) }
 {
     if reading::MOST_TEXT < text.len() {
-        return Printing::Refused(refused::TEXT_TOO_LONG, Place::Text(reading::MOST_TEXT));
+        return Err(Refusal {
+number: refused::TEXT_TOO_LONG,
+place: Place::Text(reading::MOST_TEXT),
+});
     }
     let mut nodes = [0u32; reading::SHORT_NODE_WORDS];
     let tried = reading::try_tree(text, &mut nodes);

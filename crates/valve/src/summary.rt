@@ -3,24 +3,27 @@ ghost use Rattle.std.specs.Prelude.{List, ℕ};
 ghost use Rattle.paper.specs.Promised.{SummarizePromised};
 ghost use Rattle.reading.specs.Restricted.{Restricts};
 
-use paper::{Counted, Summarizing};
+use paper::{Refusal, Summary};
 use reading::Tried;
 
 // By what was answered of text and list, with the tree in nodes that are lent.
-fn summarize_told(nodes: &[u32], restricted: Counted) -> Summarizing
+fn summarize_told(nodes: &[u32], restricted: Result<usize, Refusal>) -> Result<Summary, Refusal>
     requires { (text : List ℕ) × ((list : List ℕ) × Restricts text list nodes.now restricted) }
     ensures { (text list : List ℕ) → Restricts text list nodes.now restricted → SummarizePromised text list result }
 {
     match restricted {
-        Counted::Refused(number, place) => Summarizing::Refused(number, place),
-        Counted::Count(root) => {
+        Err(refusal) => Err(refusal),
+        Ok(root) => {
             let summary = summarizing::summary_at(nodes, root);
-            Summarizing::Summary(summary.keys, summary.priority)
+            Ok(Summary {
+keys: summary.keys,
+priority: summary.priority,
+})
         }
     }
 }
 
-fn summarize_long(text: &[u8], list: &[u8]) -> Summarizing
+fn summarize_long(text: &[u8], list: &[u8]) -> Result<Summary, Refusal>
     ensures { SummarizePromised text.now list.now result }
 {
     let mut nodes = [0u32; reading::NODE_WORDS];
@@ -29,7 +32,7 @@ fn summarize_long(text: &[u8], list: &[u8]) -> Summarizing
 }
 
 // The set of the keys that the text names, and whether it names ::priority.
-pub fn summarize(text: &[u8], list: &[u8]) -> Summarizing
+pub fn summarize(text: &[u8], list: &[u8]) -> Result<Summary, Refusal>
     ensures { SummarizePromised text.now list.now result }
 {
     let mut nodes = [0u32; reading::SHORT_NODE_WORDS];

@@ -6,20 +6,20 @@ ghost use Rattle.paper.specs.Promised.{ReadPromised, CheckPromised};
 ghost use Rattle.reading.specs.Grown.{Grows};
 ghost use Rattle.reading.specs.Restricted.{Restricts};
 
-use paper::{Checking, Counted, Place, Reading, refused};
+use paper::{Place, Refusal, refused};
 use reading::Tried;
 
 // By what was answered of a text that is not too long.
-fn read_told(grown: Counted) -> Reading
+fn read_told(grown: Result<usize, Refusal>) -> Result<usize, Refusal>
     ensures { (text nodes : List ℕ) → length text ≤ most_text → Grows text nodes grown → ReadPromised text result }
 {
     match grown {
-        Counted::Refused(number, place) => Reading::Refused(number, place),
-        Counted::Count(size) => Reading::Read(size),
+        Err(refusal) => Err(refusal),
+        Ok(size) => Ok(size),
     }
 }
 
-fn read_long(text: &[u8]) -> Reading
+fn read_long(text: &[u8]) -> Result<usize, Refusal>
     requires { length text.now ≤ most_text }
     ensures { ReadPromised text.now result }
 {
@@ -28,11 +28,14 @@ fn read_long(text: &[u8]) -> Reading
 }
 
 // How many nodes the text's tree has.
-pub fn read(text: &[u8]) -> Reading
+pub fn read(text: &[u8]) -> Result<usize, Refusal>
     ensures { ReadPromised text.now result }
 {
     if reading::MOST_TEXT < text.len() {
-        return Reading::Refused(refused::TEXT_TOO_LONG, Place::Text(reading::MOST_TEXT));
+        return Err(Refusal {
+number: refused::TEXT_TOO_LONG,
+place: Place::Text(reading::MOST_TEXT),
+});
     }
     let mut nodes = [0u32; reading::SHORT_NODE_WORDS];
     let tried = reading::try_tree(text, &mut nodes);
@@ -43,16 +46,16 @@ pub fn read(text: &[u8]) -> Reading
 }
 
 // By what was answered of text and list.
-fn check_told(restricted: Counted) -> Checking
+fn check_told(restricted: Result<usize, Refusal>) -> Result<(), Refusal>
     ensures { (text list nodes : List ℕ) → Restricts text list nodes restricted → CheckPromised text list result }
 {
     match restricted {
-        Counted::Refused(number, place) => Checking::Refused(number, place),
-        Counted::Count(_) => Checking::Passed,
+        Err(refusal) => Err(refusal),
+        Ok(_) => Ok(()),
     }
 }
 
-fn check_long(text: &[u8], list: &[u8]) -> Checking
+fn check_long(text: &[u8], list: &[u8]) -> Result<(), Refusal>
     ensures { CheckPromised text.now list.now result }
 {
     let mut nodes = [0u32; reading::NODE_WORDS];
@@ -60,7 +63,7 @@ fn check_long(text: &[u8], list: &[u8]) -> Checking
 }
 
 // Whether the text is a restriction that is good for the keys of the list.
-pub fn check(text: &[u8], list: &[u8]) -> Checking
+pub fn check(text: &[u8], list: &[u8]) -> Result<(), Refusal>
     ensures { CheckPromised text.now list.now result }
 {
     let mut nodes = [0u32; reading::SHORT_NODE_WORDS];

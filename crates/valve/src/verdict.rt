@@ -6,16 +6,16 @@ ghost use Rattle.operands.specs.Conforming.{Conforming};
 ghost use Rattle.reading.specs.Grown.{Brief};
 ghost use Rattle.reading.specs.Restricted.{Rooted, Restricts};
 
-use paper::{Checking, Counted, Judgement};
+use paper::{Judgement, Refusal, Verdict};
 use reading::Tried;
 
 pub(crate) fn verdict(accepted: bool) -> Judgement
     ensures { judgement_says result ≡ ok accepted }
 {
     if accepted {
-        return Judgement::Accepted;
+        return Ok(Verdict::Accepted);
     }
-    Judgement::Violated
+    Ok(Verdict::Violated)
 }
 
 // By the tree at node `root`, of a text that passed, what it is worth on an entry that conforms.
@@ -35,19 +35,19 @@ fn judge_by(list: &[u8], entry: &[u8], nodes: &[u32], root: usize) -> Judgement
 {
     let entered = keys::check_entry(list, entry);
     match entered {
-        Checking::Refused(number, place) => Judgement::Refused(number, place),
-        Checking::Passed => judge_entered(list, entry, nodes, root),
+        Err(refusal) => Err(refusal),
+        Ok(()) => judge_entered(list, entry, nodes, root),
     }
 }
 
 // By what was answered of text and list, with the tree in nodes that are lent.
-fn judge_told(list: &[u8], entry: &[u8], nodes: &[u32], restricted: Counted) -> Judgement
+fn judge_told(list: &[u8], entry: &[u8], nodes: &[u32], restricted: Result<usize, Refusal>) -> Judgement
     requires { (text : List ℕ) × Restricts text list.now nodes.now restricted }
     ensures { (text : List ℕ) → Restricts text list.now nodes.now restricted → JudgePromised text list.now entry.now result }
 {
     match restricted {
-        Counted::Refused(number, place) => Judgement::Refused(number, place),
-        Counted::Count(root) => judge_by(list, entry, nodes, root),
+        Err(refusal) => Err(refusal),
+        Ok(root) => judge_by(list, entry, nodes, root),
     }
 }
 

@@ -9,7 +9,7 @@ use crate::say::say_count;
 use keys::{Found, KeyRecord};
 use lines::{say, start};
 use number::Magnitude;
-use paper::Counted;
+
 use printing::Rung;
 use std::io;
 use trees::{Leaf, Node};
@@ -215,7 +215,7 @@ pub(crate) fn say_lost(
     }
     let mut nodes = [0u32; reading::NODE_WORDS];
     match reading::read_tree(text, &mut nodes) {
-        Counted::Count(_) => say_sides(rt, text, list, &nodes, place),
-        Counted::Refused(_, _) => Ok(false),
+        Ok(_) => say_sides(rt, text, list, &nodes, place),
+        Err(_) => Ok(false),
     }
 }

@@ -9,7 +9,7 @@ use crate::refusals::entry_refused;
 use crate::say::{say_number, say_three};
 use lines::say;
 use paper::refused::ENTRY_RULE;
-use paper::{Explanation, Judgement, Place};
+use paper::{Explanation, Judgement, Place, Refusal, Verdict};
 use std::io;
 
 // The judgement that an explanation is of.
@@ -17,8 +17,11 @@ pub fn judged_as(why: Explanation) -> Judgement
     ensures { judgement_says result ≡ judgement_of (explanation_says why) }
 {
     match why {
-        Explanation::Part(_, _, _, _) => Judgement::Violated,
-        Explanation::Key(place, _, _) => Judgement::Refused(ENTRY_RULE, Place::Entry(place)),
+        Explanation::Part(_, _, _, _) => Ok(Verdict::Violated),
+        Explanation::Key(place, _, _) => Err(Refusal {
+number: ENTRY_RULE,
+place: Place::Entry(place),
+}),
         Explanation::Nothing(judgement) => judgement,
     }
 }
@@ -31,17 +34,17 @@ pub fn say_judgement(
     judgement: Judgement,
 ) -> io::Result<()> {
     match judgement {
-        Judgement::Accepted => {
+        Ok(Verdict::Accepted) => {
             say_number(rt, b"accepted entry #", n)?;
             say(rt, how)?;
             say(rt, b"\n")
         }
-        Judgement::Violated => {
+        Ok(Verdict::Violated) => {
             say_number(rt, b"violated entry #", n)?;
             say(rt, how)?;
             say(rt, b"\n")
         }
-        Judgement::Refused(number, place) => entry_refused(rt, n, how, number, place),
+        Err(refusal) => entry_refused(rt, n, how, number, place),
     }
 }
 

@@ -1,13 +1,13 @@
 -- `reading::restrict_both` meets its contract: refusal 1 of a text that is too long (`too_long`), those of its list (`not_listed`), then, since a
 -- good list is short (`most_bytes`), the answer of `typed_root`, which is that of the whole (`restricts`).
 use Rattle.keys.proofs.Checked.{most_bytes}
+use Rattle.std.specs.Prelude.{Err}
 use Rattle.reading.specs.Grown.{of_tree}
-use Rattle.paper.specs.declared.Counted.TheVariants.{Refused}
 use Rattle.reading.proofs.Stages.{settles, too_long, not_listed, good, restricts}
 use Rattle.reading.proofs.restrict_both.Goals as goal
 
 pub returns-then-text-gt-MOST_TEXT : goal.returns-then-text-gt-MOST_TEXT
-returns-then-text-gt-MOST_TEXT c = record { settles = (settles c.args.scratch (Refused _ _), too_long _ _ c.if-text-gt-MOST_TEXT.true); readies = tt }
+returns-then-text-gt-MOST_TEXT c = record { settles = (settles c.args.scratch (Err _), too_long _ _ c.if-text-gt-MOST_TEXT.true); readies = tt }
 
 pub typed_root-requires : goal.typed_root-requires
 typed_root-requires c =
@@ -15,7 +15,7 @@ typed_root-requires c =
 
 pub returns-in-Refused : goal.returns-in-Refused
 returns-in-Refused c =
-    record { settles = (settles c.args.scratch (Refused _ _), not_listed _ _ c.if-text-gt-MOST_TEXT.false c.check_list-listed.result c.check_list-listed.ensures c.in-Refused.is); readies = tt }
+    record { settles = (settles c.args.scratch (Err _), not_listed _ _ c.if-text-gt-MOST_TEXT.false c.check_list-listed.result c.check_list-listed.ensures c.in-Refused.is); readies = tt }
 
 pub returns-in-Count : goal.returns-in-Count
 returns-in-Count c =

@@ -2,10 +2,10 @@
 -- resolved, which changes no tree (`still_planted`, `still_sown`); then the check of its types, or that one's refusal; and where the types are
 -- right, parts that can be judged (`ready`).
 use Prim.Native.Nat.{ℕ, ◌≤◌}
+use Rattle.std.specs.Prelude.{Ok, Err}
 use native.Mathlib.Omega.{arith}
 use mathlib.Core.Path.{◌≡◌}
 use mathlib.Core.List.{List}
-use Rattle.paper.specs.declared.Counted.TheVariants.{Count, Refused}
 use Rattle.keys.specs.Says.{keys_in}
 use Rattle.trees.proofs.Marking.{marked_below}
 use Rattle.reading.specs.declared.grown.Grown.TheVariants as R
@@ -42,7 +42,7 @@ returns-in-Refused-checked c =
     let p = grown _ _ c.read_parts-grown.result c.read_parts-grown.ensures.settles.1 (grown_told c) in
     let some = some_nodes c in record {
       settles = (
-        settles (scratch c) (Refused _ _),
+        settles (scratch c) (Err _),
         not_typed (text c) (list c) _ (size c) (still_planted (text c) (list c) _ _ (size c) names.ensures p)
             u.result (u.ensures (text c) (marked_below (keys_in (list c)) (text c) _ (omega arith) names.ensures.marked)) c.in-Refused-checked.is,
       );
@@ -80,7 +80,7 @@ returns-in-Passed c =
     let typed = right_types (text_2 c) (list_2 c) _ (size_2 c) (still_planted (text_2 c) (list_2 c) _ _ (size_2 c) names.ensures p)
     u.result (u.ensures (text_2 c) (marked_below (keys_in (list_2 c)) (text_2 c) _ (omega arith) names.ensures.marked))
     (marked_below (keys_in (list_2 c)) (text_2 c) _ (omega arith) names.ensures.marked) c.in-Passed.is in record {
-      settles = (settles (scratch_2 c) (Count _), typed);
+      settles = (settles (scratch_2 c) (Ok _), typed);
       readies = λ lent.
           let parts = sown_told _ _ _ t.result t.ensures.sows (grown_told_2 c) lent in
           ready (text_2 c) (list_2 c) _ _ (size_2 c) (found_2 c) typed (omega (arith, names.auto, p.has))

@@ -356,62 +356,18 @@ returns-in-OctalTooLarge c =
     let found = here_5 c _ c.in-OctalTooLarge.is in
     rw c.octal_refused-in-OctalTooLarge.ensures (record { says = going_octal (text_8 c) (rows_8 c) (n_8 c) (at_8 c) (going_8 c) (more_8 c) _ _ found.says.is; placed = tt })
 
-abbrev text_9 : goal.In-NoToken → List ℕ
-text_9 c = c.args.text.now
-
-abbrev rows_9 : goal.In-NoToken → List ℕ
-rows_9 c = c.loop-at.tape
-
-abbrev n_9 : goal.In-NoToken → ℕ
-n_9 c = c.loop-at.n
-
-abbrev at_9 : goal.In-NoToken → ℕ
-at_9 c = c.loop-at.at
-
-going_9 : (c : goal.In-NoToken) → Going (tape_of (text_9 c) (rows_9 c)) (n_9 c) (at_9 c)
-going_9 c = c.loop-at.invariant.2
-
-more_9 : (c : goal.In-NoToken) → at_9 c < length (text_9 c)
-more_9 c = c.loop-at-test.true
-
-abbrev literal_6 : goal.In-NoToken → Literal
-literal_6 c = literal_meant c.scan-scanned.result.literal
-
-here_6 : (c : goal.In-NoToken) (f : Lexeme) → c.scan-scanned.result.found ≡ f → Here (text_9 c) (at_9 c) (literal_6 c) f
-here_6 c f e = rw e at c.scan-scanned.ensures
-
--- no token
+-- no token, and a numeral that is too large
 pub returns-in-NoToken : goal.returns-in-NoToken
 returns-in-NoToken c =
-    record { says = going_none (text_9 c) (rows_9 c) (n_9 c) (at_9 c) (going_9 c) (more_9 c) (literal_6 c) (here_6 c _ c.in-NoToken.is); placed = tt }
-
-abbrev text_10 : goal.In-TooLarge → List ℕ
-text_10 c = c.args.text.now
-
-abbrev rows_10 : goal.In-TooLarge → List ℕ
-rows_10 c = c.loop-at.tape
-
-abbrev n_10 : goal.In-TooLarge → ℕ
-n_10 c = c.loop-at.n
-
-abbrev at_10 : goal.In-TooLarge → ℕ
-at_10 c = c.loop-at.at
-
-going_10 : (c : goal.In-TooLarge) → Going (tape_of (text_10 c) (rows_10 c)) (n_10 c) (at_10 c)
-going_10 c = c.loop-at.invariant.2
-
-more_10 : (c : goal.In-TooLarge) → at_10 c < length (text_10 c)
-more_10 c = c.loop-at-test.true
-
-abbrev literal_7 : goal.In-TooLarge → Literal
-literal_7 c = literal_meant c.scan-scanned.result.literal
-
-here_7 : (c : goal.In-TooLarge) (f : Lexeme) → c.scan-scanned.result.found ≡ f → Here (text_10 c) (at_10 c) (literal_7 c) f
-here_7 c f e = rw e at c.scan-scanned.ensures
+    let l = c.loop-at in
+    let here : Here c.args.text.now l.at _ F.NoToken = rw c.in-NoToken.is at c.scan-scanned.ensures in
+    rw c.refused.ensures (record { says = going_none c.args.text.now l.tape l.n l.at l.invariant.2 c.loop-at-test.true _ here; placed = tt })
 
 pub returns-in-TooLarge : goal.returns-in-TooLarge
 returns-in-TooLarge c =
-    record { says = going_large (text_10 c) (rows_10 c) (n_10 c) (at_10 c) (going_10 c) (more_10 c) (literal_7 c) (here_7 c _ c.in-TooLarge.is); placed = tt }
+    let l = c.loop-at in
+    let here : Here c.args.text.now l.at _ F.TooLarge = rw c.in-TooLarge.is at c.scan-scanned.ensures in
+    rw c.refused-in-TooLarge.ensures (record { says = going_large c.args.text.now l.tape l.n l.at l.invariant.2 c.loop-at-test.true _ here; placed = tt })
 
 -- the end
 pub returns : goal.returns

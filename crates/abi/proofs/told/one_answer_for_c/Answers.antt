@@ -2,12 +2,12 @@
 use mathlib.Core.Path.{◌≡◌, refl, sym, ap, ◌∙◌}
 use mathlib.Core.List.{List}
 use Prim.Native.Nat.{ℕ}
-use Rattle.paper.specs.Answers.{reading_says, checking_says, judgement_says, translation_says, loading_says, running_says, printing_says}
+use Rattle.paper.specs.Answers.{says, judgement_says, running_says}
 use Rattle.paper.specs.Explained.{explanation_says}
 use Rattle.paper.specs.Named.{summarizing_says}
 use Rattle.paper.specs.Rechecking.{rechecking_says}
-use Rattle.paper.specs.Fixing.{fixing_says}
-use Rattle.paper.specs.Drafting.{drafting_says}
+use Rattle.paper.specs.Fixing.{says}
+use Rattle.paper.specs.Drafting.{says}
 use Rattle.paper.specs.Comparing.{agreement_says}
 use Rattle.paper.specs.Counting.{counting_says}
 use Rattle.paper.specs.RunAll.{running_all_says}
@@ -40,26 +40,26 @@ one_answer : OneAnswerForC
 one_answer =
     let one = no_second_result in
     record {
-      read = λ text. told_once _ (λ r. counted (reading_says r)) (one.read text);
-      check = λ text list. told_once _ (λ r. passed (checking_says r)) (one.check text list);
+      read = λ text. told_once _ (λ r. counted (says r)) (one.read text);
+      check = λ text list. told_once _ (λ r. passed (says r)) (one.check text list);
       judge = λ text list entry. told_once _ (λ r. judged (judgement_says r)) (one.judge text list entry);
       translate = λ text list buffer.
           told_with_buffer (λ r s. record { answer = r; buffer = s }) (λ (r : TranslateResult). r.answer) (λ (r : TranslateResult). r.buffer) (λ r s. refl) (λ r s. refl)
-          (TranslatePromised text list buffer) (λ r. counted (translation_says r)) (one.translate text list buffer);
-      load = λ list blocks. told_once _ (λ r. counted (loading_says r)) (one.load list blocks);
+          (TranslatePromised text list buffer) (λ r. counted (says r)) (one.translate text list buffer);
+      load = λ list blocks. told_once _ (λ r. counted (says r)) (one.load list blocks);
       run = λ list blocks entry. told_once _ (λ r. ran (running_says r)) (one.run list blocks entry);
       run_all = λ list blocks entries answers.
           told_with_buffer (λ r s. record { answer = r; bytes = s }) (λ (r : RunAllResult). r.answer) (λ (r : RunAllResult). r.bytes) (λ r s. refl) (λ r s. refl)
           (RunAllPromised list blocks entries answers) (λ r. ran_through (running_all_says r)) (one.run_all list blocks entries answers);
       print = λ text buffer.
           told_with_buffer (λ r s. record { answer = r; buffer = s }) (λ (r : PrintResult). r.answer) (λ (r : PrintResult). r.buffer) (λ r s. refl) (λ r s. refl)
-          (PrintPromised text buffer) (λ r. counted (printing_says r)) (one.print text buffer);
+          (PrintPromised text buffer) (λ r. counted (says r)) (one.print text buffer);
       fix = λ text buffer.
           told_with_buffer (λ r s. record { answer = r; buffer = s }) (λ (r : FixResult). r.answer) (λ (r : FixResult). r.buffer) (λ r s. refl) (λ r s. refl)
-          (FixPromised text buffer) (λ r. counted (fixing_says r)) (one.fix text buffer);
+          (FixPromised text buffer) (λ r. counted (says r)) (one.fix text buffer);
       draft = λ contract table list buffer.
           told_with_buffer (λ r s. record { answer = r; buffer = s }) (λ (r : DraftResult). r.answer) (λ (r : DraftResult). r.buffer) (λ r s. refl) (λ r s. refl)
-          (DraftPromised contract table list buffer) (λ r. counted (drafting_says r)) (one.draft contract table list buffer);
+          (DraftPromised contract table list buffer) (λ r. counted (says r)) (one.draft contract table list buffer);
       compare = λ text list blocks. told_once _ (λ r. compared (agreement_says r)) (one.compare text list blocks);
       count = λ text list entries numbers.
           told_with_buffer (λ r s. record { answer = r; numbers = s }) (λ (r : CountResult). r.answer) (λ (r : CountResult). r.numbers) (λ r s. refl) (λ r s. refl)

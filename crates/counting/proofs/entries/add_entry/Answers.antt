@@ -1,9 +1,9 @@
 -- `counting::add_entry` meets its contract: an entry that does not conform is refused, whatever the tree (`one_refused`); of one that conforms the parts
 -- decide (`one_judged`).
 use mathlib.Core.Path.{◌≡◌}
+use Rattle.std.specs.Prelude.{Ok}
 use Rattle.paper.specs.Answers.{ok}
 use Rattle.paper.specs.Keys.{keys}
-use Rattle.paper.specs.declared.Checking.TheVariants.{Passed}
 use Rattle.keys.specs.Says.{keys_in}
 use Rattle.operands.specs.Conforming.{Conforming}
 use Rattle.counting.proofs.OneEntry.{conforming, one_refused, one_judged}
@@ -13,7 +13,7 @@ conforms : (c : goal.After-add_false-arg-1) → let a = c.args in keys a.list.no
     → Conforming a.list.now a.entry.now
 conforms c listed =
     let x = c.check_entry-entered in
-    let passed : x.result ≡ Passed = cc in
+    let passed : x.result ≡ (Ok tt) = cc in
     conforming _ _ x.result x.ensures listed passed
 
 pub add_false-requires : goal.add_false-requires
@@ -31,7 +31,7 @@ conforms_2 : (c : goal.After-verdict) → let a = c.args in keys a.list.now ≡ 
     → Conforming a.list.now a.entry.now
 conforms_2 c listed =
     let x = c.check_entry-entered in
-    let passed : x.result ≡ Passed = cc in
+    let passed : x.result ≡ (Ok tt) = cc in
     conforming _ _ x.result x.ensures listed passed
 
 pub returns-in-Passed : goal.returns-in-Passed

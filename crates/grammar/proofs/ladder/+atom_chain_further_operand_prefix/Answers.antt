@@ -17,14 +17,13 @@ atom-returns-in_default t c =
 pub atom-returns-in_default-inner : goal.atom-returns-in_default-inner
 atom-returns-in_default-inner t c =
     let f = found c.next_in.ensures c.in-Is.is in
-    rw c.again.ensures
     (pass_up _ _ _ _ _ _ _ _ _ _ _ _ (paren_up _ _ _ _ _ _ f) c.chain-inner.result c.in_default-inner.is
     (started (L.sequence false) _ _ _ c.chain-inner.result c.inside-onward.ensures c.chain-inner.ensures))
 
 pub atom-returns : goal.atom-returns
 atom-returns t c =
     let f = found c.next_in.ensures c.in-Is.is in
-    let h = took_on (L.sequence false) c.inside-onward.ensures c.chain-inner.ensures c.in-Tree.is in
+    let h = took_on (L.sequence false) c.inside-onward.ensures c.chain-inner.ensures c.in-Ok.is in
     paren_close _ _ _ _ _ _ f h c.close.result c.close.ensures
 
 -- `chain`: at each turn of its loop the level reads on, and its tree is an operand of the next looser one, or the answer; what it
@@ -32,42 +31,40 @@ atom-returns t c =
 
 pub chain-returns-in_default : goal.chain-returns-in_default
 chain-returns-in_default t c =
-    rw c.again.ensures
     (pass_up _ _ _ _ _ _ _ _ _ _ _ _ (first_up _ _ _ c.args.rung) c.operand-first.result c.in_default.is c.operand-first.ensures)
 
-pub chain-loop-end-init : goal.chain-loop-end-init
-chain-loop-end-init t c = record { kept = refl; within = from_tightest c.args.rung; reads = λ before h. h }
+pub chain-loop-read-init : goal.chain-loop-read-init
+chain-loop-read-init t c = record { kept = refl; within = from_tightest c.args.rung; reads = λ before h. h }
 
 pub chain-returns-in_default-more : goal.chain-returns-in_default-more
 chain-returns-in_default-more t c =
-    let level = c.loop-end.level in
-    let h = c.loop-end.invariant.reads _ (took c.operand-first.ensures c.in-Tree.is) in
-    rw c.again-in_default-more.ensures
-    (pass_up _ _ _ _ _ _ _ _ _ _ _ _ (climbs_up _ _ _ c.loop-end.invariant.within) c.further-more.result c.in_default-more.is
+    let level = c.loop-read.level in
+    let h = c.loop-read.invariant.reads _ (took c.operand-first.ensures c.in-Ok.is) in
+    (pass_up _ _ _ _ _ _ _ _ _ _ _ _ (climbs_up _ _ _ c.loop-read.invariant.within) c.further-more.result c.in_default-more.is
     (continued (L.operand_of level) (L.rung_of level) _ _ _ c.further-more.result c.moved-onward.ensures c.further-more.ensures _ _ _ h))
 
 pub chain-returns-then-height : goal.chain-returns-then-height
 chain-returns-then-height t c =
-    let level = c.loop-end.level in
-    let h = c.loop-end.invariant.reads _ (took c.operand-first.ensures c.in-Tree.is) in
-    climbed_there c.loop-end.invariant (sym c.height.ensures ∙ c.if-height.true ∙ c.height-in-loop-end.ensures)
-    (took (continued (L.operand_of level) (L.rung_of level) _ _ _ c.further-more.result c.moved-onward.ensures c.further-more.ensures _ _ _ h) c.in-Tree-more.is)
+    let level = c.loop-read.level in
+    let h = c.loop-read.invariant.reads _ (took c.operand-first.ensures c.in-Ok.is) in
+    climbed_there c.loop-read.invariant (sym c.height.ensures ∙ c.if-height.true ∙ c.height-in-loop-read.ensures)
+    (took (continued (L.operand_of level) (L.rung_of level) _ _ _ c.further-more.result c.moved-onward.ensures c.further-more.ensures _ _ _ h) c.in-Ok-more.is)
 
 -- where the goal is not reached, the next looser rung is on the way
 
-pub chain-loop-end-smaller : goal.chain-loop-end-smaller
-chain-loop-end-smaller t c =
-    let level = c.loop-end.level in
-    let next = below_goal c.loop-end.invariant.within (λ e. c.if-height.false (c.height.ensures ∙ e ∙ sym c.height-in-loop-end.ensures)) in
+pub chain-loop-read-smaller : goal.chain-loop-read-smaller
+chain-loop-read-smaller t c =
+    let level = c.loop-read.level in
+    let next = below_goal c.loop-read.invariant.within (λ e. c.if-height.false (c.height.ensures ∙ e ∙ sym c.height-in-loop-read.ensures)) in
     rw c.looser-level.ensures (omega (arith, tighter_lower (L.looser c.args.rung level) level next.0, within_height next.1))
 
-pub chain-loop-end-preserved : goal.chain-loop-end-preserved
-chain-loop-end-preserved t c =
-    let level = c.loop-end.level in
-    let next = below_goal c.loop-end.invariant.within (λ e. c.if-height.false (c.height.ensures ∙ e ∙ sym c.height-in-loop-end.ensures)) in
+pub chain-loop-read-preserved : goal.chain-loop-read-preserved
+chain-loop-read-preserved t c =
+    let level = c.loop-read.level in
+    let next = below_goal c.loop-read.invariant.within (λ e. c.if-height.false (c.height.ensures ∙ e ∙ sym c.height-in-loop-read.ensures)) in
     rw c.looser-level.ensures
-    (climbed_on c.loop-end.invariant next (omega arith) λ before h.
-    took (continued (L.operand_of level) (L.rung_of level) _ _ _ c.further-more.result c.moved-onward.ensures c.further-more.ensures _ _ _ h) c.in-Tree-more.is)
+    (climbed_on c.loop-read.invariant next (omega arith) λ before h.
+    took (continued (L.operand_of level) (L.rung_of level) _ _ _ c.further-more.result c.moved-onward.ensures c.further-more.ensures _ _ _ h) c.in-Ok-more.is)
 
 -- `further`: at each turn of its loop an operator of the rung is the next token, which goes, or the chain ends; of a rung with one
 -- operator at most the first turn is the last
@@ -90,14 +87,13 @@ further-returns-in_default-more t c =
     let f = found c.operator_at.ensures c.in-Is.is in
     λ at b first h.
     let w = c.loop-sign.invariant.going _ _ _ _ (going_start _ (rung_runs c.args.rung _ _) h) in
-    rw c.again.ensures
     (pass_up _ _ _ _ _ _ _ _ _ _ _ _ (going_next w (operating _ _ _ c.args.rung f) (sym c.ends_after.ensures ∙ c.if-ends_after.false)) c.operand-more.result c.in_default-more.is
     (started (L.operand_of c.args.rung) _ _ _ c.operand-more.result c.moved-onward.ensures c.operand-more.ensures))
 
 pub further-returns-then-at_most_once : goal.further-returns-then-at_most_once
 further-returns-then-at_most_once t c =
     let f = found c.operator_at.ensures c.in-Is.is in
-    let k = took_on (L.operand_of c.args.rung) c.moved-onward.ensures c.operand-more.ensures c.in-Tree.is in
+    let k = took_on (L.operand_of c.args.rung) c.moved-onward.ensures c.operand-more.ensures c.in-Ok.is in
     λ at b first h.
     let w = c.loop-sign.invariant.going _ _ _ _ (going_start _ (rung_runs c.args.rung _ _) h) in
     going_last w (operating _ _ _ c.args.rung f) (sym c.ends_after.ensures ∙ c.if-ends_after.false) k c.put_joined.ensures (sym c.at_most_once.ensures ∙ c.if-at_most_once.true)
@@ -105,7 +101,7 @@ further-returns-then-at_most_once t c =
 pub further-loop-sign-preserved : goal.further-loop-sign-preserved
 further-loop-sign-preserved t c =
     let f = found c.operator_at.ensures c.in-Is.is in
-    let k = took_on (L.operand_of c.args.rung) c.moved-onward.ensures c.operand-more.ensures c.in-Tree.is in
+    let k = took_on (L.operand_of c.args.rung) c.moved-onward.ensures c.operand-more.ensures c.in-Ok.is in
     turned_on c.loop-sign.invariant (operating _ _ _ c.args.rung f) (sym c.ends_after.ensures ∙ c.if-ends_after.false) (sym c.at_most_once.ensures ∙ c.if-at_most_once.false) k c.put_joined.ensures
 
 -- `operand`: what opens no level is a leaf
@@ -124,12 +120,11 @@ prefix-returns-in_default t c =
 pub prefix-returns-in_default-operand : goal.prefix-returns-in_default-operand
 prefix-returns-in_default-operand t c =
     let f = found c.next_in.ensures c.in-Is.is in
-    rw c.again.ensures
     (pass_up _ _ _ _ _ _ _ _ _ _ _ _ (level_up _ c.if-from-eq0.false _ _ _ f) c.prefix-operand.result c.in_default-operand.is
     (started L.prefix _ _ _ c.prefix-operand.result c.inside-onward.ensures c.prefix-operand.ensures))
 
 pub prefix-returns : goal.prefix-returns
 prefix-returns t c =
     let f = found c.next_in.ensures c.in-Is.is in
-    let h = took_on L.prefix c.inside-onward.ensures c.prefix-operand.ensures c.in-Tree.is in
+    let h = took_on L.prefix c.inside-onward.ensures c.prefix-operand.ensures c.in-Ok.is in
     level_took _ c.if-from-eq0.false _ _ _ f h c.put_prefixed.ensures

@@ -28,14 +28,14 @@ abbrev pub decreases-further : goal.decreases-further
 decreases-further l = left l.from.now
 
 -- what was read first is by now an operand of the level, a rung on the way up to the one that is asked for
-abbrev pub invariant-chain-loop-end : goal.invariant-chain-loop-end
-invariant-chain-loop-end l =
+abbrev pub invariant-chain-loop-read : goal.invariant-chain-loop-read
+invariant-chain-loop-read l =
     let start = start_of l.from in
     Climbed (tape_of l.text l.tape) start.count start.levels l.rung start.token start.node l.initial.nodes l.initial.past l.initial.next l.nodes l.level l.past l.next
 
 -- the rungs up to the goal
-abbrev pub decreases-chain-loop-end : goal.decreases-chain-loop-end
-decreases-chain-loop-end l = L.height l.rung - L.height l.level
+abbrev pub decreases-chain-loop-read : goal.decreases-chain-loop-read
+decreases-chain-loop-read l = L.height l.rung - L.height l.level
 
 -- whatever the rung comes to from the first operand on, it comes to from the tree of all operands that are read
 abbrev pub invariant-further-loop-sign : goal.invariant-further-loop-sign

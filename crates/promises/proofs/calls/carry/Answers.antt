@@ -1,14 +1,14 @@
 -- A refused translation answers as demand 1 asks. With n instructions written, the blocks lie in the buffer; load and run are asked of
 -- just this part of it, so the theorem on translations says what they answer, and judge is asked of the text itself.
 use Prim.Native.Nat.{ℕ, ◌*◌, ◌≤◌}
+use Rattle.std.specs.Prelude.{Result, Ok}
+use Rattle.paper.specs.declared.Refusal.{Refusal}
 use native.Mathlib.Omega.{arith}
 use mathlib.Core.Path.{◌≡◌, sym, subst}
 use mathlib.Core.List.{List}
 use lib.ListN.{length, take}
 use lib.Seq.{length-take-le}
 use borrow.Author.Rules.{rules}
-use Rattle.paper.specs.declared.Translation.{Translation}
-use Rattle.paper.specs.declared.Translation.TheVariants as T
 use Rattle.paper.specs.Blocks.{block_size, blocks_needed}
 use Rattle.paper.specs.Promised.{TranslatePromised, LoadPromised, RunPromised}
 use Rattle.paper.proofs.DemandOne.{translate_answered}
@@ -30,16 +30,16 @@ abbrev exit : goal.After-needed-size → List ℕ
 exit c = c.translate-translated.new.buffer
 
 -- what it promises of a result that is known
-promised : (c : goal.After-needed-size) (r : Translation) → c.translate-translated.result ≡ r
+promised : (c : goal.After-needed-size) (r : Result ℕ Refusal) → c.translate-translated.result ≡ r
     → TranslatePromised (text c) (list c) (buffer c) (gave r (exit c))
-promised c r e = subst (λ (x : Translation). TranslatePromised (text c) (list c) (buffer c) (gave x (exit c))) e c.translate-translated.ensures
+promised c r e = subst (λ (x : Result ℕ Refusal). TranslatePromised (text c) (list c) (buffer c) (gave x (exit c))) e c.translate-translated.ensures
 
 abbrev count : goal.After-needed-size → ℕ
 count c = c.in-Written.n
 
 written : (c : goal.After-needed-size)
-    → TranslatePromised (text c) (list c) (buffer c) (gave (T.Written (count c)) (exit c))
-written c = promised c (T.Written (count c)) c.in-Written.is
+    → TranslatePromised (text c) (list c) (buffer c) (gave (Ok (count c)) (exit c))
+written c = promised c (Ok (count c)) c.in-Written.is
 
 -- the blocks lie in the buffer
 fits : (c : goal.After-needed-size) → block_size * c.needed-size.result ≤ length (exit c)
@@ -74,16 +74,16 @@ abbrev exit_2 : goal.After-load-loaded → List ℕ
 exit_2 c = c.translate-translated.new.buffer
 
 -- what it promises of a result that is known
-promised_2 : (c : goal.After-load-loaded) (r : Translation) → c.translate-translated.result ≡ r
+promised_2 : (c : goal.After-load-loaded) (r : Result ℕ Refusal) → c.translate-translated.result ≡ r
     → TranslatePromised (text_2 c) (list_2 c) (buffer_2 c) (gave r (exit_2 c))
-promised_2 c r e = subst (λ (x : Translation). TranslatePromised (text_2 c) (list_2 c) (buffer_2 c) (gave x (exit_2 c))) e c.translate-translated.ensures
+promised_2 c r e = subst (λ (x : Result ℕ Refusal). TranslatePromised (text_2 c) (list_2 c) (buffer_2 c) (gave x (exit_2 c))) e c.translate-translated.ensures
 
 abbrev count_2 : goal.After-load-loaded → ℕ
 count_2 c = c.in-Written.n
 
 written_2 : (c : goal.After-load-loaded)
-    → TranslatePromised (text_2 c) (list_2 c) (buffer_2 c) (gave (T.Written (count_2 c)) (exit_2 c))
-written_2 c = promised_2 c (T.Written (count_2 c)) c.in-Written.is
+    → TranslatePromised (text_2 c) (list_2 c) (buffer_2 c) (gave (Ok (count_2 c)) (exit_2 c))
+written_2 c = promised_2 c (Ok (count_2 c)) c.in-Written.is
 
 -- the blocks lie in the buffer
 fits_2 : (c : goal.After-load-loaded) → block_size * c.needed-size.result ≤ length (exit_2 c)
@@ -115,9 +115,9 @@ abbrev exit_3 : goal.In-Refused → List ℕ
 exit_3 c = c.translate-translated.new.buffer
 
 -- what it promises of a result that is known
-promised_3 : (c : goal.In-Refused) (r : Translation) → c.translate-translated.result ≡ r
+promised_3 : (c : goal.In-Refused) (r : Result ℕ Refusal) → c.translate-translated.result ≡ r
     → TranslatePromised (text_3 c) (list_3 c) (buffer_3 c) (gave r (exit_3 c))
-promised_3 c r e = subst (λ (x : Translation). TranslatePromised (text_3 c) (list_3 c) (buffer_3 c) (gave x (exit_3 c))) e c.translate-translated.ensures
+promised_3 c r e = subst (λ (x : Result ℕ Refusal). TranslatePromised (text_3 c) (list_3 c) (buffer_3 c) (gave x (exit_3 c))) e c.translate-translated.ensures
 
 pub returns-in-Refused : goal.returns-in-Refused
 returns-in-Refused c =
@@ -140,16 +140,16 @@ abbrev exit_4 : goal.After-judge-judged → List ℕ
 exit_4 c = c.translate-translated.new.buffer
 
 -- what it promises of a result that is known
-promised_4 : (c : goal.After-judge-judged) (r : Translation) → c.translate-translated.result ≡ r
+promised_4 : (c : goal.After-judge-judged) (r : Result ℕ Refusal) → c.translate-translated.result ≡ r
     → TranslatePromised (text_4 c) (list_4 c) (buffer_4 c) (gave r (exit_4 c))
-promised_4 c r e = subst (λ (x : Translation). TranslatePromised (text_4 c) (list_4 c) (buffer_4 c) (gave x (exit_4 c))) e c.translate-translated.ensures
+promised_4 c r e = subst (λ (x : Result ℕ Refusal). TranslatePromised (text_4 c) (list_4 c) (buffer_4 c) (gave x (exit_4 c))) e c.translate-translated.ensures
 
 abbrev count_3 : goal.After-judge-judged → ℕ
 count_3 c = c.in-Written.n
 
 written_3 : (c : goal.After-judge-judged)
-    → TranslatePromised (text_4 c) (list_4 c) (buffer_4 c) (gave (T.Written (count_3 c)) (exit_4 c))
-written_3 c = promised_4 c (T.Written (count_3 c)) c.in-Written.is
+    → TranslatePromised (text_4 c) (list_4 c) (buffer_4 c) (gave (Ok (count_3 c)) (exit_4 c))
+written_3 c = promised_4 c (Ok (count_3 c)) c.in-Written.is
 
 pub returns-in-Written : goal.returns-in-Written
 returns-in-Written c =

@@ -58,5 +58,5 @@ says_2 c text marked = sym (c.typed_in-t.ensures ∙ c.type_at.ensures text mark
 pub returns-in-Refused : goal.returns-in-Refused
 returns-in-Refused c text marked =
     let a = c.args in
-    root_refused (keys_in a.list.now) text a.nodes.now a.root c.in-Refused.k (input_of c.in-Refused.p) (offset_of c.in-Refused.p)
+    root_refused (keys_in a.list.now) text a.nodes.now a.root c.in-Refused.number (input_of c.in-Refused.place) (offset_of c.in-Refused.place)
     (says_2 c text marked ∙ ap typed_says c.in-Refused.is)

@@ -1,6 +1,6 @@
 -- `valve::compare_by` meets its contract: the refusal of `load_for` (`blocks_refused`), or whether what it counts agrees (`compared`).
 use mathlib.Core.Path.{◌≡◌, sym, ap, ◌∙◌}
-use Rattle.paper.specs.Answers.{ok, loading_says}
+use Rattle.paper.specs.Answers.{ok, says}
 use Rattle.paper.specs.Loading.{loaded}
 use Rattle.keys.specs.Says.{keys_in}
 use Rattle.keys.proofs.Records.{keys_length}
@@ -12,7 +12,7 @@ pub load_for-loaded-requires : goal.load_for-loaded-requires
 load_for-loaded-requires c = sym (keys_length c.args.list.now 0 _)
 
 loads : (c : goal.In-Loaded) → let a = c.args in loaded (keys_in a.list.now) a.blocks.now ≡ ok c.in-Loaded.count
-loads c = sym c.load_for-loaded.ensures ∙ ap loading_says c.in-Loaded.is
+loads c = sym c.load_for-loaded.ensures ∙ ap says c.in-Loaded.is
 
 pub agrees_by-requires : goal.agrees_by-requires
 agrees_by-requires c =
@@ -22,10 +22,10 @@ pub returns-in-Refused : goal.returns-in-Refused
 returns-in-Refused c text d =
     let a = c.args in
     blocks_refused text a.list.now a.blocks.now a.nodes.now a.rows.now a.n d
-    (sym c.load_for-loaded.ensures ∙ ap loading_says c.in-Refused.is)
+    (sym c.load_for-loaded.ensures ∙ ap says c.in-Refused.is)
 
 loads_2 : (c : goal.After-agreement) → let a = c.args in loaded (keys_in a.list.now) a.blocks.now ≡ ok c.in-Loaded.count
-loads_2 c = sym c.load_for-loaded.ensures ∙ ap loading_says c.in-Loaded.is
+loads_2 c = sym c.load_for-loaded.ensures ∙ ap says c.in-Loaded.is
 
 pub returns-in-Loaded : goal.returns-in-Loaded
 returns-in-Loaded c text d =

@@ -5,7 +5,7 @@ use mathlib.Core.Path.{sym, ap, ◌∙◌}
 use mathlib.Core.Bool.{true, false}
 use mathlib.Core.List.{List}
 use lib.ListN.{get_or}
-use Rattle.paper.specs.Answers.{checking_says}
+use Rattle.paper.specs.Answers.{says}
 use Rattle.valve.proofs.Runs.{wrong_length, Alone, alone, told, not_conforming, entry_refused}
 use Rattle.valve.proofs.running.run_one.Goals as goal
 
@@ -61,7 +61,7 @@ pub returns-in-Refused : goal.returns-in-Refused
 returns-in-Refused c =
     let a = c.args in
     entry_refused a.list.now a.blocks.now c.requires.list_value c.requires.blocks_value a.entry.now
-    (sym c.check_entry.ensures ∙ ap checking_says c.in-Refused.is)
+    (sym c.check_entry.ensures ∙ ap says c.in-Refused.is)
 
 -- its byte and its steps
 abbrev after_3 : goal.In-Passed → List ℕ
@@ -84,4 +84,4 @@ returns-in-Passed c =
     let a = c.args in
     absurd
     (not_conforming a.list.now a.blocks.now c.requires.list_value c.requires.blocks_value a.entry.now (told_there_3 c) c.if-verdict-eq-ACCEPTED.false c.if-verdict-eq-VIOLATED.false
-    (sym c.check_entry.ensures ∙ ap checking_says c.in-Passed.is))
+    (sym c.check_entry.ensures ∙ ap says c.in-Passed.is))

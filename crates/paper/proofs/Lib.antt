@@ -133,3 +133,4 @@ pub mod SomeEntry
 pub mod CanMatter
 pub mod Dependence
 pub mod PiecesRight
+pub mod PassedUp

@@ -22,7 +22,8 @@ use Rattle.parts.specs.Found.{ReadAs, Finds}
 use Rattle.parts.proofs.Stored.{each_same, each_length, each_all}
 use Rattle.resolving.specs.Resolved.{Resolves}
 use Rattle.reading.specs.declared.grown.Grown.{Grown}
-use Rattle.reading.specs.declared.grown.Grown.TheVariants as R
+use Rattle.tokens.specs.declared.Stop.{Stop}
+use Rattle.tokens.specs.declared.Stop.TheVariants.{Refused, Over}
 use Rattle.reading.specs.Grown.{CountedOn, Planted, Told, Settled, of_tree, of_parts, RowRoom, Sown, Sows}
 use Rattle.reading.specs.Restricted.{Typed, Restricts}
 use Rattle.reading.specs.Parted.{Judgeable, Parted, Readies, PassedParts, RestrictsParts}
@@ -37,8 +38,8 @@ module _ (text tape : List ℕ) (count : ℕ) (on : CountedOn text tape count) (
 
 -- what the reader's answer tells of the parts
 
-pub sown_told : (text nodes rows : List ℕ) (r : Grown) → Sows text nodes rows r → {m n : ℕ} → r ≡ R.Tree m n → RowRoom rows
-    → Sown text nodes rows m n
+pub sown_told : (text nodes rows : List ℕ) (r : Result Grown Stop) → Sows text nodes rows r → {g : Grown} → r ≡ Ok g → RowRoom rows
+    → Sown text nodes rows g.tree g.parts
 sown_told text nodes rows r told e = subst (Sows text nodes rows) e told
 
 module _ (text list before nodes rows : List ℕ) (m n : ℕ) (marks : Resolves (keys_in list) text before nodes m) where
@@ -86,16 +87,11 @@ module _ (text list nodes rows : List ℕ) (m n : ℕ) (t : Typed text list node
 
 -- the answer of the parts, from that of the tree
 
-pub restricts_parts : (text list nodes rows : List ℕ) (r : Grown) → Told (Restricts text list nodes) (of_tree r) → Readies text list nodes rows r
+pub restricts_parts : (text list nodes rows : List ℕ) (r : Result Grown Stop) → Told (Restricts text list nodes) (of_tree r) → Readies text list nodes rows r
     → RowRoom rows → Told (RestrictsParts text list nodes rows) (of_parts r)
-restricts_parts text list nodes rows (R.Tree k n) told ready lent = record { root = k; rooted = told; parted = ready lent }
-restricts_parts text list nodes rows (R.Refused n p) told ready lent = told
-restricts_parts text list nodes rows R.Over told ready lent = tt
-
-pub parts_settled : (r : Grown) → Settled (of_tree r) → Settled (of_parts r)
-parts_settled (R.Tree k n) settled = tt
-parts_settled (R.Refused n p) settled = tt
-parts_settled R.Over settled = settled
+restricts_parts text list nodes rows (Ok g) told ready lent = record { root = g.tree; rooted = told; parted = ready lent }
+restricts_parts text list nodes rows (Err (Refused v)) told ready lent = told
+restricts_parts text list nodes rows (Err Over) told ready lent = tt
 
 -- what that tells
 module _ (text list nodes rows : List ℕ) (r : Result ℕ Refusal) (told : RestrictsParts text list nodes rows r) where

@@ -1,16 +1,16 @@
 -- Slices that have room for what was cut from a text.
 use Prim.Native.Nat.{ℕ, ◌*◌, ◌≤◌}
+use Rattle.reading.specs.declared.grown.Grown.{Grown}
+use Rattle.std.specs.Prelude.{Result, Ok, Err}
 use native.Mathlib.Omega.{arith}
 use mathlib.Core.Path.{◌≡◌}
 use mathlib.Core.List.{List}
 use lib.ListN.{length}
 use Rattle.paper.specs.Tokens.{most_tokens}
 use Rattle.tokens.specs.Tape.{row_words}
-use Rattle.tokens.specs.declared.Cut.{Cut}
-use Rattle.tokens.specs.declared.Cut.TheVariants as C
-use Rattle.reading.specs.declared.tried.Scratch.{Scratch}
-use Rattle.reading.specs.declared.tried.Scratch.TheVariants as S
-use Rattle.reading.specs.declared.tried.Tried.{Tried}
+use Rattle.tokens.specs.declared.Stop.{Stop}
+use Rattle.reading.specs.declared.grown.Scratch.{Scratch}
+use Rattle.reading.specs.declared.grown.Scratch.TheVariants as S
 use Rattle.reading.specs.Grown.{Room, Brief, brief_text, ShortRoom, short_text, RoomFor, Settled, Settles, CutOn, CutFits}
 
 -- a slice of a length has room for a text: `Room`, by the length
@@ -31,19 +31,17 @@ pub brief_room : (scratch : Scratch) (text rows : List ℕ) → Brief text → R
 brief_room S.Short text rows brief room = λ n few short. omega arith
 brief_room S.Long text rows brief room = room
 
-pub brief_settles : (scratch : Scratch) (r : Tried) → Settled r → Settles scratch r
+pub brief_settles : (scratch : Scratch) (r : Result Grown Stop) → Settled r → Settles scratch r
 brief_settles S.Short r settled = tt
 brief_settles S.Long r settled = settled
 
 module _ (text tape nodes : List ℕ) where
   -- nodes with room for the text have it for its tokens
-  pub all_fit : (r : Cut) → CutOn text tape r → Room text nodes → CutFits nodes r
-  all_fit (C.Counted n) on room = room n on.placed.cut.few on.placed.cut.short
-  all_fit (C.Refused k p) on room = tt
-  all_fit C.Over on room = tt
+  pub all_fit : (r : Result ℕ Stop) → CutOn text tape r → Room text nodes → CutFits nodes r
+  all_fit (Ok n) on room = room n on.placed.cut.few on.placed.cut.short
+  all_fit (Err s) on room = tt
 
   -- and so have as many nodes as the tape has rows
-  pub few_fit : length tape ≡ short_text * row_words → (r : Cut) → CutOn text tape r → ShortRoom nodes → CutFits nodes r
-  few_fit size (C.Counted n) on room = omega (arith, on.placed.has)
-  few_fit size (C.Refused k p) on room = tt
-  few_fit size C.Over on room = tt
+  pub few_fit : length tape ≡ short_text * row_words → (r : Result ℕ Stop) → CutOn text tape r → ShortRoom nodes → CutFits nodes r
+  few_fit size (Ok n) on room = omega (arith, on.placed.has)
+  few_fit size (Err s) on room = tt

@@ -23,12 +23,11 @@ use Rattle.trees.proofs.Marking.{same_tree}
 use Rattle.resolving.specs.Resolved.{Resolves}
 use Rattle.typing.specs.Known.{Known}
 use Rattle.reading.specs.declared.grown.Grown.{Grown}
-use Rattle.reading.specs.declared.grown.Grown.TheVariants as R
-use Rattle.reading.specs.declared.tried.Scratch.{Scratch}
-use Rattle.reading.specs.declared.tried.Scratch.TheVariants as S
-use Rattle.reading.specs.declared.tried.Tried.{Tried}
-use Rattle.reading.specs.declared.tried.Tried.TheVariants as T
-use Rattle.reading.specs.Grown.{Planted, Grows, Told, Settled, Settles, answer_of, of_tree}
+use Rattle.tokens.specs.declared.Stop.{Stop}
+use Rattle.tokens.specs.declared.Stop.TheVariants.{Refused, Over}
+use Rattle.reading.specs.declared.grown.Scratch.{Scratch}
+use Rattle.reading.specs.declared.grown.Scratch.TheVariants as S
+use Rattle.reading.specs.Grown.{Planted, Grows, Told, Settled, Settles, stopping, of_tree, of_parts}
 use Rattle.reading.specs.Restricted.{Typed, Rooted, Types, Restricts}
 
 -- a refusal of two stages is that of the stages after them too
@@ -38,24 +37,28 @@ refused_early (ok a) f g e = ap (λ (y : Answer (Unit {0})). y >>= λ _. g a) e
 refused_early (refused m j to) f g e = cc
 
 -- where there is room no text is over: neither where there is an answer
-pub settles : (s : Scratch) (r : Result ℕ Refusal) → Settles s (T.Answered r)
+pub settles : (s : Scratch) (r : Result Grown Refusal) → Settles s (stopping r)
 settles S.Short r = tt
-settles S.Long r = tt
+settles S.Long (Ok g) = tt
+settles S.Long (Err v) = tt
 
--- nor where the reader says so
-pub still_over : (s : Scratch) (r : Grown) → r ≡ R.Over → Settles s (of_tree r) → Settles s T.Over
-still_over s r e h = subst (λ (x : Grown). Settles s (of_tree x)) e h
+-- nor where an earlier stage says so
+pub still_stopped : (s : Scratch) (r : Result Grown Stop) (stop : Stop) → r ≡ Err stop → Settles s r → Settles s (Err stop)
+still_stopped S.Short r stop e h = tt
+still_stopped S.Long r (Refused v) e h = tt
+still_stopped S.Long r Over e h = rw e at h
 
 -- 5 to 10; 11 to 14
 
-module _ (text nodes : List ℕ) (r : Grown) (grows : Told (Grows text nodes) (of_tree r)) where
-  pub grown : {m n : ℕ} → r ≡ R.Tree m n → Planted text nodes m
-  grown e = subst (λ (x : Grown). Told (Grows text nodes) (of_tree x)) e grows
+module _ (text nodes : List ℕ) (r : Result Grown Stop) (grows : Told (Grows text nodes) (of_tree r)) where
+  pub grown : {g : Grown} → r ≡ Ok g → Planted text nodes g.tree
+  grown e = subst (λ (x : Result Grown Stop). Told (Grows text nodes) (of_tree x)) e grows
 
   -- a refusal of the tree is one of its types
-  pub not_grown : (list : List ℕ) {n : ℕ} {p : Place} → r ≡ R.Refused n p → (tree text >>= typed (keys_in list)) ≡ refused n (input_of p) (offset_of p)
-  not_grown list e =
-      ap (λ (x : Answer G.Tree). x >>= typed (keys_in list)) (subst (λ (x : Grown). Told (Grows text nodes) (of_tree x)) e grows)
+  pub not_grown : (list after : List ℕ) (s : Stop) → r ≡ Err s → Told (Types text list after) (Err s)
+  not_grown list after (Refused v) e =
+      ap (λ (x : Answer G.Tree). x >>= typed (keys_in list)) (subst (λ (x : Result Grown Stop). Told (Grows text nodes) (of_tree x)) e grows)
+  not_grown list after Over e = tt
 
 -- marks change no tree
 pub still_planted : (text list before nodes : List ℕ) (m : ℕ) → Resolves (keys_in list) text before nodes m → Planted text before m → Planted text nodes m
@@ -64,16 +67,16 @@ still_planted text list before nodes m marks p =
     record { read = rw same p.read; count = rw same p.count; some = p.some; few = p.few; short = p.short; has = omega (arith, marks.keeps.size, p.has) }
 
 module _ (text list nodes : List ℕ) (m : ℕ) (p : Planted text nodes m) (c : Result (Unit {0}) Refusal)
-    (says : says c ≡ typed (keys_in list) (tree_at text nodes (m - 1)))
+    (said : says c ≡ typed (keys_in list) (tree_at text nodes (m - 1)))
   where
     pub not_typed : {v : Refusal} → c ≡ Err v → (tree text >>= typed (keys_in list)) ≡ refused_by v
-    not_typed f = ap (λ (x : Answer G.Tree). x >>= typed (keys_in list)) p.read ∙ sym says ∙ ap says f
+    not_typed f = ap (λ (x : Answer G.Tree). x >>= typed (keys_in list)) p.read ∙ sym said ∙ ap says f
 
     pub right_types : Marked (keys_in list) text nodes (m - 1 + 1) → c ≡ (Ok tt) → Typed text list nodes (m - 1)
     right_types marked f =
         record {
           read = p.read;
-          checked = sym says ∙ ap says f;
+          checked = sym said ∙ ap says f;
           count = omega (arith, p.count, p.some);
           few = omega (arith, p.few, p.some);
           short = omega (arith, p.short, p.some);
@@ -93,30 +96,41 @@ module _ (text list : List ℕ) where
     unfolding restriction
     short = rw (le-leb (length text) most_text h)
 
-    module _ (l : Result ℕ Refusal) (says : says l ≡ key_count list) where
+    module _ (l : Result ℕ Refusal) (said : says l ≡ key_count list) where
       -- a refusal of the list is one of the whole
       pub not_listed : {v : Refusal} → l ≡ Err v → restriction text list ≡ refused_by v
-      not_listed e = short ∙ rw (K.not_listed list (sym says ∙ ap says e))
+      not_listed e = short ∙ rw (K.not_listed list (sym said ∙ ap says e))
 
       module _ {n : ℕ} (e : l ≡ Ok n) where
         pub good : keys list ≡ ok (keys_in list)
-        good = (K.listed list (sym says ∙ ap says e)).0
+        good = (K.listed list (sym said ∙ ap says e)).0
 
-        pub restricts : (nodes : List ℕ) (r : Tried) → Told (Types text list nodes) r
+        pub restricts : (nodes : List ℕ) (r : Result ℕ Stop) → Told (Types text list nodes) r
             → Told (Restricts text list nodes) r
-        restricts nodes T.Over t = tt
-        restricts nodes (T.Answered (Ok k)) t =
+        restricts nodes (Err Over) t = tt
+        restricts nodes (Ok k) t =
             record {
               passed = short ∙ rw (good, t.read, t.checked);
               listed = good;
               typed = t;
             }
-        restricts nodes (T.Answered (Err v)) t = short ∙ rw good (refused_early (tree text) (typed (keys_in list)) _ t)
+        restricts nodes (Err (Refused v)) t = short ∙ rw good (refused_early (tree text) (typed (keys_in list)) _ t)
 
--- what is told of an answer that is there
-pub told : (Says : Result ℕ Refusal → Type 0) (r : Tried) → Settled r → Told Says r → Says (answer_of r)
-told Says (T.Answered r) settled t = t
-told Says T.Over settled t = absurd settled
+-- what is told of an answer that is there, of the tree and of the parts
+
+pub tree_told : (Says : Result ℕ Refusal → Type 0) (r : Result Grown Stop) {g : Grown} → r ≡ Ok g → Told Says (of_tree r) → Says (Ok g.tree)
+tree_told Says r e t = subst (λ (x : Result Grown Stop). Told Says (of_tree x)) e t
+
+pub parts_told : (Says : Result ℕ Refusal → Type 0) (r : Result Grown Stop) {g : Grown} → r ≡ Ok g → Told Says (of_parts r) → Says (Ok g.parts)
+parts_told Says r e t = subst (λ (x : Result Grown Stop). Told Says (of_parts x)) e t
+
+-- and of one that stops
+
+pub tree_stopped : (Says : Result ℕ Refusal → Type 0) (r : Result Grown Stop) {s : Stop} → r ≡ Err s → Told Says (of_tree r) → Told Says (Err s)
+tree_stopped Says r e t = subst (λ (x : Result Grown Stop). Told Says (of_tree x)) e t
+
+pub parts_stopped : (Says : Result ℕ Refusal → Type 0) (r : Result Grown Stop) {s : Stop} → r ≡ Err s → Told Says (of_parts r) → Told Says (Err s)
+parts_stopped Says r e t = subst (λ (x : Result Grown Stop). Told Says (of_parts x)) e t
 
 -- what the answer tells
 

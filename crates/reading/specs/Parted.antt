@@ -10,7 +10,7 @@ use Rattle.trees.specs.Standing.{tree_at}
 use Rattle.trees.specs.Marks.{Marked}
 use Rattle.parts.specs.Rows.{Has, root_at, parts_on}
 use Rattle.reading.specs.declared.grown.Grown.{Grown}
-use Rattle.reading.specs.declared.grown.Grown.TheVariants as R
+use Rattle.tokens.specs.declared.Stop.{Stop}
 use Rattle.reading.specs.Grown.{RowRoom}
 use Rattle.reading.specs.Restricted.{Rooted}
 
@@ -29,10 +29,9 @@ pub record Parted (text list nodes rows : List ℕ) (n : ℕ) : Type 0 where
   pub each : (k : ℕ) → k < n → Judgeable text list nodes (root_at rows k)
 
 -- where rows were lent for them
-abbrev pub Readies : List ℕ → List ℕ → List ℕ → List ℕ → Grown → Type 0
-Readies text list nodes rows (R.Tree k n) = RowRoom rows → Parted text list nodes rows n
-Readies text list nodes rows (R.Refused n p) = Unit {0}
-Readies text list nodes rows R.Over = Unit {0}
+abbrev pub Readies : List ℕ → List ℕ → List ℕ → List ℕ → Result Grown Stop → Type 0
+Readies text list nodes rows (Ok g) = RowRoom rows → Parted text list nodes rows g.parts
+Readies text list nodes rows (Err s) = Unit {0}
 
 -- text and list pass too
 pub record PassedParts (text list nodes rows : List ℕ) (n : ℕ) : Type 0 where

@@ -1,39 +1,35 @@
 // What the reader's stages hand on.
 ghost use Rattle.std.specs.Prelude.{◌≡◌};
-ghost use Rattle.reading.specs.Grown.{of_tree, of_parts};
+ghost use Rattle.reading.specs.Grown.{Settled, stopping};
 
-use crate::tried::Tried;
-use paper::{Place};
+use paper::Refusal;
+use tokens::Stop;
 
-// The tree of a text, by a number: how many nodes it has, or its root's. Beside it, how many parts of the text stand in the rows that were lent
-// for them. Or a refusal; or a text that has more tokens than there is room for.
+// For how many tokens there is room.
 #[derive(Clone, Copy)]
-pub(crate) enum Grown {
-    Tree(usize, usize),
-    Refused(u8, Place),
-    Over,
+pub(crate) enum Scratch {
+    // For those of a short text. Most texts have no more, however long they are, and less is to be cleared.
+    Short,
+    // For as many as any text has.
+    Long,
 }
 
-impl Grown {
-    // What is answered of the tree.
-    pub(crate) fn of_tree(self) -> Tried
-        ensures { result ≡ of_tree self }
-    {
-        match self {
-            Grown::Refused(number, place) => Tried::Answered(Err(refusal)),
-            Grown::Tree(size, _) => Tried::Answered(Ok(size)),
-            Grown::Over => Tried::Over,
-        }
-    }
+// The tree of a text, by a number: how many nodes it has, or its root's. Beside it, how many parts of the text stand in the rows that were lent
+// for them.
+#[derive(Clone, Copy)]
+pub(crate) struct Grown {
+    pub tree: usize,
+    pub parts: usize,
+}
 
-    // What is answered of the parts.
-    pub(crate) fn of_parts(self) -> Tried
-        ensures { result ≡ of_parts self }
-    {
-        match self {
-            Grown::Refused(number, place) => Tried::Answered(Err(refusal)),
-            Grown::Tree(_, parts) => Tried::Answered(Ok(parts)),
-            Grown::Over => Tried::Over,
-        }
+// Where there was room for any text.
+pub(crate) fn settled(grown: Result<Grown, Stop>) -> Result<Grown, Refusal>
+    requires { Settled grown }
+    ensures { grown ≡ stopping result }
+{
+    match grown {
+        Ok(grown) => Ok(grown),
+        Err(Stop::Refused(refusal)) => Err(refusal),
+        Err(Stop::Over) => unreachable!(),
     }
 }

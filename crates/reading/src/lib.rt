@@ -20,17 +20,13 @@ ghost use Rattle.reading.specs.Restricted.{Types, Restricts};
 ghost use Rattle.reading.specs.Parted.{Readies, RestrictsParts};
 ghost use Rattle.reading.specs.Tried.{TriesTree, Tries, TriesParts};
 
-use crate::grown::Grown;
-use crate::tried::Scratch;
+use crate::grown::{Grown, Scratch, settled};
 use paper::{Place, Refusal, refused};
 use tokens::rows::Row;
-use tokens::{Cut, MOST_TOKENS};
+use tokens::{MOST_TOKENS, Stop};
 use trees::Node;
 
 mod grown;
-mod tried;
-
-pub use tried::Tried;
 
 // No text is longer: document 01's refusal 1, which is given before a text comes here.
 pub const MOST_TEXT: usize = 4096;
@@ -73,43 +69,50 @@ fn find_parts(tape: &[u32], count: usize, nodes: &[u32], root: usize, rows: &mut
 }
 
 // The number of nodes, of which the last is the root, and the parts; or a refusal. Of tokens that are counted.
-fn plant(text: &[u8], tape: &[u32], count: usize, nodes: &mut [u32], rows: &mut [u32]) -> Grown
+fn plant(
+    text: &[u8],
+    tape: &[u32],
+    count: usize,
+    nodes: &mut [u32],
+    rows: &mut [u32],
+) -> Result<Grown, Stop>
     requires counted_on { CountedOn text.now tape.now count }
     requires count_in_bounds { count * 8 ≤ length nodes.old }
-    ensures settled { Settled (of_tree result) × Told (Grows text.now nodes.new) (of_tree result) }
+    ensures settled { Settled result × Told (Grows text.now nodes.new) (of_tree result) }
     ensures sows { Sows text.now nodes.new rows.new result }
 {
-    let parsed = grammar::parse(text, tape, count, nodes);
-    match parsed {
-        Err(refusal) => Grown::Refused(number, place),
-        Ok(size) => {
-            let found = find_parts(tape, count, nodes, size - 1, rows);
-            Grown::Tree(size, found)
-        }
-    }
+    let size = grammar::parse(text, tape, count, nodes)?;
+    let found = find_parts(tape, count, nodes, size - 1, rows);
+    Ok(Grown {
+        tree: size,
+        parts: found,
+    })
 }
 
 // The same of what was cut from the text, which stands on a tape that is lent.
-fn grow(text: &[u8], tape: &[u32], tokenized: Cut, nodes: &mut [u32], rows: &mut [u32]) -> Grown
+fn grow(
+    text: &[u8],
+    tape: &[u32],
+    tokenized: Result<usize, Stop>,
+    nodes: &mut [u32],
+    rows: &mut [u32],
+) -> Result<Grown, Stop>
     requires cut_on { CutOn text.now tape.now tokenized }
     requires cut_fits { CutFits nodes.old tokenized }
-    ensures settled { (Room text.now tape.now → Settled (of_tree result)) × Told (Grows text.now nodes.new) (of_tree result) }
+    ensures settled { (Room text.now tape.now → Settled result) × Told (Grows text.now nodes.new) (of_tree result) }
     ensures sows { Sows text.now nodes.new rows.new result }
 {
-    match tokenized {
-        Cut::Refused(number, place) => Grown::Refused(number, place),
-        Cut::Over => Grown::Over,
-        Cut::Counted(count) => plant(text, tape, count, nodes, rows),
-    }
+    let count = tokenized?;
+    plant(text, tape, count, nodes, rows)
 }
 
 // Three functions cut the text, each on a tape of its own length. That makes them too large for the compiler to put them into their callers, so
 // that no walk over the tree has a tape under it.
 
-fn read_brief(text: &[u8], nodes: &mut [u32], rows: &mut [u32]) -> Grown
+fn read_brief(text: &[u8], nodes: &mut [u32], rows: &mut [u32]) -> Result<Grown, Stop>
     requires brief { Brief text.now }
     requires room { Room text.now nodes.old }
-    ensures settled { Settled (of_tree result) × Told (Grows text.now nodes.new) (of_tree result) }
+    ensures settled { Settled result × Told (Grows text.now nodes.new) (of_tree result) }
     ensures sows { Sows text.now nodes.new rows.new result }
 {
     let mut tape = [0u32; Row::WORDS * BRIEF_TEXT];
@@ -117,7 +120,7 @@ fn read_brief(text: &[u8], nodes: &mut [u32], rows: &mut [u32]) -> Grown
     grow(text, &tape, tokenized, nodes, rows)
 }
 
-fn read_short(text: &[u8], nodes: &mut [u32], rows: &mut [u32]) -> Grown
+fn read_short(text: &[u8], nodes: &mut [u32], rows: &mut [u32]) -> Result<Grown, Stop>
     requires text_len_bound { length text.now ≤ most_text }
     requires short_room { ShortRoom nodes.old }
     ensures told { Told (Grows text.now nodes.new) (of_tree result) }
@@ -128,10 +131,10 @@ fn read_short(text: &[u8], nodes: &mut [u32], rows: &mut [u32]) -> Grown
     grow(text, &tape, tokenized, nodes, rows)
 }
 
-fn read_long(text: &[u8], nodes: &mut [u32], rows: &mut [u32]) -> Grown
+fn read_long(text: &[u8], nodes: &mut [u32], rows: &mut [u32]) -> Result<Grown, Stop>
     requires text_len_bound { length text.now ≤ most_text }
     requires room { Room text.now nodes.old }
-    ensures settled { Settled (of_tree result) × Told (Grows text.now nodes.new) (of_tree result) }
+    ensures settled { Settled result × Told (Grows text.now nodes.new) (of_tree result) }
     ensures sows { Sows text.now nodes.new rows.new result }
 {
     let mut tape = [0u32; Row::WORDS * MOST_TOKENS];
@@ -139,10 +142,15 @@ fn read_long(text: &[u8], nodes: &mut [u32], rows: &mut [u32]) -> Grown
     grow(text, &tape, tokenized, nodes, rows)
 }
 
-fn read_parts(text: &[u8], scratch: Scratch, nodes: &mut [u32], rows: &mut [u32]) -> Grown
+fn read_parts(
+    text: &[u8],
+    scratch: Scratch,
+    nodes: &mut [u32],
+    rows: &mut [u32],
+) -> Result<Grown, Stop>
     requires text_len_bound { length text.now ≤ most_text }
     requires room_for { RoomFor scratch text.now nodes.old }
-    ensures settles { Settles scratch (of_tree result) × Told (Grows text.now nodes.new) (of_tree result) }
+    ensures settles { Settles scratch result × Told (Grows text.now nodes.new) (of_tree result) }
     ensures sows { Sows text.now nodes.new rows.new result }
 {
     if text.len() <= BRIEF_TEXT {
@@ -161,27 +169,21 @@ fn typed_root(
     scratch: Scratch,
     nodes: &mut [u32],
     rows: &mut [u32],
-) -> Grown
+) -> Result<Grown, Stop>
     requires text_len_bound { length text.now ≤ most_text }
     requires list_len_bound { length list.now ≤ 2560 }
     requires room_for { RoomFor scratch text.now nodes.old }
-    ensures settles { Settles scratch (of_tree result) × Told (Types text.now list.now nodes.new) (of_tree result) }
+    ensures settles { Settles scratch result × Told (Types text.now list.now nodes.new) (of_tree result) }
     ensures readies { Readies text.now list.now nodes.new rows.new result }
 {
-    let grown = read_parts(text, scratch, nodes, rows);
-    match grown {
-        Grown::Over => Grown::Over,
-        Grown::Refused(number, place) => Grown::Refused(number, place),
-        Grown::Tree(size, found) => {
-            resolving::resolve(text, list, nodes, size);
-            let root = size - 1;
-            let checked = typing::check_types(list, nodes, root);
-            match checked {
-                Err(refusal) => Grown::Refused(number, place),
-                Ok(()) => Grown::Tree(root, found),
-            }
-        }
-    }
+    let grown = read_parts(text, scratch, nodes, rows)?;
+    resolving::resolve(text, list, nodes, grown.tree);
+    let root = grown.tree - 1;
+    typing::check_types(list, nodes, root)?;
+    Ok(Grown {
+        tree: root,
+        parts: grown.parts,
+    })
 }
 
 // The root of a text that is good for the keys of a list, and its parts; or the first refusal of the two.
@@ -191,19 +193,19 @@ fn restrict_both(
     scratch: Scratch,
     nodes: &mut [u32],
     rows: &mut [u32],
-) -> Grown
+) -> Result<Grown, Stop>
     requires { RoomFor scratch text.now nodes.old }
-    ensures settles { Settles scratch (of_tree result) × Told (Restricts text.now list.now nodes.new) (of_tree result) }
+    ensures settles { Settles scratch result × Told (Restricts text.now list.now nodes.new) (of_tree result) }
     ensures readies { Readies text.now list.now nodes.new rows.new result }
 {
     if MOST_TEXT < text.len() {
-        return Grown::Refused(refused::TEXT_TOO_LONG, Place::Text(MOST_TEXT));
+        return Err(Stop::Refused(Refusal {
+            number: refused::TEXT_TOO_LONG,
+            place: Place::Text(MOST_TEXT),
+        }));
     }
-    let listed = keys::check_list(list);
-    match listed {
-        Err(refusal) => Grown::Refused(number, place),
-        Ok(_) => typed_root(text, list, scratch, nodes, rows),
-    }
+    keys::check_list(list)?;
+    typed_root(text, list, scratch, nodes, rows)
 }
 
 // The number of nodes, of which the last is the root; or a refusal.
@@ -213,8 +215,8 @@ pub fn read_tree(text: &[u8], nodes: &mut [u32]) -> Result<usize, Refusal>
     ensures { Grows text.now nodes.new result }
 {
     let mut none = [0u32; 0];
-    let grown = read_parts(text, Scratch::Long, nodes, &mut none);
-    grown.of_tree().answer()
+    let grown = settled(read_parts(text, Scratch::Long, nodes, &mut none))?;
+    Ok(grown.tree)
 }
 
 // The number of the root of a text that is good for the keys of a list, or the first refusal of the two.
@@ -223,59 +225,69 @@ pub fn restrict(text: &[u8], list: &[u8], nodes: &mut [u32]) -> Result<usize, Re
     ensures { Restricts text.now list.now nodes.new result }
 {
     let mut none = [0u32; 0];
-    let restricted = restrict_both(text, list, Scratch::Long, nodes, &mut none);
-    restricted.of_tree().answer()
+    let restricted = settled(restrict_both(text, list, Scratch::Long, nodes, &mut none))?;
+    Ok(restricted.tree)
 }
 
 // The number of parts of a text that is good for the keys of a list, each of which is stored in a row; or the first refusal of the two.
-pub fn restrict_parts(text: &[u8], list: &[u8], nodes: &mut [u32], rows: &mut [u32]) -> Result<usize, Refusal>
+pub fn restrict_parts(
+    text: &[u8],
+    list: &[u8],
+    nodes: &mut [u32],
+    rows: &mut [u32],
+) -> Result<usize, Refusal>
     requires room { Room text.now nodes.old }
     requires row_room { RowRoom rows.old }
     ensures { RestrictsParts text.now list.now nodes.new rows.new result }
 {
-    let restricted = restrict_both(text, list, Scratch::Long, nodes, rows);
-    restricted.of_parts().answer()
+    let restricted = settled(restrict_both(text, list, Scratch::Long, nodes, rows))?;
+    Ok(restricted.parts)
 }
 
 // The same calls with nodes for a short text, whatever the text is: most texts have few tokens, and a call that needs no more room has less to
 // clear.
 
 // As `read_tree`, or over.
-pub fn try_tree(text: &[u8], nodes: &mut [u32]) -> Tried
+pub fn try_tree(text: &[u8], nodes: &mut [u32]) -> Result<usize, Stop>
     requires text_len_bound { length text.now ≤ most_text }
     requires short_room { ShortRoom nodes.old }
     ensures { TriesTree text.now nodes.new result }
 {
     if TRIED_TEXT < text.len() {
-        return Tried::Over;
+        return Err(Stop::Over);
     }
     let mut none = [0u32; 0];
-    let grown = read_parts(text, Scratch::Short, nodes, &mut none);
-    grown.of_tree()
+    let grown = read_parts(text, Scratch::Short, nodes, &mut none)?;
+    Ok(grown.tree)
 }
 
 // As `restrict`, or over.
-pub fn try_restrict(text: &[u8], list: &[u8], nodes: &mut [u32]) -> Tried
+pub fn try_restrict(text: &[u8], list: &[u8], nodes: &mut [u32]) -> Result<usize, Stop>
     requires { ShortRoom nodes.old }
     ensures { Tries text.now list.now nodes.new result }
 {
     if TRIED_TEXT < text.len() {
-        return Tried::Over;
+        return Err(Stop::Over);
     }
     let mut none = [0u32; 0];
-    let restricted = restrict_both(text, list, Scratch::Short, nodes, &mut none);
-    restricted.of_tree()
+    let restricted = restrict_both(text, list, Scratch::Short, nodes, &mut none)?;
+    Ok(restricted.tree)
 }
 
 // As `restrict_parts`, or over.
-pub fn try_parts(text: &[u8], list: &[u8], nodes: &mut [u32], rows: &mut [u32]) -> Tried
+pub fn try_parts(
+    text: &[u8],
+    list: &[u8],
+    nodes: &mut [u32],
+    rows: &mut [u32],
+) -> Result<usize, Stop>
     requires short_room { ShortRoom nodes.old }
     requires row_room { RowRoom rows.old }
     ensures { TriesParts text.now list.now nodes.new rows.new result }
 {
     if TRIED_TEXT < text.len() {
-        return Tried::Over;
+        return Err(Stop::Over);
     }
-    let restricted = restrict_both(text, list, Scratch::Short, nodes, rows);
-    restricted.of_parts()
+    let restricted = restrict_both(text, list, Scratch::Short, nodes, rows)?;
+    Ok(restricted.parts)
 }

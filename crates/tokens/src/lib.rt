@@ -8,6 +8,7 @@
 ghost use Rattle.std.specs.Prelude.{◌≡◌, ◌≤◌, length};
 ghost use Rattle.paper.specs.Tokens.{most_text};
 ghost use Rattle.tokens.specs.Tape.{tape_of};
+ghost use Rattle.tokens.specs.declared.Stop.TheVariants.{Refused};
 ghost use Rattle.tokens.specs.Tokenized.{CutSays, Placed, refused_there, octal_refusal, row_refusal};
 
 use crate::found::Lexeme;
@@ -33,6 +34,14 @@ pub enum Stop {
     Refused(Refusal),
     // The text has more tokens than the tape has rows for: what was lent is too small, and nothing is said of the text.
     Over,
+}
+
+impl From<Refusal> for Stop {
+    ghost from_gives = { λ refusal stop. stop ≡ Refused refusal };
+
+    fn from(refusal: Refusal) -> Stop {
+        Stop::Refused(refusal)
+    }
 }
 
 fn refused(number: u8, at: usize) -> Stop

@@ -3,7 +3,7 @@
 ghost use Rattle.paper.specs.Demands.{CheckAnswered};
 
 use crate::text;
-use paper::{Refusal};
+use paper::Refusal;
 
 fn checked(text: &[u8], list: &[u8]) -> Result<(), Refusal>
     ensures { CheckAnswered text.now list.now result }

@@ -1,18 +1,17 @@
 // Blocks of another translator against a text: the refusals of a check, then those of the blocks, then whether they agree.
 ghost use Rattle.std.specs.Prelude.{◌≡◌, List, ℕ, ◌*◌, ◌≤◌};
-ghost use Rattle.paper.specs.Answers.{ok};
 ghost use Rattle.paper.specs.Blocks.{in_block, blocks_in};
-ghost use Rattle.paper.specs.Comparing.{agreement_says};
+ghost use Rattle.paper.specs.Comparing.{agrees};
 ghost use Rattle.paper.specs.Promised.{ComparePromised};
 ghost use Rattle.reading.specs.Grown.{RowRoom};
-ghost use Rattle.reading.specs.Parted.{PassedParts, RestrictsParts};
+ghost use Rattle.reading.specs.Parted.{PassedParts};
 ghost use Rattle.valve.specs.Divided.{fits_parts};
 
 use crate::loading;
 use blocks::Block;
 use keys::KeyRecord;
 use paper::{Agreement, Refusal};
-use reading::Tried;
+use tokens::Stop;
 
 // The bytes of a node's code; and of the skip and the join of the first part, which the text's own code has not.
 const NODE_CODE: usize = 2 * Block::INSTRUCTION;
@@ -24,13 +23,13 @@ const CODE: usize = NODE_CODE * reading::MOST_NODES + FIRST_JOINED;
 // Where each part begins, and the end.
 const STARTS: usize = parts::MOST_PARTS + 1;
 
-fn agreement(agrees: bool) -> Result<Agreement, Refusal>
-    ensures { agreement_says result ≡ ok agrees }
+fn agreement(same: bool) -> Agreement
+    ensures { agrees result ≡ same }
 {
-    if agrees {
-        return Ok(Agreement::Agrees);
+    if same {
+        return Agreement::Agrees;
     }
-    Ok(Agreement::Differs)
+    Agreement::Differs
 }
 
 // Whether the first `count` instructions of blocks are the parts in some order.
@@ -53,46 +52,36 @@ fn agrees_by(
     comparing::agrees(blocks, count, &code, &starts, n)
 }
 
-// By the parts of a text that passed: 16; 17; 18; and whether the blocks agree.
-fn compare_by(list: &[u8], blocks: &[u8], nodes: &[u32], rows: &[u32], n: usize) -> Result<Agreement, Refusal>
-    requires { (text : List ℕ) × PassedParts text list.now nodes.now rows.now n }
-    ensures { (text : List ℕ) → PassedParts text list.now nodes.now rows.now n
-        → ComparePromised text list.now blocks.now result }
-{
-    let loaded = loading::load_for(list, blocks, list.len() / KeyRecord::SIZE);
-    match loaded {
-        Err(refusal) => Err(refusal),
-        Ok(count) => agreement(agrees_by(list, blocks, count, nodes, rows, n)),
-    }
-}
-
-// By what was answered of text and list, with the tree in nodes and the parts in rows that are lent. This is called from two places and too large
-// to be put into both, so that the compiler keeps it, and the scratch below it, out of the frame under which the text is read.
-fn compare_told(
+// By the parts of a text that passed: 16; 17; 18; and whether the blocks agree. This is called from two places and too large to be put into both, so
+// that the compiler keeps it, and the scratch below it, out of the frame under which the text is read.
+fn compare_by(
     list: &[u8],
     blocks: &[u8],
     nodes: &[u32],
     rows: &[u32],
-    restricted: Result<usize, Refusal>,
+    n: usize,
 ) -> Result<Agreement, Refusal>
-    requires { (text : List ℕ) × RestrictsParts text list.now nodes.now rows.now restricted }
-    ensures { (text : List ℕ) → RestrictsParts text list.now nodes.now rows.now restricted
+    requires { (text : List ℕ) × PassedParts text list.now nodes.now rows.now n }
+    ensures { (text : List ℕ) → PassedParts text list.now nodes.now rows.now n
         → ComparePromised text list.now blocks.now result }
 {
-    match restricted {
-        Err(refusal) => Err(refusal),
-        Ok(n) => compare_by(list, blocks, nodes, rows, n),
-    }
+    let count = loading::load_for(list, blocks, list.len() / KeyRecord::SIZE)?;
+    Ok(agreement(agrees_by(list, blocks, count, nodes, rows, n)))
 }
 
 // With nodes for any text. The rows are lent, so that there is one set of them.
-fn compare_long(text: &[u8], list: &[u8], blocks: &[u8], rows: &mut [u32]) -> Result<Agreement, Refusal>
+fn compare_long(
+    text: &[u8],
+    list: &[u8],
+    blocks: &[u8],
+    rows: &mut [u32],
+) -> Result<Agreement, Refusal>
     requires { RowRoom rows.old }
     ensures { ComparePromised text.now list.now blocks.now result }
 {
     let mut nodes = [0u32; reading::NODE_WORDS];
-    let restricted = reading::restrict_parts(text, list, &mut nodes, rows);
-    compare_told(list, blocks, &nodes, rows, restricted)
+    let n = reading::restrict_parts(text, list, &mut nodes, rows)?;
+    compare_by(list, blocks, &nodes, rows, n)
 }
 
 // Whether the blocks are our translation of the text's parts, each used once, in some order, joined from the left.
@@ -101,9 +90,9 @@ pub fn compare(text: &[u8], list: &[u8], blocks: &[u8]) -> Result<Agreement, Ref
 {
     let mut nodes = [0u32; reading::SHORT_NODE_WORDS];
     let mut rows = [0u32; reading::PART_WORDS];
-    let tried = reading::try_parts(text, list, &mut nodes, &mut rows);
-    let Tried::Answered(restricted) = tried else {
-        return compare_long(text, list, blocks, &mut rows);
-    };
-    compare_told(list, blocks, &nodes, &rows, restricted)
+    match reading::try_parts(text, list, &mut nodes, &mut rows) {
+        Ok(n) => compare_by(list, blocks, &nodes, &rows, n),
+        Err(Stop::Refused(refusal)) => Err(refusal),
+        Err(Stop::Over) => compare_long(text, list, blocks, &mut rows),
+    }
 }

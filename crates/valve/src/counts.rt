@@ -2,10 +2,10 @@
 ghost use Rattle.std.specs.Prelude.{List, ℕ};
 ghost use Rattle.paper.specs.Promised.{CountPromised};
 ghost use Rattle.reading.specs.Grown.{RowRoom};
-ghost use Rattle.reading.specs.Parted.{PassedParts, RestrictsParts};
+ghost use Rattle.reading.specs.Parted.{PassedParts};
 
 use paper::{Counted, Place, Refusal, refused};
-use reading::Tried;
+use tokens::Stop;
 
 // The most entries that are counted.
 const MOST_ENTRIES: usize = 1_000_000;
@@ -26,38 +26,19 @@ fn count_by(
     let size = keys::entry_size(list);
     if MOST_ENTRIES < entries.len() / size {
         return Err(Refusal {
-number: refused::ENTRIES_MANY,
-place: Place::Entry(MOST_ENTRIES * size),
-});
+            number: refused::ENTRIES_MANY,
+            place: Place::Entry(MOST_ENTRIES * size),
+        });
     }
     counting::clear(parts, n);
     let totals = counting::tally(list, nodes, rows, n, entries, parts);
     Ok(Counted {
-parts: n,
-accepted: totals.accepted,
-violated: totals.violated,
-refused: totals.refused,
-cut: entries.len() % size,
-})
-}
-
-// By what was answered of text and list, with the tree in nodes and the parts in rows that are lent.
-fn count_told(
-    list: &[u8],
-    entries: &[u8],
-    nodes: &[u32],
-    rows: &[u32],
-    restricted: Result<usize, Refusal>,
-    parts: &mut [u64; parts::MOST_PARTS],
-) -> Result<Counted, Refusal>
-    requires { (text : List ℕ) × RestrictsParts text list.now nodes.now rows.now restricted }
-    ensures { (text : List ℕ) → RestrictsParts text list.now nodes.now rows.now restricted
-        → CountPromised text list.now entries.now parts.old (record { answer = result; numbers = parts.new }) }
-{
-    match restricted {
-        Err(refusal) => Err(refusal),
-        Ok(n) => count_by(list, entries, nodes, rows, n, parts),
-    }
+        parts: n,
+        accepted: totals.accepted,
+        violated: totals.violated,
+        refused: totals.refused,
+        cut: entries.len() % size,
+    })
 }
 
 // With nodes for any text. The rows are lent, so that there is one set of them.
@@ -72,8 +53,8 @@ fn count_long(
     ensures { CountPromised text.now list.now entries.now parts.old (record { answer = result; numbers = parts.new }) }
 {
     let mut nodes = [0u32; reading::NODE_WORDS];
-    let restricted = reading::restrict_parts(text, list, &mut nodes, rows);
-    count_told(list, entries, &nodes, rows, restricted, parts)
+    let n = reading::restrict_parts(text, list, &mut nodes, rows)?;
+    count_by(list, entries, &nodes, rows, n, parts)
 }
 
 // How many of the entries are accepted, violated and refused, and the bytes of a last one that is cut. For each part of the text the number of
@@ -88,9 +69,9 @@ pub fn count(
 {
     let mut nodes = [0u32; reading::SHORT_NODE_WORDS];
     let mut rows = [0u32; reading::PART_WORDS];
-    let tried = reading::try_parts(text, list, &mut nodes, &mut rows);
-    let Tried::Answered(restricted) = tried else {
-        return count_long(text, list, entries, &mut rows, parts);
-    };
-    count_told(list, entries, &nodes, &rows, restricted, parts)
+    match reading::try_parts(text, list, &mut nodes, &mut rows) {
+        Ok(n) => count_by(list, entries, &nodes, &rows, n, parts),
+        Err(Stop::Refused(refusal)) => Err(refusal),
+        Err(Stop::Over) => count_long(text, list, entries, &mut rows, parts),
+    }
 }

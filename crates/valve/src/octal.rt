@@ -14,20 +14,15 @@ fn fix_in(text: &[u8], scratch: &mut [u8], buffer: &mut [u8]) -> Result<usize, R
     requires text_in_bounds { length text.now ≤ length scratch.old }
     ensures { FixPromised text.now buffer.old (record { answer = result; buffer = buffer.new }) }
 {
-    let fixed = fixing::fix(text, scratch);
-    match fixed {
-        Err(refusal) => Err(refusal),
-        Ok(n) => {
-            if buffer.len() < n {
-                return Err(Refusal {
-number: refused::PRINT_LONG,
-place: Place::Buffer(buffer.len()),
-});
-            }
-            style::lend_first(scratch, n, buffer);
-            Ok(n)
-        }
+    let n = fixing::fix(text, scratch)?;
+    if buffer.len() < n {
+        return Err(Refusal {
+            number: refused::PRINT_LONG,
+            place: Place::Buffer(buffer.len()),
+        });
     }
+    style::lend_first(scratch, n, buffer);
+    Ok(n)
 }
 
 fn fix_short(text: &[u8], buffer: &mut [u8]) -> Result<usize, Refusal>
@@ -52,9 +47,9 @@ pub fn fix_octal(text: &[u8], buffer: &mut [u8]) -> Result<usize, Refusal>
 {
     if reading::MOST_TEXT < text.len() {
         return Err(Refusal {
-number: refused::TEXT_TOO_LONG,
-place: Place::Text(reading::MOST_TEXT),
-});
+            number: refused::TEXT_TOO_LONG,
+            place: Place::Text(reading::MOST_TEXT),
+        });
     }
     if text.len() <= reading::SHORT_TEXT {
         return fix_short(text, buffer);

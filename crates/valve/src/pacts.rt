@@ -15,18 +15,6 @@ use paper::{Place, Refusal, refused};
 // How many user numbers there may be.
 const MOST_USERS: usize = 16;
 
-// The text of the tree at a node, whose names lie in the list.
-fn lend_text(names: &[u8], nodes: &[u32], node: usize, buffer: &mut [u8]) -> Result<usize, Refusal>
-    requires { node * 8 + 8 ≤ length nodes.now }
-    ensures { LentDraft (print (tree_at names.now nodes.now node)) buffer.old (record { answer = result; buffer = buffer.new }) }
-{
-    let lent = style::lend_print(names, nodes, node, buffer);
-    match lent {
-        Err(refusal) => Err(refusal),
-        Ok(n) => Ok(n),
-    }
-}
-
 // By names that passed, a table that is not too long, and nodes that are lent.
 fn pact_in(
     contract: &[u8],
@@ -39,41 +27,47 @@ fn pact_in(
     requires most_nodes_in_bounds { most_nodes * 8 ≤ length nodes.old }
     ensures { DraftPromised contract.now table.now names.now buffer.old (record { answer = result; buffer = buffer.new }) }
 {
-    let drawn = drafting::draft(contract, table, names, nodes);
-    match drawn {
+    match drafting::draft(contract, table, names, nodes) {
         Outcome::Fault(at) => Err(Refusal {
-number: refused::CONTRACT,
-place: Place::Contract(at),
-}),
+            number: refused::CONTRACT,
+            place: Place::Contract(at),
+        }),
         Outcome::Over => Err(Refusal {
-number: refused::PRINT_LONG,
-place: Place::Buffer(buffer.len()),
-}),
-        Outcome::Tree(root) => lend_text(names, nodes, root, buffer),
+            number: refused::PRINT_LONG,
+            place: Place::Buffer(buffer.len()),
+        }),
+        Outcome::Tree(root) => style::lend_print(names, nodes, root, buffer),
     }
 }
 
-fn pact_named(contract: &[u8], table: &[u64], names: &[u8], buffer: &mut [u8]) -> Result<usize, Refusal>
+fn pact_named(
+    contract: &[u8],
+    table: &[u64],
+    names: &[u8],
+    buffer: &mut [u8],
+) -> Result<usize, Refusal>
     requires { Named names.now }
     ensures { DraftPromised contract.now table.now names.now buffer.old (record { answer = result; buffer = buffer.new }) }
 {
     if MOST_USERS < table.len() {
         return Err(Refusal {
-number: refused::CONTRACT,
-place: Place::Table(MOST_USERS),
-});
+            number: refused::CONTRACT,
+            place: Place::Table(MOST_USERS),
+        });
     }
     let mut nodes = [0u32; drafting::NODE_WORDS];
     pact_in(contract, table, names, &mut nodes, buffer)
 }
 
 // The length of the text, which stands at the front of the buffer. Every later byte of the buffer stays, and all of it on a refusal.
-pub fn pact(contract: &[u8], table: &[u64], names: &[u8], buffer: &mut [u8]) -> Result<usize, Refusal>
+pub fn pact(
+    contract: &[u8],
+    table: &[u64],
+    names: &[u8],
+    buffer: &mut [u8],
+) -> Result<usize, Refusal>
     ensures { DraftPromised contract.now table.now names.now buffer.old (record { answer = result; buffer = buffer.new }) }
 {
-    let counted = keys::check_names(names);
-    match counted {
-        Err(refusal) => Err(refusal),
-        Ok(_) => pact_named(contract, table, names, buffer),
-    }
+    keys::check_names(names)?;
+    pact_named(contract, table, names, buffer)
 }

@@ -2,12 +2,12 @@
 ghost use Rattle.std.specs.Prelude.{◌≡◌, List, ℕ, ◌+◌, ◌*◌, ◌≤◌, length};
 ghost use Rattle.paper.specs.Promised.{RecheckPromised};
 ghost use Rattle.operands.specs.Conforming.{Conforming};
-ghost use Rattle.reading.specs.Restricted.{Rooted, Restricts};
+ghost use Rattle.reading.specs.Restricted.{Rooted};
 ghost use Rattle.valve.specs.Beside.{Compared, same_in};
 
 use crate::verdict;
-use paper::{Judgement, Rechecking, Refusal};
-use reading::Tried;
+use paper::{Judgement, Rechecking};
+use tokens::Stop;
 
 // What is found of the new entry.
 #[derive(Clone, Copy)]
@@ -26,14 +26,11 @@ fn same_by(list: &[u8], old: &[u8], new: &[u8], nodes: &[u32], root: usize) -> b
     ensures { (text : List ℕ) → Rooted text list.now nodes.now root
         → result ≡ same_in text list.now old.now new.now }
 {
-    let entered = keys::check_entry(list, old);
-    match entered {
-        Err(_) => false,
-        Ok(()) => {
-            let summary = summarizing::summary_at(nodes, root);
-            summarizing::same_named(list, old, new, summary)
-        }
-    }
+    let Ok(()) = keys::check_entry(list, old) else {
+        return false;
+    };
+    let summary = summarizing::summary_at(nodes, root);
+    summarizing::same_named(list, old, new, summary)
 }
 
 // By the tree at node `root`, of a text that passed.
@@ -43,47 +40,34 @@ fn compare_by(list: &[u8], old: &[u8], new: &[u8], nodes: &[u32], root: usize) -
     ensures { (text : List ℕ) → Rooted text list.now nodes.now root
         → Compared text list.now old.now new.now result }
 {
-    let entered = keys::check_entry(list, new);
-    match entered {
-        Err(refusal) => Beside::Other(Err(refusal)),
-        Ok(()) => {
-            if same_by(list, old, new, nodes, root) {
-                return Beside::Same;
-            }
-            Beside::Other(verdict::judge_entered(list, new, nodes, root))
-        }
+    if let Err(refusal) = keys::check_entry(list, new) {
+        return Beside::Other(Err(refusal));
     }
-}
-
-// By what was answered of text and list, with the tree in nodes that are lent.
-fn compare_told(list: &[u8], old: &[u8], new: &[u8], nodes: &[u32], restricted: Result<usize, Refusal>) -> Beside
-    requires { (text : List ℕ) × Restricts text list.now nodes.now restricted }
-    ensures { (text : List ℕ) → Restricts text list.now nodes.now restricted
-        → Compared text list.now old.now new.now result }
-{
-    match restricted {
-        Err(refusal) => Beside::Other(Err(refusal)),
-        Ok(root) => compare_by(list, old, new, nodes, root),
+    if same_by(list, old, new, nodes, root) {
+        return Beside::Same;
     }
+    Beside::Other(verdict::judge_entered(list, new, nodes, root))
 }
 
 fn compare_long(text: &[u8], list: &[u8], old: &[u8], new: &[u8]) -> Beside
     ensures { Compared text.now list.now old.now new.now result }
 {
     let mut nodes = [0u32; reading::NODE_WORDS];
-    let restricted = reading::restrict(text, list, &mut nodes);
-    compare_told(list, old, new, &nodes, restricted)
+    match reading::restrict(text, list, &mut nodes) {
+        Ok(root) => compare_by(list, old, new, &nodes, root),
+        Err(refusal) => Beside::Other(Err(refusal)),
+    }
 }
 
 fn compare(text: &[u8], list: &[u8], old: &[u8], new: &[u8]) -> Beside
     ensures { Compared text.now list.now old.now new.now result }
 {
     let mut nodes = [0u32; reading::SHORT_NODE_WORDS];
-    let tried = reading::try_restrict(text, list, &mut nodes);
-    let Tried::Answered(restricted) = tried else {
-        return compare_long(text, list, old, new);
-    };
-    compare_told(list, old, new, &nodes, restricted)
+    match reading::try_restrict(text, list, &mut nodes) {
+        Ok(root) => compare_by(list, old, new, &nodes, root),
+        Err(Stop::Refused(refusal)) => Beside::Other(Err(refusal)),
+        Err(Stop::Over) => compare_long(text, list, old, new),
+    }
 }
 
 // The earlier answer, if it still holds for the new entry; else what the text says of that.

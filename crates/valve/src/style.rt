@@ -1,19 +1,19 @@
 // A text in house style: the refusals of `read`, then 21.
 ghost use Rattle.std.specs.Prelude.{◌≡◌, ◌+◌, ◌*◌, ◌≤◌, length, take};
 ghost use Rattle.paper.specs.declared.Place.TheVariants as P;
-ghost use Rattle.paper.specs.declared.Printing.TheVariants as W;
+ghost use Rattle.paper.specs.Answers.{refusal};
 ghost use Rattle.paper.specs.Tokens.{most_text};
 ghost use Rattle.paper.specs.Print.{print};
 ghost use Rattle.paper.specs.Calls.{over};
 ghost use Rattle.paper.specs.Promised.{PrintPromised};
 ghost use Rattle.trees.specs.Standing.{tree_at};
-ghost use Rattle.reading.specs.Grown.{Grows};
+ghost use Rattle.reading.specs.Grown.{Planted};
 ghost use Rattle.valve.specs.Lent.{Lent};
 
 use paper::{Place, Refusal, refused};
 use printing::Rung;
-use reading::Tried;
 use spelling::bytes;
+use tokens::Stop;
 
 // Copies the first n bytes of a scratch to the front of the buffer.
 pub(crate) fn lend_first(scratch: &[u8], n: usize, buffer: &mut [u8])
@@ -24,17 +24,22 @@ pub(crate) fn lend_first(scratch: &[u8], n: usize, buffer: &mut [u8])
 }
 
 fn too_long(buffer: &[u8]) -> Result<usize, Refusal>
-    ensures { result ≡ W.Refused 21 (P.Buffer (length buffer.now)) }
+    ensures { result ≡ refusal 21 (P.Buffer (length buffer.now)) }
 {
     Err(Refusal {
-number: refused::PRINT_LONG,
-place: Place::Buffer(buffer.len()),
-})
+        number: refused::PRINT_LONG,
+        place: Place::Buffer(buffer.len()),
+    })
 }
 
 // The print of the tree at a node. It is written to scratch first, so that the buffer is known to be large enough before its first byte
 // changes.
-pub(crate) fn lend_print(text: &[u8], nodes: &[u32], node: usize, buffer: &mut [u8]) -> Result<usize, Refusal>
+pub(crate) fn lend_print(
+    text: &[u8],
+    nodes: &[u32],
+    node: usize,
+    buffer: &mut [u8],
+) -> Result<usize, Refusal>
     requires { node * 8 + 8 ≤ length nodes.now }
     ensures { Lent (print (tree_at text.now nodes.now node)) buffer.old (record { answer = result; buffer = buffer.new }) }
 {
@@ -50,16 +55,13 @@ pub(crate) fn lend_print(text: &[u8], nodes: &[u32], node: usize, buffer: &mut [
     Ok(n)
 }
 
-// By what was answered of a text that is not too long, with the tree in nodes that are lent.
-fn print_told(text: &[u8], nodes: &[u32], grown: Result<usize, Refusal>, buffer: &mut [u8]) -> Result<usize, Refusal>
+// The print of a text whose tree has so many nodes, which are lent.
+fn print_grown(text: &[u8], nodes: &[u32], size: usize, buffer: &mut [u8]) -> Result<usize, Refusal>
     requires text_len_bound { length text.now ≤ most_text }
-    requires grows { Grows text.now nodes.now grown }
+    requires planted { Planted text.now nodes.now size }
     ensures { PrintPromised text.now buffer.old (record { answer = result; buffer = buffer.new }) }
 {
-    match grown {
-        Err(refusal) => Err(refusal),
-        Ok(size) => lend_print(text, nodes, size - 1, buffer),
-    }
+    lend_print(text, nodes, size - 1, buffer)
 }
 
 fn print_long(text: &[u8], buffer: &mut [u8]) -> Result<usize, Refusal>
@@ -67,8 +69,8 @@ fn print_long(text: &[u8], buffer: &mut [u8]) -> Result<usize, Refusal>
     ensures { PrintPromised text.now buffer.old (record { answer = result; buffer = buffer.new }) }
 {
     let mut nodes = [0u32; reading::NODE_WORDS];
-    let grown = reading::read_tree(text, &mut nodes);
-    print_told(text, &nodes, grown, buffer)
+    let size = reading::read_tree(text, &mut nodes)?;
+    print_grown(text, &nodes, size, buffer)
 }
 
 // The length of the print, which stands at the front of the buffer. Every later byte of the buffer stays, and all of it on a refusal.
@@ -77,14 +79,14 @@ pub fn print(text: &[u8], buffer: &mut [u8]) -> Result<usize, Refusal>
 {
     if reading::MOST_TEXT < text.len() {
         return Err(Refusal {
-number: refused::TEXT_TOO_LONG,
-place: Place::Text(reading::MOST_TEXT),
-});
+            number: refused::TEXT_TOO_LONG,
+            place: Place::Text(reading::MOST_TEXT),
+        });
     }
     let mut nodes = [0u32; reading::SHORT_NODE_WORDS];
-    let tried = reading::try_tree(text, &mut nodes);
-    let Tried::Answered(grown) = tried else {
-        return print_long(text, buffer);
-    };
-    print_told(text, &nodes, grown, buffer)
+    match reading::try_tree(text, &mut nodes) {
+        Ok(size) => print_grown(text, &nodes, size, buffer),
+        Err(Stop::Refused(refusal)) => Err(refusal),
+        Err(Stop::Over) => print_long(text, buffer),
+    }
 }

@@ -1,25 +1,20 @@
 // What a text names: the refusals of a check, or its summary.
-ghost use Rattle.std.specs.Prelude.{List, ℕ};
+ghost use Rattle.std.specs.Prelude.{List, ℕ, Ok};
 ghost use Rattle.paper.specs.Promised.{SummarizePromised};
-ghost use Rattle.reading.specs.Restricted.{Restricts};
+ghost use Rattle.reading.specs.Restricted.{Rooted};
 
 use paper::{Refusal, Summary};
-use reading::Tried;
+use tokens::Stop;
 
-// By what was answered of text and list, with the tree in nodes that are lent.
-fn summarize_told(nodes: &[u32], restricted: Result<usize, Refusal>) -> Result<Summary, Refusal>
-    requires { (text : List ℕ) × ((list : List ℕ) × Restricts text list nodes.now restricted) }
-    ensures { (text list : List ℕ) → Restricts text list nodes.now restricted → SummarizePromised text list result }
+// By the tree at node `root`, of a text that passed.
+fn summary_of(nodes: &[u32], root: usize) -> Summary
+    requires { (text : List ℕ) × ((list : List ℕ) × Rooted text list nodes.now root) }
+    ensures { (text list : List ℕ) → Rooted text list nodes.now root → SummarizePromised text list (Ok result) }
 {
-    match restricted {
-        Err(refusal) => Err(refusal),
-        Ok(root) => {
-            let summary = summarizing::summary_at(nodes, root);
-            Ok(Summary {
-keys: summary.keys,
-priority: summary.priority,
-})
-        }
+    let summary = summarizing::summary_at(nodes, root);
+    Summary {
+        keys: summary.keys,
+        priority: summary.priority,
     }
 }
 
@@ -27,8 +22,8 @@ fn summarize_long(text: &[u8], list: &[u8]) -> Result<Summary, Refusal>
     ensures { SummarizePromised text.now list.now result }
 {
     let mut nodes = [0u32; reading::NODE_WORDS];
-    let restricted = reading::restrict(text, list, &mut nodes);
-    summarize_told(&nodes, restricted)
+    let root = reading::restrict(text, list, &mut nodes)?;
+    Ok(summary_of(&nodes, root))
 }
 
 // The set of the keys that the text names, and whether it names ::priority.
@@ -36,9 +31,9 @@ pub fn summarize(text: &[u8], list: &[u8]) -> Result<Summary, Refusal>
     ensures { SummarizePromised text.now list.now result }
 {
     let mut nodes = [0u32; reading::SHORT_NODE_WORDS];
-    let tried = reading::try_restrict(text, list, &mut nodes);
-    let Tried::Answered(restricted) = tried else {
-        return summarize_long(text, list);
-    };
-    summarize_told(&nodes, restricted)
+    match reading::try_restrict(text, list, &mut nodes) {
+        Ok(root) => Ok(summary_of(&nodes, root)),
+        Err(Stop::Refused(refusal)) => Err(refusal),
+        Err(Stop::Over) => summarize_long(text, list),
+    }
 }

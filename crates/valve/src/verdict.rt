@@ -4,10 +4,10 @@ ghost use Rattle.paper.specs.Answers.{ok, judgement_says};
 ghost use Rattle.paper.specs.Promised.{JudgePromised};
 ghost use Rattle.operands.specs.Conforming.{Conforming};
 ghost use Rattle.reading.specs.Grown.{Brief};
-ghost use Rattle.reading.specs.Restricted.{Rooted, Restricts};
+ghost use Rattle.reading.specs.Restricted.{Rooted};
 
-use paper::{Judgement, Refusal, Verdict};
-use reading::Tried;
+use paper::{Judgement, Verdict};
+use tokens::Stop;
 
 pub(crate) fn verdict(accepted: bool) -> Judgement
     ensures { judgement_says result ≡ ok accepted }
@@ -33,22 +33,8 @@ fn judge_by(list: &[u8], entry: &[u8], nodes: &[u32], root: usize) -> Judgement
     requires by_index { (text : List ℕ) × Rooted text list.now nodes.now root }
     ensures { (text : List ℕ) → Rooted text list.now nodes.now root → JudgePromised text list.now entry.now result }
 {
-    let entered = keys::check_entry(list, entry);
-    match entered {
-        Err(refusal) => Err(refusal),
-        Ok(()) => judge_entered(list, entry, nodes, root),
-    }
-}
-
-// By what was answered of text and list, with the tree in nodes that are lent.
-fn judge_told(list: &[u8], entry: &[u8], nodes: &[u32], restricted: Result<usize, Refusal>) -> Judgement
-    requires { (text : List ℕ) × Restricts text list.now nodes.now restricted }
-    ensures { (text : List ℕ) → Restricts text list.now nodes.now restricted → JudgePromised text list.now entry.now result }
-{
-    match restricted {
-        Err(refusal) => Err(refusal),
-        Ok(root) => judge_by(list, entry, nodes, root),
-    }
+    keys::check_entry(list, entry)?;
+    judge_entered(list, entry, nodes, root)
 }
 
 fn judge_brief(text: &[u8], list: &[u8], entry: &[u8]) -> Judgement
@@ -56,16 +42,16 @@ fn judge_brief(text: &[u8], list: &[u8], entry: &[u8]) -> Judgement
     ensures { JudgePromised text.now list.now entry.now result }
 {
     let mut nodes = [0u32; reading::BRIEF_NODE_WORDS];
-    let restricted = reading::restrict(text, list, &mut nodes);
-    judge_told(list, entry, &nodes, restricted)
+    let root = reading::restrict(text, list, &mut nodes)?;
+    judge_by(list, entry, &nodes, root)
 }
 
 fn judge_long(text: &[u8], list: &[u8], entry: &[u8]) -> Judgement
     ensures { JudgePromised text.now list.now entry.now result }
 {
     let mut nodes = [0u32; reading::NODE_WORDS];
-    let restricted = reading::restrict(text, list, &mut nodes);
-    judge_told(list, entry, &nodes, restricted)
+    let root = reading::restrict(text, list, &mut nodes)?;
+    judge_by(list, entry, &nodes, root)
 }
 
 // What the text says of an entry. A brief text is lent few nodes, so that less is cleared for it.
@@ -76,9 +62,9 @@ pub fn judge(text: &[u8], list: &[u8], entry: &[u8]) -> Judgement
         return judge_brief(text, list, entry);
     }
     let mut nodes = [0u32; reading::SHORT_NODE_WORDS];
-    let tried = reading::try_restrict(text, list, &mut nodes);
-    let Tried::Answered(restricted) = tried else {
-        return judge_long(text, list, entry);
-    };
-    judge_told(list, entry, &nodes, restricted)
+    match reading::try_restrict(text, list, &mut nodes) {
+        Ok(root) => judge_by(list, entry, &nodes, root),
+        Err(Stop::Refused(refusal)) => Err(refusal),
+        Err(Stop::Over) => judge_long(text, list, entry),
+    }
 }

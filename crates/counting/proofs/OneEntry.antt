@@ -43,12 +43,12 @@ module _ (list entry : List ℕ) where
       → count_if (λ e. is (judged (keys_in list) t e)) (entry ∷ []) ≡ one (is a)
   counted_as is t e = count_one (λ x. is (judged (keys_in list) t x)) entry (ap is e)
 
-  module _ (x : Result (Unit {0}) Refusal) (says : says x ≡ conforms (keys_in list) entry) where
+  module _ (x : Result (Unit {0}) Refusal) (said : says x ≡ conforms (keys_in list) entry) where
     pub conforming : keys list ≡ ok (keys_in list) → x ≡ (Ok tt) → Conforming list entry
-    conforming listed e = record { listed = listed; entered = entered (keys_in list) entry (sym says ∙ ap says e) }
+    conforming listed e = record { listed = listed; entered = entered (keys_in list) entry (sym said ∙ ap says e) }
 
     stopped : {v : Refusal} → x ≡ Err v → (t : Tree) → judged (keys_in list) t entry ≡ refused_by v
-    stopped e t = judged_refused (not_entered (keys_in list) entry (sym says ∙ ap says e)) t
+    stopped e t = judged_refused (not_entered (keys_in list) entry (sym said ∙ ap says e)) t
 
     pub one_refused : (text nodes rows : List ℕ) (n root : ℕ) (numbers : List ℕ) (r : Totals) {v : Refusal} → x ≡ Err v
         → (r.accepted ≡ 0) × (r.violated ≡ 0) × (r.refused ≡ 1)

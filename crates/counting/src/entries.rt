@@ -11,7 +11,6 @@ ghost use Rattle.counting.specs.Tallied.{Spare, Tells, Adds};
 use crate::misses;
 use crate::total::Totals;
 
-
 // Adds one entry: to the number of each part that is false on it, if it conforms.
 fn add_entry(
     list: &[u8],
@@ -26,13 +25,10 @@ fn add_entry(
     ensures { (text : List ℕ) (p : PassedParts text list.now nodes.now rows.now n)
         → Adds (keys_in list.now) (tree_at text nodes.now p.root) n (part_at text nodes.now rows.now) (entry.now ∷ []) counts.old counts.new result }
 {
-    let entered = keys::check_entry(list, entry);
-    match entered {
-        Err(_) => Totals::refusal(),
-        Ok(()) => {
-            Totals::verdict(misses::add_false(list, entry, nodes, rows, n, counts))
-        }
-    }
+    let Ok(()) = keys::check_entry(list, entry) else {
+        return Totals::refusal();
+    };
+    Totals::verdict(misses::add_false(list, entry, nodes, rows, n, counts))
 }
 
 // Sets the first n numbers to 0.

@@ -12,7 +12,7 @@ use lib.ListN.{length}
 use lib.Dec.{eqb, leb}
 use borrow.Author.Tests.{eqb-true, leb-true}
 use Rattle.paper.specs.declared.Place.{Place}
-use Rattle.paper.specs.Answers.{Input, ok, refused, input_of, offset_of, says}
+use Rattle.paper.specs.Answers.{Input, ok, refused, input_of, offset_of, says, refused_by}
 use Rattle.paper.specs.Keys.{records_in, record_at}
 use Rattle.paper.specs.Entry.{head_size}
 use Rattle.paper.specs.Calls.{restriction, judge_answer}
@@ -51,26 +51,29 @@ module _ (text list entry : List ℕ) where
       go after (inl zeroth) = absurd (omega arith)
       go after (inr k) = has_key list at k
 
-  pub record Refusal (n : ℕ) (i : Input) (at : ℕ) : Type 0 where
+  pub record Stopped (n : ℕ) (i : Input) (at : ℕ) : Type 0 where
     pub listed : Listed list n at
     pub reason : reason_for list (refused n i at) ≡ explain_answer text list entry
 
-  stopped : (n : ℕ) (i : Input) (at : ℕ) → StopsAt text list entry n i at → Refusal n i at
+  stopped : (n : ℕ) (i : Input) (at : ℕ) → StopsAt text list entry n i at → Stopped n i at
   stopped n i at stops =
       record {
         listed = listed n i at (judge_stops text list entry n i at stops);
         reason = sym (explain_stops text list entry n i at stops);
       }
 
-  pub text_refused : (n : ℕ) (i : Input) (at : ℕ) → restriction text list ≡ refused n i at → Refusal n i at
-  text_refused n i at e = stopped n i at (λ A next. rw e)
+  -- what is shown of a refusal
+  abbrev pub ShownOf : Refusal → Type 0
+  ShownOf v = Stopped v.number (input_of v.place) (offset_of v.place)
+
+  pub text_refused : (v : Refusal) → restriction text list ≡ refused_by v → ShownOf v
+  text_refused v e = stopped v.number (input_of v.place) (offset_of v.place) (λ A next. rw e)
 
   module _ (nodes rows : List ℕ) (m : ℕ) (p : PassedParts text list nodes rows m) where
-    pub entry_refused : (x : Result (Unit {0}) Refusal) → says x ≡ conforms (keys_in list) entry → {v : Refusal} → x ≡ Err v
-        → Refusal n (input_of q) (offset_of q)
-    entry_refused x says {n} {q} e =
-        let stops = not_entered (keys_in list) entry (sym says ∙ ap says e) in
-        stopped n (input_of q) (offset_of q) (λ A next. rw (p.rooted.passed, stops))
+    pub entry_refused : (x : Result (Unit {0}) Refusal) → says x ≡ conforms (keys_in list) entry → {v : Refusal} → x ≡ Err v → ShownOf v
+    entry_refused x said {v} e =
+        let stops = not_entered (keys_in list) entry (sym said ∙ ap says e) in
+        stopped v.number (input_of v.place) (offset_of v.place) (λ A next. rw (p.rooted.passed, stops))
 
     pub explained : Conforming list entry → reason_for list (ok (first_in text list entry nodes rows m)) ≡ explain_answer text list entry
     unfolding explain_answer false_part

@@ -1,13 +1,12 @@
 // What is shown.
 ghost use Rattle.std.specs.Prelude.{◌≡◌, List, ℕ, ◌+◌, ◌*◌, ◌≤◌, ◌<◌, length};
 ghost use Rattle.std.proofs.Math.Option.{some};
-ghost use Rattle.paper.specs.Answers as Answers;
-ghost use Rattle.paper.specs.Answers.{ok, input_of, offset_of};
+ghost use Rattle.paper.specs.Answers.{ok, offset_of, refused_by};
 ghost use Rattle.paper.specs.Numbers.{byte_at};
 ghost use Rattle.paper.specs.Keys.{records_in, record_at};
 ghost use Rattle.paper.specs.Entry.{head_size};
 ghost use Rattle.paper.specs.Parts.{most_parts};
-ghost use Rattle.paper.specs.Explained.{at_key, nothing_to_show, key_index, name_stretch, reason_for, explanation_says};
+ghost use Rattle.paper.specs.Explained.{at_key, key_index, name_stretch, reason_for, explanation_says};
 ghost use Rattle.operands.specs.Conforming.{Conforming};
 ghost use Rattle.parts.specs.Rows.{Has, root_at, part_at};
 ghost use Rattle.reading.specs.Parted.{Parted};
@@ -16,7 +15,7 @@ ghost use Rattle.explaining.specs.KeyShown.{HasKey, Listed};
 
 use crate::first;
 use keys::{Entry, Found, KeyRecord, Matched};
-use paper::{Explanation, Judgement, Place, Verdict, refused};
+use paper::{Explanation, Place, Refusal, Verdict, refused};
 use parts::rows as part_rows;
 
 // A part, by its index from 0: its number, its root's place, and its stretch.
@@ -60,12 +59,6 @@ fn offset(place: Place) -> usize
     }
 }
 
-fn nothing(number: u8, place: Place) -> Explanation
-    ensures { explanation_says result ≡ nothing_to_show (Answers.refused number (input_of place) (offset_of place)) }
-{
-    Explanation::Nothing(Err(refusal))
-}
-
 fn wide(x: u8) -> usize
     ensures { result ≡ x }
 {
@@ -92,16 +85,16 @@ fn key(list: &[u8], at: usize) -> Explanation
 }
 
 // For a refusal: the key, if an entry is refused at the record of one; else nothing.
-pub fn of_refusal(list: &[u8], number: u8, place: Place) -> Explanation
-    requires { Listed list.now number (offset_of place) }
-    ensures { explanation_says result ≡ reason_for list.now (Answers.refused number (input_of place) (offset_of place)) }
+pub fn of_refusal(list: &[u8], refusal: Refusal) -> Explanation
+    requires { Listed list.now refusal.number (offset_of refusal.place) }
+    ensures { explanation_says result ≡ reason_for list.now (refused_by refusal) }
 {
-    if number != refused::ENTRY_RULE {
-        return nothing(number, place);
+    if refusal.number != refused::ENTRY_RULE {
+        return Explanation::Nothing(Err(refusal));
     }
-    let at = offset(place);
+    let at = offset(refusal.place);
     if at < Entry::HEAD {
-        return nothing(number, place);
+        return Explanation::Nothing(Err(refusal));
     }
     key(list, at)
 }

@@ -23,9 +23,9 @@ fn refused_at(i: usize) -> Result<(), Refusal>
     ensures { says result ≡ refused 18 in_blocks (instruction_at i) }
 {
     Err(Refusal {
-number: refused::INSTRUCTION,
-place: Place::Blocks(place_of(i)),
-})
+        number: refused::INSTRUCTION,
+        place: Place::Blocks(place_of(i)),
+    })
 }
 
 // The number of the first instruction before `upto` whose landing does not fit, or `upto`. A landing past it is not compared. An instruction
@@ -62,9 +62,9 @@ fn check_marking(list: &[u8], blocks: &[u8], n: usize, marks: &mut [u32]) -> Res
         return Ok(());
     }
     Err(Refusal {
-number: refused::INSTRUCTION,
-place: Place::Blocks(blocks.len()),
-})
+        number: refused::INSTRUCTION,
+        place: Place::Blocks(blocks.len()),
+    })
 }
 
 // Whether the first n instructions of blocks pass the load check against a key list, or refusal 18.

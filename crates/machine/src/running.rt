@@ -16,7 +16,6 @@ use crate::decoding::loaded_at;
 use crate::holding::{MOST_HELD, below};
 use crate::instruction::{Op, narrow, takes};
 use operands::{bare_cell, field_cell, priority_cell};
-
 use values::Cell;
 
 // What is told of an entry, in a byte.

@@ -134,8 +134,12 @@ parts_stopped Says r e t = subst (λ (x : Result Grown Stop). Told Says (of_part
 
 -- what the answer tells
 
-pub planted : (text nodes : List ℕ) (r : Result ℕ Refusal) → Grows text nodes r → {m : ℕ} → r ≡ Ok m → Planted text nodes m
-planted text nodes r told e = subst (Grows text nodes) e told
+module _ (text nodes : List ℕ) (r : Result ℕ Refusal) (told : Grows text nodes r) where
+  pub planted : {m : ℕ} → r ≡ Ok m → Planted text nodes m
+  planted e = subst (Grows text nodes) e told
+
+  pub not_planted : {v : Refusal} → r ≡ Err v → tree text ≡ refused_by v
+  not_planted e = subst (Grows text nodes) e told
 
 module _ (text list nodes : List ℕ) (r : Result ℕ Refusal) (told : Restricts text list nodes r) where
   pub not_restricted : {v : Refusal} → r ≡ Err v → restriction text list ≡ refused_by v

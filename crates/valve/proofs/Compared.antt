@@ -40,9 +40,9 @@ module _ (text list old new : List ℕ) where
   -- where text or list are refused, and where an entry is, nothing is reused
 
   pub not_passed : (nodes : List ℕ) (r : Result ℕ Refusal) → Restricts text list nodes r
-      → {v : Refusal} → r ≡ Err v → Compared text list old new (Other (refusal n p))
-  not_passed nodes r told {n} {p} e =
-      judged_afresh (ap (λ (x : Answer Restriction). reuses_by x old new) (not_restricted text list nodes r told e)) (refusal n p) (verdicts.not_passed text list new nodes r told e)
+      → {v : Refusal} → r ≡ Err v → Compared text list old new (Other (Err v))
+  not_passed nodes r told {v} e =
+      judged_afresh (ap (λ (x : Answer Restriction). reuses_by x old new) (not_restricted text list nodes r told e)) (Err v) (verdicts.not_passed text list new nodes r told e)
 
   module _ (nodes : List ℕ) (k : ℕ) (r : Rooted text list nodes k) where
     abbrev ks : List Key
@@ -59,13 +59,13 @@ module _ (text list old new : List ℕ) where
     tests a b e f = rw (r.passed, e, f)
 
     pub new_refused : (x : Result (Unit {0}) Refusal) → says x ≡ conforms ks new
-        → {v : Refusal} → x ≡ Err v → Compared text list old new (Other (refusal n p))
-    new_refused x says {n} {p} e =
-        let stop : passes (entry_of ks new) ≡ false = ap passes (K.not_entered ks new (sym says ∙ ap says e)) in
-        judged_afresh (tests _ false refl stop ∙ rw (and-false (passes (entry_of ks old)))) (refusal n p) (verdicts.not_entered text list new nodes k r x says e)
+        → {v : Refusal} → x ≡ Err v → Compared text list old new (Other (Err v))
+    new_refused x said {v} e =
+        let stop : passes (entry_of ks new) ≡ false = ap passes (K.not_entered ks new (sym said ∙ ap says e)) in
+        judged_afresh (tests _ false refl stop ∙ rw (and-false (passes (entry_of ks old)))) (Err v) (verdicts.not_entered text list new nodes k r x said e)
 
     pub old_refused : (x : Result (Unit {0}) Refusal) → says x ≡ conforms ks old → {v : Refusal} → x ≡ Err v → false ≡ same_in text list old new
-    old_refused x says e = sym (tests false _ (ap passes (K.not_entered ks old (sym says ∙ ap says e))) refl)
+    old_refused x said e = sym (tests false _ (ap passes (K.not_entered ks old (sym said ∙ ap says e))) refl)
 
     pub both_enter : Conforming list old → Conforming list new → same_named ≡ same_in text list old new
     both_enter was is = sym (tests true true (ap passes was.entered) (ap passes is.entered))

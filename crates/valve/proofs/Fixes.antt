@@ -1,7 +1,7 @@
 -- From the answer of the pass to that of `fix_octal`: a refusal by the old rules leaves the buffer, and a result, which is never longer than the text
 -- and so not past the limit, is lent where the buffer has room.
 use Prim.Native.Nat.{ℕ, ◌≤◌, ◌<◌}
-use Rattle.std.specs.Prelude.{Result, Ok}
+use Rattle.std.specs.Prelude.{Result, Ok, Err}
 use Rattle.paper.specs.declared.Refusal.{Refusal}
 use native.Mathlib.Omega.{arith}
 use mathlib.Core.Path.{◌≡◌, refl, ap, sym, subst, ◌∙◌}
@@ -12,7 +12,7 @@ use lib.Dec.{leb}
 use borrow.Author.Tests.{le-leb, lt-leb}
 use Rattle.paper.specs.declared.Place.{Place}
 use Rattle.paper.specs.declared.Place.TheVariants as P
-use Rattle.paper.specs.Answers.{Answer, ok, refused, ◌>>=◌, in_text, in_buffer, input_of, offset_of, says, refusal}
+use Rattle.paper.specs.Answers.{Answer, ok, refused, ◌>>=◌, in_text, in_buffer, input_of, offset_of, says, refusal, refused_by}
 use Rattle.paper.specs.Tokens.{Token, most_text}
 use Rattle.paper.specs.Calls.{over, laid, lends}
 use Rattle.paper.specs.Fixing.{old_tokens, fixed, fixable, fix_answer, fix_buffer, says}
@@ -21,8 +21,8 @@ use Rattle.paper.proofs.NeverLonger.{never_longer}
 use Rattle.tokens.specs.Fixes.{StandsFirst, Fixes}
 
 -- a refusal leaves the buffer
-abbrev refusal : ℕ → Place → List ℕ → FixResult
-refusal n p buffer = record { answer = refusal n p; buffer = buffer }
+abbrev pub unfixed : Refusal → List ℕ → FixResult
+unfixed v buffer = record { answer = Err v; buffer = buffer }
 
 -- by what the call is to lend, or the refusal in its place
 promised : {text buffer : List ℕ} {a : Answer (List ℕ)} → fixable text buffer ≡ a → (r : FixResult)
@@ -30,7 +30,7 @@ promised : {text buffer : List ℕ} {a : Answer (List ℕ)} → fixable text buf
 unfolding fix_answer fix_buffer
 promised e r says holds = record { says = rw e says; holds = rw e holds }
 
-pub too_long : (text buffer : List ℕ) → most_text < length text → FixPromised text buffer (refusal 1 (P.Text most_text) buffer)
+pub too_long : (text buffer : List ℕ) → most_text < length text → FixPromised text buffer (unfixed (record { number = 1; place = P.Text most_text }) buffer)
 unfolding fixable
 too_long text buffer h =
     let past : fixable text buffer ≡ refused 1 in_text most_text = rw (lt-leb (length text) most_text h) in
@@ -45,12 +45,12 @@ pub record Fixed (text scratch : List ℕ) (n : ℕ) : Type 0 where
   pub short : n ≤ length text
 
 module _ (text scratch : List ℕ) (r : Result ℕ Refusal) (fixes : Fixes text scratch r) where
-  pub not_fixed : {n : ℕ} {p : Place} (buffer : List ℕ) → length text ≤ most_text → r ≡ refusal n p → FixPromised text buffer (refusal n p buffer)
+  pub not_fixed : {v : Refusal} (buffer : List ℕ) → length text ≤ most_text → r ≡ Err v → FixPromised text buffer (unfixed v buffer)
   unfolding fixable
-  not_fixed {n} {p} buffer few e = go (old_tokens text) refl (ap says (sym e) ∙ fixes.says)
+  not_fixed {v} buffer few e = go (old_tokens text) refl (ap says (sym e) ∙ fixes.says)
     where
-      go : (a : Answer (List Token)) → old_tokens text ≡ a → refused n (input_of p) (offset_of p) ≡ (a >>= λ _. ok (length (fixed text)))
-          → FixPromised text buffer (refusal n p buffer)
+      go : (a : Answer (List Token)) → old_tokens text ≡ a → refused_by v ≡ (a >>= λ _. ok (length (fixed text)))
+          → FixPromised text buffer (unfixed v buffer)
       go (ok ts) o f = let z : ◌≡◌ {A = ℕ} 0 1 = cc in absurd (omega arith)
       go (refused m i at) o f =
           let old : fixable text buffer ≡ refused m i at = rw (le-leb (length text) most_text few, o) in
@@ -73,7 +73,7 @@ module _ {text scratch : List ℕ} {n : ℕ} (f : Fixed text scratch n) (few : l
   within_limit : leb (length (fixed text)) most_text ≡ true
   within_limit = le-leb (length (fixed text)) most_text (omega (arith, f.count, f.short))
 
-  pub no_room : length buffer < n → FixPromised text buffer (refusal 21 (P.Buffer (length buffer)) buffer)
+  pub no_room : length buffer < n → FixPromised text buffer (unfixed (record { number = 21; place = P.Buffer (length buffer) }) buffer)
   no_room h =
       let past : lends (fixed text) buffer ≡ refused 21 in_buffer (length buffer) =
       rw (within_limit, lt-leb (length (fixed text)) (length buffer) (omega (arith, f.count)))

@@ -32,13 +32,13 @@ module _ (ks : List Key) (blocks : List ℕ) where
   staged = total_kept (layout (length ks) blocks) (total_of blocks)
 
   -- the layout's answer: a refusal is passed up, a count goes on to the types
-  module _ (r : Result ℕ Refusal) (says : says r ≡ laid_out (length ks) blocks) where
+  module _ (r : Result ℕ Refusal) (said : says r ≡ laid_out (length ks) blocks) where
     pub layout_refused : {v : Refusal} → r ≡ Err v → refused_by v ≡ loaded ks blocks
-    layout_refused e = refused_up (λ m. types_ok m >>= λ _. ok m) r says e ∙ sym staged
+    layout_refused e = refused_up (λ m. types_ok m >>= λ _. ok m) r said e ∙ sym staged
 
     pub types_told : {n : ℕ} {a : Answer (Unit {0})} → r ≡ Ok n → types_ok n ≡ a → (a >>= λ _. ok n) ≡ loaded ks blocks
     types_told {n} e f =
-        sym (ap (λ (x : Answer (Unit {0})). x >>= λ _. ok n) f) ∙ counted_on (λ m. types_ok m >>= λ _. ok m) r says e ∙ sym staged
+        sym (ap (λ (x : Answer (Unit {0})). x >>= λ _. ok n) f) ∙ counted_on (λ m. types_ok m >>= λ _. ok m) r said e ∙ sym staged
 
 module _ (list blocks : List ℕ) where
   pub list_refused : {k : ℕ} {i : Input} {at : ℕ} → key_count list ≡ refused k i at → refused k i at ≡ load_answer list blocks

@@ -9,7 +9,7 @@ use lib.ListN.{length, take}
 use borrow.Author.Tests.{le-leb, lt-leb, le-ltb}
 use Rattle.paper.specs.declared.Place.{Place}
 use Rattle.paper.specs.declared.Place.TheVariants as P
-use Rattle.paper.specs.Answers.{refused, input_of, offset_of, refusal}
+use Rattle.paper.specs.Answers.{refused, input_of, offset_of, refusal, refused_by}
 use Rattle.paper.specs.Tokens.{most_text}
 use Rattle.paper.specs.Grammar.{Tree}
 use Rattle.paper.specs.Print.{rung, looser, enclosed, print}
@@ -22,16 +22,16 @@ use Rattle.reading.specs.Grown.{Planted, Grows}
 use Rattle.valve.specs.Lent.{Lent}
 
 -- a refusal leaves the buffer
-abbrev pub refusal : ℕ → Place → List ℕ → PrintResult
-refusal n p buffer = record { answer = refusal n p; buffer = buffer }
+abbrev pub unprinted : Refusal → List ℕ → PrintResult
+unprinted v buffer = record { answer = Err v; buffer = buffer }
 
 -- bytes that are lent, or not
 
 module _ (new buffer : List ℕ) where
-  pub over_scratch : most_text < length new → Lent new buffer (refusal 21 (P.Buffer (length buffer)) buffer)
+  pub over_scratch : most_text < length new → Lent new buffer (unprinted (record { number = 21; place = P.Buffer (length buffer) }) buffer)
   over_scratch h = record { says = rw (lt-leb (length new) most_text h); holds = rw (lt-leb (length new) most_text h) }
 
-  pub over_buffer : length new ≤ most_text → length buffer < length new → Lent new buffer (refusal 21 (P.Buffer (length buffer)) buffer)
+  pub over_buffer : length new ≤ most_text → length buffer < length new → Lent new buffer (unprinted (record { number = 21; place = P.Buffer (length buffer) }) buffer)
   over_buffer few h =
       record {
         says = rw (le-leb (length new) most_text few, lt-leb (length new) (length buffer) h);
@@ -80,16 +80,13 @@ module _ {scratch written : List ℕ} {n : ℕ} (t : Tree) (limit : length scrat
 
 -- by the stages of the call
 module _ (text buffer : List ℕ) where
-  pub too_long : most_text < length text → PrintPromised text buffer (refusal 1 (P.Text most_text) buffer)
+  pub too_long : most_text < length text → PrintPromised text buffer (unprinted (record { number = 1; place = P.Text most_text }) buffer)
   unfolding print_answer print_buffer printable
   too_long h = record { says = rw (lt-leb (length text) most_text h); holds = rw (lt-leb (length text) most_text h) }
 
-  module _ (h : length text ≤ most_text) (nodes : List ℕ) (r : Result ℕ Refusal) (grows : Grows text nodes r) where
-    pub not_printed : {v : Refusal} → r ≡ Err v → PrintPromised text buffer (refusal n p buffer)
-    unfolding print_answer print_buffer printable
-    not_printed {n} {p} e =
-        let g : tree text ≡ refused n (input_of p) (offset_of p) = subst (Grows text nodes) e grows in
-        record { says = rw (le-leb (length text) most_text h, g); holds = rw (le-leb (length text) most_text h, g) }
+  pub not_printed : length text ≤ most_text → (v : Refusal) → tree text ≡ refused_by v → PrintPromised text buffer (unprinted v buffer)
+  unfolding print_answer print_buffer printable
+  not_printed h v e = record { says = rw (le-leb (length text) most_text h, e); holds = rw (le-leb (length text) most_text h, e) }
 
   pub is_printed : length text ≤ most_text → {nodes : List ℕ} {m : ℕ} → Planted text nodes m → (result : PrintResult)
       → Lent (print (tree_at text nodes (m - 1))) buffer result → PrintPromised text buffer result

@@ -1,5 +1,7 @@
 -- The stages of a run, and of a table: their answers from those of the load, the entries and the answers that are lent.
 use Prim.Native.Nat.{ℕ, ◌≤◌, ◌<◌, ◌/◌, ◌%◌}
+use Rattle.paper.specs.declared.Refusal.{Refusal}
+use Rattle.std.specs.Prelude.{Err}
 use native.Mathlib.Nat.{mod_self}
 use native.Mathlib.Omega.{arith}
 use mathlib.Core.Path.{◌≡◌, refl, sym, ap, subst, ◌∙◌}
@@ -9,13 +11,13 @@ use lib.ListN.{length, get_or, length-map}
 use borrow.Author.Tests.{eq-eqb, ne_eqb, le-leb, lt-leb}
 use Rattle.paper.specs.declared.Place.{Place}
 use Rattle.paper.specs.declared.Place.TheVariants as P
-use Rattle.paper.specs.Answers.{Answer, ok, refused, ◌>>=◌, Input, in_entry, input_of, offset_of, Ran, refusal}
+use Rattle.paper.specs.Answers.{Answer, ok, refused, ◌>>=◌, Input, in_entry, input_of, offset_of, Ran, refusal, refused_by}
 use Rattle.paper.specs.Keys.{Key, keys}
 use Rattle.paper.specs.Entry.{Entry, entry_of}
 use Rattle.paper.specs.Loading.{program, loaded, run_along, left_true}
 use Rattle.paper.specs.Calls.{over, load_answer, ran_to, run_answer}
 use Rattle.paper.specs.Counting.{entry_size, whole_in, cut_in, entries_in}
-use Rattle.paper.specs.RunAll.{verdict_byte, steps_on, Verdicts, verdicts_on, whole_only, answers_fit, ran_all, run_all_answer, run_all_bytes}
+use Rattle.paper.specs.RunAll.{verdict_byte, steps_on, Verdicts, verdicts_on, whole_only, answers_fit, ran_all, run_all_answer, run_all_bytes, ran_over}
 use Rattle.paper.specs.Demands.{AllRunnable}
 use Rattle.paper.specs.Promised.{RunAllResult, RunAllPromised}
 use Rattle.paper.proofs.Stages.{bind_ok}
@@ -27,8 +29,8 @@ use Rattle.keys.proofs.Checked.{are_keys}
 use Rattle.keys.proofs.Conforming.{entry_in, entered, not_entered}
 
 -- what is promised of a table that is refused: the answers stay
-abbrev refusal : ℕ → Place → List ℕ → RunAllResult
-refusal n p answers = record { answer = refusal n p; bytes = answers }
+abbrev pub unanswered : Refusal → List ℕ → RunAllResult
+unanswered v answers = record { answer = Err v; bytes = answers }
 
 module _ (list blocks : List ℕ) where
   -- a load that is refused refuses the call
@@ -43,10 +45,10 @@ module _ (list blocks : List ℕ) where
   unfolding load_answer run_answer
   load_refused entry e = sym (load_first _ (keys list) e)
 
-  pub load_refused_all : (entries answers : List ℕ) {k : ℕ} {p : Place} → load_answer list blocks ≡ refused k (input_of p) (offset_of p)
-      → RunAllPromised list blocks entries answers (refusal k p answers)
+  pub load_refused_all : (entries answers : List ℕ) (v : Refusal) → load_answer list blocks ≡ refused_by v
+      → RunAllPromised list blocks entries answers (unanswered v answers)
   unfolding load_answer ran_all run_all_answer run_all_bytes
-  load_refused_all entries answers e =
+  load_refused_all entries answers v e =
       let rest : List Key → Answer Verdicts =
       λ ks. whole_only ks entries >>= λ _. answers_fit ks entries answers >>= λ _. ok (verdicts_on ks blocks entries)
       in
@@ -146,7 +148,7 @@ module _ (list blocks : List ℕ) where
       ks = keys_in list
 
       -- 19
-      pub cut : (length entries % size ≡ 0 → ⊥) → RunAllPromised list blocks entries answers (refusal 19 (P.Entry (length entries)) answers)
+      pub cut : (length entries % size ≡ 0 → ⊥) → RunAllPromised list blocks entries answers (unanswered (record { number = 19; place = P.Entry (length entries) }) answers)
       unfolding ran_all run_all_answer run_all_bytes
       cut some =
           let left = ne_eqb (cut_in ks entries) 0 (λ e. some (ap (λ (m : ℕ). length entries % m) is ∙ e)) in
@@ -158,7 +160,7 @@ module _ (list blocks : List ℕ) where
 
         -- 15
         pub too_few : length answers < length entries / size
-            → RunAllPromised list blocks entries answers (refusal 15 (P.Buffer (length answers)) answers)
+            → RunAllPromised list blocks entries answers (unanswered (record { number = 15; place = P.Buffer (length answers) }) answers)
         unfolding ran_all run_all_answer run_all_bytes
         too_few fewer =
             let ends = eq-eqb (cut_in ks entries) 0 none_cut in
@@ -175,7 +177,7 @@ module _ (list blocks : List ℕ) where
 
         pub ran : length entries / size ≤ length answers → (steps : ℕ) (after : List ℕ) → steps ≡ (verdicts_on ks blocks entries).steps
             → after ≡ over (verdicts_on ks blocks entries).bytes answers
-            → RunAllPromised list blocks entries answers (record { answer = A.Ran (length entries / size) steps; bytes = after })
+            → RunAllPromised list blocks entries answers (record { answer = ran_over (length entries / size) steps; bytes = after })
         unfolding ran_all run_all_answer run_all_bytes
         ran enough steps after steps_so after-so =
             let ends = eq-eqb (cut_in ks entries) 0 none_cut in

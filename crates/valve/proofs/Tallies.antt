@@ -1,13 +1,15 @@
 -- From the stages' answers to that of `count`: a refusal of text or list (`text_refused`) or of too many entries (`too_many`), which leave the numbers,
 -- or the numbers of the parts from 0 on (`counts`).
 use Prim.Native.Nat.{ℕ, ◌*◌, ◌/◌, ◌%◌, ◌≤◌, ◌<◌}
+use Rattle.paper.specs.declared.Refusal.{Refusal}
+use Rattle.std.specs.Prelude.{Ok, Err}
 use mathlib.Core.Path.{◌≡◌, refl, sym, ap, subst, ◌∙◌}
 use mathlib.Core.List.{List}
 use lib.ListN.{length, replicate, length-map}
 use borrow.Author.Tests.{le-leb, lt-leb}
 use Rattle.paper.specs.declared.Place.{Place}
 use Rattle.paper.specs.declared.Place.TheVariants as P
-use Rattle.paper.specs.Answers.{ok, refused, input_of, offset_of, refusal}
+use Rattle.paper.specs.Answers.{ok, refused, input_of, offset_of, refusal, refused_by}
 use Rattle.paper.specs.Calls.{restriction, over}
 use Rattle.paper.specs.Counting.{entry_size, whole_in, cut_in, most_entries, Counts, counts_of, counted, count_answer, count_numbers}
 use Rattle.paper.specs.Promised.{CountResult, CountPromised}
@@ -21,18 +23,18 @@ use Rattle.counting.specs.Tallied.{Tells}
 use Rattle.counting.proofs.Growing.{from_zeros}
 
 -- a refusal leaves the numbers
-abbrev refusal : ℕ → Place → List ℕ → CountResult
-refusal n p numbers = record { answer = refusal n p; numbers = numbers }
+abbrev pub uncounted : Refusal → List ℕ → CountResult
+uncounted v numbers = record { answer = Err v; numbers = numbers }
 
 module _ (text list entries numbers : List ℕ) where
-  pub text_refused : {n : ℕ} {p : Place} → restriction text list ≡ refused n (input_of p) (offset_of p)
-      → CountPromised text list entries numbers (refusal n p numbers)
+  pub text_refused : (v : Refusal) → restriction text list ≡ refused_by v
+      → CountPromised text list entries numbers (uncounted v numbers)
   unfolding count_answer count_numbers counted
-  text_refused e = record { says = rw e; holds = rw e }
+  text_refused v e = record { says = rw e; holds = rw e }
 
   module _ (nodes rows : List ℕ) (n : ℕ) (p : PassedParts text list nodes rows n) where
     pub too_many : (size : ℕ) → size ≡ entry_size (keys_in list) → most_entries < length entries / size
-        → CountPromised text list entries numbers (refusal 25 (P.Entry (most_entries * size)) numbers)
+        → CountPromised text list entries numbers (uncounted (record { number = 25; place = P.Entry (most_entries * size) }) numbers)
     unfolding count_answer count_numbers counted
     too_many size is many =
         let beyond = lt-leb (whole_in (keys_in list) entries) most_entries (subst (λ (m : ℕ). most_entries < length entries / m) is many) in
@@ -51,7 +53,10 @@ module _ (text list entries numbers : List ℕ) where
 
     pub counts : (size : ℕ) → size ≡ entry_size (keys_in list) → length entries / size ≤ most_entries
         → (after : List ℕ) (t : Totals) → Tells all (over (replicate n 0) numbers) after t
-        → CountPromised text list entries numbers (record { answer = C.Counted n t.accepted t.violated t.refused (length entries % size); numbers = after })
+        → CountPromised text list entries numbers (record {
+          answer = Ok (record { parts = n; accepted = t.accepted; violated = t.violated; refused = t.refused; cut = length entries % size });
+          numbers = after;
+        })
     unfolding count_answer count_numbers counted
     counts size is few after t told =
         let within = le-leb (whole_in (keys_in list) entries) most_entries (subst (λ (m : ℕ). length entries / m ≤ most_entries) is few) in

@@ -7,7 +7,7 @@ use mathlib.Core.List.{List}
 use lib.ListN.{length}
 use borrow.Author.Tests.{le-leb, lt-leb}
 use Rattle.paper.specs.declared.Place.{Place}
-use Rattle.paper.specs.Answers.{Answer, ok, refused, ◌>>=◌, in_text, input_of, offset_of, refused_by}
+use Rattle.paper.specs.Answers.{Answer, ok, refused, ◌>>=◌, in_text, input_of, offset_of, refused_by, says}
 use Rattle.paper.specs.Tokens.{most_text}
 use Rattle.paper.specs.Grammar as G
 use Rattle.paper.specs.Calls.{tree, Restriction, restriction, read_answer, check_answer}
@@ -20,20 +20,15 @@ module _ (text : List ℕ) where
   unfolding read_answer
   too_long h = rw (lt-leb (length text) most_text h)
 
-  module _ (h : length text ≤ most_text) (nodes : List ℕ) (r : Result ℕ Refusal) (grows : Grows text nodes r) where
+  module _ (h : length text ≤ most_text) where
     short : read_answer text ≡ (tree text >>= λ t. ok (G.nodes t))
     unfolding read_answer
     short = rw (le-leb (length text) most_text h)
 
-    pub not_read : {v : Refusal} → r ≡ Err v → refused_by v ≡ read_answer text
-    not_read {n} {p} e =
-        let g : tree text ≡ refused n (input_of p) (offset_of p) = subst (Grows text nodes) e grows in
-        sym (short ∙ rw g)
-
-    pub is_read : {m : ℕ} → r ≡ Ok m → ok m ≡ read_answer text
-    is_read {m} e =
-        let g : Planted text nodes m = subst (Grows text nodes) e grows in
-        sym (short ∙ rw g.read (ap ok (sym g.count)))
+    -- what was answered of the text's tree is what is to be
+    pub read_told : (nodes : List ℕ) (r : Result ℕ Refusal) → Grows text nodes r → says r ≡ read_answer text
+    read_told nodes (Ok m) g = sym (short ∙ rw g.read (ap ok (sym g.count)))
+    read_told nodes (Err v) e = sym (short ∙ rw e)
 
 module _ (text list nodes : List ℕ) (r : Result ℕ Refusal) (told : Restricts text list nodes r) where
   pub not_checked : {v : Refusal} → r ≡ Err v → refused_by v ≡ check_answer text list

@@ -33,12 +33,12 @@ module _ (text list entry : List ℕ) where
     unfolding judge_answer
     by_entry = rw r.passed
 
-    module _ (x : Result (Unit {0}) Refusal) (says : says x ≡ conforms (keys_in list) entry) where
+    module _ (x : Result (Unit {0}) Refusal) (said : says x ≡ conforms (keys_in list) entry) where
       pub not_entered : {v : Refusal} → x ≡ Err v → refused_by v ≡ judge_answer text list entry
-      not_entered e = sym (by_entry ∙ rw (K.not_entered (keys_in list) entry (sym says ∙ ap says e)))
+      not_entered e = sym (by_entry ∙ rw (K.not_entered (keys_in list) entry (sym said ∙ ap says e)))
 
       pub conforming : x ≡ (Ok tt) → Conforming list entry
-      conforming e = record { listed = r.listed; entered = K.entered (keys_in list) entry (sym says ∙ ap says e) }
+      conforming e = record { listed = r.listed; entered = K.entered (keys_in list) entry (sym said ∙ ap says e) }
 
     -- the judgement is whether the tree is true on an entry that conforms
     pub judged_by : Conforming list entry → (b : Bool) → b ≡ tree_holds text list entry nodes k → ok b ≡ judge_answer text list entry

@@ -2,7 +2,6 @@
 use Rattle.std.specs.Prelude.{ℕ, ◌≡◌, List, length}
 use Rattle.paper.specs.Answers.{ok, ◌>>=◌, says}
 use Rattle.paper.specs.Calls.{lends, laid}
-use Rattle.paper.specs.Drafting.{says}
 use Rattle.paper.specs.Promised.{PrintResult, DraftResult}
 
 pub record Lent (new buffer : List ℕ) (r : PrintResult) : Type 0 where

@@ -7,22 +7,22 @@ use Rattle.valve.proofs.reasons.reason_by.Goals as goal
 
 pub of_refusal-requires : goal.of_refusal-requires
 of_refusal-requires c =
-    let x = c.check_entry-entered in
-    (entry_refused _ _ _ _ _ _ c.requires.1 x.result x.ensures c.in-Refused.is).listed
+    let x = c.check_entry in
+    (entry_refused _ _ _ _ _ _ c.requires.1 x.result x.ensures c.in-Err.is).listed
 
 pub of_entry-requires : goal.of_entry-requires
 of_entry-requires c =
-    let x = c.check_entry-entered in
+    let x = c.check_entry in
     let passed = c.requires.1 in
-    record { conforming = conforming _ _ _ _ _ passed.rooted x.result x.ensures c.in-Passed.is; by_index = (_, passed.parted) }
+    record { conforming = conforming _ _ _ _ _ passed.rooted x.result x.ensures c.in-Ok.is; by_index = (_, passed.parted) }
 
-pub returns-in-Refused : goal.returns-in-Refused
-returns-in-Refused c text passed =
-    let x = c.check_entry-entered in
-    c.of_refusal.ensures ∙ (entry_refused _ _ _ _ _ _ passed x.result x.ensures c.in-Refused.is).reason
+pub returns-in-Err : goal.returns-in-Err
+returns-in-Err c text passed =
+    let x = c.check_entry in
+    c.of_refusal.ensures ∙ (entry_refused _ _ _ _ _ _ passed x.result x.ensures c.in-Err.is).reason
 
-pub returns-in-Passed : goal.returns-in-Passed
-returns-in-Passed c text passed =
-    let x = c.check_entry-entered in
+pub returns-in-Ok : goal.returns-in-Ok
+returns-in-Ok c text passed =
+    let x = c.check_entry in
     c.of_entry.ensures text passed.parted
-    ∙ explained _ _ _ _ _ _ passed (conforming _ _ _ _ _ passed.rooted x.result x.ensures c.in-Passed.is)
+    ∙ explained _ _ _ _ _ _ passed (conforming _ _ _ _ _ passed.rooted x.result x.ensures c.in-Ok.is)

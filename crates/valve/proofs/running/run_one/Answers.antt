@@ -6,6 +6,7 @@ use mathlib.Core.Bool.{true, false}
 use mathlib.Core.List.{List}
 use lib.ListN.{get_or}
 use Rattle.paper.specs.Answers.{says}
+use Rattle.paper.proofs.PassedUp.{passed_up}
 use Rattle.valve.proofs.Runs.{wrong_length, Alone, alone, told, not_conforming, entry_refused}
 use Rattle.valve.proofs.running.run_one.Goals as goal
 
@@ -57,31 +58,17 @@ returns-then-verdict-eq-VIOLATED c =
     told a.list.now a.blocks.now c.requires.list_value c.requires.blocks_value a.entry.now false (told_there_2 c) c.if-verdict-eq-VIOLATED.true
 
 -- where it has neither byte
-pub returns-in-Refused : goal.returns-in-Refused
-returns-in-Refused c =
+pub returns-in_err-check_entry : goal.returns-in_err-check_entry
+returns-in_err-check_entry c =
     let a = c.args in
-    entry_refused a.list.now a.blocks.now c.requires.list_value c.requires.blocks_value a.entry.now
-    (sym c.check_entry.ensures ∙ ap says c.in-Refused.is)
+    rw (passed_up _ c.from_residual.ensures.1)
+    (entry_refused a.list.now a.blocks.now c.requires.list_value c.requires.blocks_value a.entry.now (sym c.check_entry.ensures ∙ ap says c.in_err-check_entry.was))
 
--- its byte and its steps
-abbrev after_3 : goal.In-Passed → List ℕ
-after_3 c = c.run_each-steps.new.answers
-
-abbrev Told_3 : goal.In-Passed → Type 0
-Told_3 c =
-    let a = c.args in
-    Alone a.list.now a.blocks.now c.requires.list_value c.requires.blocks_value a.entry.now (get_or (after_3 c) 0 0) c.run_each-steps.result
-
-told_there_3 : (c : goal.In-Passed) → Told_3 c
-told_there_3 c =
+pub prove-unreachable-requires : goal.prove-unreachable-requires
+prove-unreachable-requires c =
     let a = c.args in
     let run = c.run_each-steps in
-    alone a.list.now a.blocks.now c.requires.list_value c.requires.blocks_value a.entry.now c.entry_size.result c.entry_size.ensures c.if-length-entry_size.false
-    0 (after_3 c) run.result run.ensures.value run.ensures.answers_after
-
-pub returns-in-Passed : goal.returns-in-Passed
-returns-in-Passed c =
-    let a = c.args in
-    absurd
-    (not_conforming a.list.now a.blocks.now c.requires.list_value c.requires.blocks_value a.entry.now (told_there_3 c) c.if-verdict-eq-ACCEPTED.false c.if-verdict-eq-VIOLATED.false
-    (sym c.check_entry.ensures ∙ ap says c.in-Passed.is))
+    let byte = alone a.list.now a.blocks.now c.requires.list_value c.requires.blocks_value a.entry.now c.entry_size.result c.entry_size.ensures c.if-length-entry_size.false
+    0 run.new.answers run.result run.ensures.value run.ensures.answers_after in
+    not_conforming a.list.now a.blocks.now c.requires.list_value c.requires.blocks_value a.entry.now byte c.if-verdict-eq-ACCEPTED.false c.if-verdict-eq-VIOLATED.false
+    (sym c.check_entry.ensures ∙ ap says c.in_ok-check_entry.was)

@@ -1,5 +1,12 @@
--- `valve::check_long` meets its contract: it lends nodes for any text, and goes on from what `restrict` answers (`check_told`).
+-- `valve::check_long` meets its contract: it lends nodes for any text; the answer of a check is what `restrict` answers, without the root
+-- (`not_checked`, `is_checked`).
+use Rattle.paper.proofs.PassedUp.{passed_up}
+use Rattle.valve.proofs.Texts.{not_checked, is_checked}
 use Rattle.valve.proofs.text.check_long.Goals as goal
 
+pub returns-in_err-restrict : goal.returns-in_err-restrict
+returns-in_err-restrict c =
+    rw (passed_up _ c.from_residual.ensures.1) (not_checked _ _ _ c.restrict.result c.restrict.ensures c.in_err-restrict.was)
+
 pub returns : goal.returns
-returns c = c.check_told.ensures _ _ _ c.restrict.ensures
+returns c = is_checked _ _ _ c.restrict.result c.restrict.ensures c.in_ok-restrict.was

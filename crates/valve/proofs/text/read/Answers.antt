@@ -1,13 +1,19 @@
--- `valve::read` meets its contract: refusal 1 of a text that is too long (`too_long`); else it goes on from what `try_tree` answers with few nodes
--- (`read_told`), and where that is over it lends more (`read_long`).
-use Rattle.valve.proofs.Texts.{too_long}
-use Rattle.valve.proofs.Tries.{answered}
+-- `valve::read` meets its contract: refusal 1 of a text that is too long (`too_long`); else what `try_tree` answers with few nodes (`answered`) is
+-- what is to be (`read_told`), and where that is over it lends more (`read_long`).
+use Rattle.std.specs.Prelude.{Ok, Err}
+use Rattle.valve.proofs.Texts.{too_long, read_told}
+use Rattle.valve.proofs.Tries.{answered, turned_down}
 use Rattle.valve.proofs.text.read.Goals as goal
 
 pub returns-then-text-gt-MOST_TEXT : goal.returns-then-text-gt-MOST_TEXT
 returns-then-text-gt-MOST_TEXT c = too_long _ c.if-text-gt-MOST_TEXT.true
 
-pub returns : goal.returns
-returns c =
-    let t = c.try_tree-tried in
-    c.read_told.ensures _ _ c.if-text-gt-MOST_TEXT.false (answered _ t.result t.ensures c.in-Answered.is)
+pub returns-in-Ok : goal.returns-in-Ok
+returns-in-Ok c =
+    let t = c.try_tree in
+    read_told _ c.if-text-gt-MOST_TEXT.false _ (Ok _) (answered _ t.result t.ensures c.in-Ok.is)
+
+pub returns-in-Err-Refused : goal.returns-in-Err-Refused
+returns-in-Err-Refused c =
+    let t = c.try_tree in
+    read_told _ c.if-text-gt-MOST_TEXT.false t.new.nodes (Err _) (turned_down _ t.result t.ensures c.in-Err-Refused.is)

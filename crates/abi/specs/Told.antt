@@ -23,8 +23,6 @@ use Rattle.paper.specs.ExplainedRight.{judgement_of}
 use Rattle.paper.specs.Named.{Summary, summarizing_says}
 use Rattle.paper.specs.Rechecking.{Rechecked, reused, rechecking_says}
 use Rattle.paper.specs.Rechecking as Rechecking
-use Rattle.paper.specs.Fixing.{says}
-use Rattle.paper.specs.Drafting.{says}
 use Rattle.paper.specs.Comparing.{agreement_says}
 use Rattle.paper.specs.Counting.{Totals, counting_says}
 use Rattle.paper.specs.RunAll.{AllRan, running_all_says}

@@ -7,11 +7,11 @@ use mathlib.Core.Bool.{Bool, true, false, cond, ◌&&◌, and-false}
 use mathlib.Core.List.{List}
 use lib.ListN.{length}
 use Rattle.paper.specs.declared.Place.{Place}
-use Rattle.paper.specs.Answers.{Answer, says, refusal, Judgement}
+use Rattle.paper.specs.Answers.{Answer, says, refusal, Judgement, refused_by}
 use Rattle.paper.specs.Grammar as G
 use Rattle.paper.specs.Keys.{Key}
 use Rattle.paper.specs.Entry.{entry_of}
-use Rattle.paper.specs.Calls.{Restriction, judge_answer}
+use Rattle.paper.specs.Calls.{Restriction, restriction, judge_answer}
 use Rattle.paper.specs.Named.{names, marked}
 use Rattle.paper.specs.Rechecking.{reused, judged, passes, same_from, same_priority, reuses_by, recheck_answer}
 use Rattle.paper.specs.Promised.{JudgePromised}
@@ -39,10 +39,8 @@ module _ (text list old new : List ℕ) where
 
   -- where text or list are refused, and where an entry is, nothing is reused
 
-  pub not_passed : (nodes : List ℕ) (r : Result ℕ Refusal) → Restricts text list nodes r
-      → {v : Refusal} → r ≡ Err v → Compared text list old new (Other (Err v))
-  not_passed nodes r told {v} e =
-      judged_afresh (ap (λ (x : Answer Restriction). reuses_by x old new) (not_restricted text list nodes r told e)) (Err v) (verdicts.not_passed text list new nodes r told e)
+  pub not_passed : (v : Refusal) → restriction text list ≡ refused_by v → Compared text list old new (Other (Err v))
+  not_passed v e = judged_afresh (ap (λ (x : Answer Restriction). reuses_by x old new) e) (Err v) (verdicts.not_passed text list new v e)
 
   module _ (nodes : List ℕ) (k : ℕ) (r : Rooted text list nodes k) where
     abbrev ks : List Key

@@ -15,7 +15,7 @@ use Rattle.paper.specs.declared.Place.TheVariants as P
 use Rattle.paper.specs.Answers.{Answer, ok, refused, ◌>>=◌, in_text, in_buffer, input_of, offset_of, says, refusal, refused_by}
 use Rattle.paper.specs.Tokens.{Token, most_text}
 use Rattle.paper.specs.Calls.{over, laid, lends}
-use Rattle.paper.specs.Fixing.{old_tokens, fixed, fixable, fix_answer, fix_buffer, says}
+use Rattle.paper.specs.Fixing.{old_tokens, fixed, fixable, fix_answer, fix_buffer}
 use Rattle.paper.specs.Promised.{FixResult, FixPromised}
 use Rattle.paper.proofs.NeverLonger.{never_longer}
 use Rattle.tokens.specs.Fixes.{StandsFirst, Fixes}

@@ -10,8 +10,8 @@ use Rattle.paper.specs.Named as P
 use Rattle.paper.specs.Named.{names, marked, summary_answer}
 use Rattle.keys.specs.Says.{keys_in}
 use Rattle.trees.specs.Standing.{tree_at}
-use Rattle.reading.specs.Restricted.{Rooted, Restricts}
-use Rattle.reading.proofs.Stages.{not_restricted}
+use Rattle.reading.specs.Restricted.{Rooted}
+use Rattle.paper.specs.Calls.{restriction}
 use Rattle.summarizing.specs.declared.set.Summary.{Summary}
 use Rattle.summarizing.specs.Sums.{Sums}
 
@@ -20,10 +20,9 @@ abbrev pub meant : Summary → P.Summary
 meant s = record { keys = s.keys; priority = s.priority }
 
 module _ (text list : List ℕ) where
-  pub not_passed : (nodes : List ℕ) (r : Result ℕ Refusal) → Restricts text list nodes r
-      → {v : Refusal} → r ≡ Err v → refused_by v ≡ summary_answer text list
+  pub not_passed : (v : Refusal) → restriction text list ≡ refused_by v → refused_by v ≡ summary_answer text list
   unfolding summary_answer
-  not_passed nodes r told e = rw (not_restricted text list nodes r told e)
+  not_passed v e = rw e
 
   pub summed_up : (nodes : List ℕ) (k : ℕ) → Rooted text list nodes k → (s : Summary)
       → Sums (names (keys_in list) (tree_at text nodes k)) (marked (tree_at text nodes k)) s → ok (meant s) ≡ summary_answer text list

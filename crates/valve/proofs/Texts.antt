@@ -30,11 +30,11 @@ module _ (text : List ℕ) where
     read_told nodes (Ok m) g = sym (short ∙ rw g.read (ap ok (sym g.count)))
     read_told nodes (Err v) e = sym (short ∙ rw e)
 
-module _ (text list nodes : List ℕ) (r : Result ℕ Refusal) (told : Restricts text list nodes r) where
-  pub not_checked : {v : Refusal} → r ≡ Err v → refused_by v ≡ check_answer text list
-  unfolding check_answer restriction
-  not_checked e = sym (ap (λ (x : Answer Restriction). x >>= λ _. ok tt) (not_restricted text list nodes r told e))
+module _ (text list : List ℕ) where
+  pub not_checked : (v : Refusal) → restriction text list ≡ refused_by v → refused_by v ≡ check_answer text list
+  unfolding check_answer
+  not_checked v e = sym (ap (λ (x : Answer Restriction). x >>= λ _. ok tt) e)
 
-  pub is_checked : {k : ℕ} → r ≡ Ok k → ok tt ≡ check_answer text list
-  unfolding check_answer restriction
-  is_checked e = sym (ap (λ (x : Answer Restriction). x >>= λ _. ok tt) (rooted text list nodes r told e).passed)
+  pub is_checked : {r : Restriction} → restriction text list ≡ ok r → ok tt ≡ check_answer text list
+  unfolding check_answer
+  is_checked e = sym (ap (λ (x : Answer Restriction). x >>= λ _. ok tt) e)

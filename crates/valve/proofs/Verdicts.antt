@@ -10,20 +10,18 @@ use Rattle.paper.specs.Answers.{ok, refused, ◌>>=◌, input_of, offset_of, say
 use Rattle.paper.specs.Grammar as G
 use Rattle.paper.specs.Entry.{entry_of}
 use Rattle.paper.specs.Meaning.{value_of, is_true}
-use Rattle.paper.specs.Calls.{judge_answer}
+use Rattle.paper.specs.Calls.{restriction, judge_answer}
 use Rattle.keys.specs.Says.{keys_in, conforms}
 use Rattle.keys.proofs.Conforming as K
 use Rattle.operands.specs.Conforming.{Conforming}
 use Rattle.trees.specs.Standing.{tree_at}
-use Rattle.reading.specs.Restricted.{Rooted, Restricts}
-use Rattle.reading.proofs.Stages.{not_restricted}
+use Rattle.reading.specs.Restricted.{Rooted}
 use Rattle.judging.specs.Holding.{tree_holds}
 
 module _ (text list entry : List ℕ) where
-  pub not_passed : (nodes : List ℕ) (r : Result ℕ Refusal) → Restricts text list nodes r
-      → {v : Refusal} → r ≡ Err v → refused_by v ≡ judge_answer text list entry
+  pub not_passed : (v : Refusal) → restriction text list ≡ refused_by v → refused_by v ≡ judge_answer text list entry
   unfolding judge_answer
-  not_passed nodes r told e = rw (not_restricted text list nodes r told e)
+  not_passed v e = rw e
 
   module _ (nodes : List ℕ) (k : ℕ) (r : Rooted text list nodes k) where
     abbrev root : G.Tree

@@ -40,8 +40,9 @@ fn compare_by(list: &[u8], old: &[u8], new: &[u8], nodes: &[u32], root: usize) -
     ensures { (text : List ℕ) → Rooted text list.now nodes.now root
         → Compared text list.now old.now new.now result }
 {
-    if let Err(refusal) = keys::check_entry(list, new) {
-        return Beside::Other(Err(refusal));
+    match keys::check_entry(list, new) {
+        Err(refusal) => return Beside::Other(Err(refusal)),
+        Ok(()) => {}
     }
     if same_by(list, old, new, nodes, root) {
         return Beside::Same;

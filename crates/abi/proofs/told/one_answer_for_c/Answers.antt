@@ -6,8 +6,6 @@ use Rattle.paper.specs.Answers.{says, judgement_says, running_says}
 use Rattle.paper.specs.Explained.{explanation_says}
 use Rattle.paper.specs.Named.{summarizing_says}
 use Rattle.paper.specs.Rechecking.{rechecking_says}
-use Rattle.paper.specs.Fixing.{says}
-use Rattle.paper.specs.Drafting.{says}
 use Rattle.paper.specs.Comparing.{agreement_says}
 use Rattle.paper.specs.Counting.{counting_says}
 use Rattle.paper.specs.RunAll.{running_all_says}

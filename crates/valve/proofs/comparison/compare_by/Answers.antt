@@ -8,8 +8,8 @@ use Rattle.machine.proofs.Loaded.{loaded_within}
 use Rattle.valve.proofs.Agreements.{blocks_refused, compared}
 use Rattle.valve.proofs.comparison.compare_by.Goals as goal
 
-pub load_for-count-requires : goal.load_for-count-requires
-load_for-count-requires c = sym (keys_length c.args.list.now 0 _)
+pub load_for-requires : goal.load_for-requires
+load_for-requires c = sym (keys_length c.args.list.now 0 _)
 
 pub returns-in_err-count : goal.returns-in_err-count
 returns-in_err-count c text d =

@@ -7,7 +7,7 @@ use Rattle.paper.specs.Answers.{says}
 use Rattle.paper.proofs.PassedUp.{passed_up}
 use Rattle.keys.specs.Says.{keys_in}
 use Rattle.blocks.specs.Layout.{laid_out}
-use Rattle.blocks.proofs.Checked.{laid_within}
+use Rattle.machine.proofs.Loaded.{laid_within}
 use Rattle.valve.proofs.Loads.{layout_refused, types_told}
 use Rattle.valve.proofs.loading.load_for.Goals as goal
 

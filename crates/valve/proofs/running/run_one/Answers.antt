@@ -64,8 +64,8 @@ returns-in_err-check_entry c =
     rw (passed_up _ c.from_residual.ensures.1)
     (entry_refused a.list.now a.blocks.now c.requires.list_value c.requires.blocks_value a.entry.now (sym c.check_entry.ensures ∙ ap says c.in_err-check_entry.was))
 
-pub prove-unreachable-requires : goal.prove-unreachable-requires
-prove-unreachable-requires c =
+pub unreachable-requires : goal.unreachable-requires
+unreachable-requires c =
     let a = c.args in
     let run = c.run_each-steps in
     let byte = alone a.list.now a.blocks.now c.requires.list_value c.requires.blocks_value a.entry.now c.entry_size.result c.entry_size.ensures c.if-length-entry_size.false

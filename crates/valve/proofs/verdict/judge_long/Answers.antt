@@ -1,13 +1,13 @@
 -- `valve::judge_long` meets its contract: the refusal of text or list (`not_passed`), or the judgement by the root (`judge_by`), whose words the nodes
 -- have.
 use Rattle.paper.proofs.PassedUp.{passed_up}
-use Rattle.reading.proofs.Stages.{rooted}
+use Rattle.reading.proofs.Stages.{rooted, not_restricted}
 use Rattle.valve.proofs.Verdicts.{not_passed}
 use Rattle.valve.proofs.verdict.judge_long.Goals as goal
 
 pub returns-in_err-root : goal.returns-in_err-root
 returns-in_err-root c =
-    rw (passed_up _ c.from_residual.ensures.1) (not_passed _ _ _ _ c.restrict.result c.restrict.ensures c.in_err-root.was)
+    rw (passed_up _ c.from_residual.ensures.1) (not_passed _ _ _ _ (not_restricted _ _ _ c.restrict.result c.restrict.ensures c.in_err-root.was))
 
 pub judge_by-requires : goal.judge_by-requires
 judge_by-requires c =

@@ -1,8 +1,8 @@
 // An answer as four numbers.
 ghost use Rattle.std.specs.Prelude.{◌≡◌};
-ghost use Rattle.paper.specs.Answers.{input_of, offset_of, says, judgement_says, running_says};
+ghost use Rattle.paper.specs.Answers.{input_of, offset_of, accepts, says, judgement_says, running_says};
 ghost use Rattle.paper.specs.Comparing.{agreement_says};
-ghost use Rattle.abi.specs.Told.{turned_away, counted, passed, judged, ran, compared};
+ghost use Rattle.abi.specs.Told.{turned_away, counted, passed, verdict_after, judged, ran, compared};
 
 use paper::{Agreement, Ended, Judgement, Place, Refusal, Verdict};
 
@@ -37,10 +37,11 @@ fn refused_in(number: u8, input: u64, at: usize) -> PolluxAnswer
     }
 }
 
-fn refusal(number: u8, place: Place) -> PolluxAnswer
-    ensures { result ≡ turned_away number (input_of place) (offset_of place) }
+fn turned_away(refusal: Refusal) -> PolluxAnswer
+    ensures { result ≡ turned_away refusal.number (input_of refusal.place) (offset_of refusal.place) }
 {
-    match place {
+    let number = refusal.number;
+    match refusal.place {
         Place::Text(at) => refused_in(number, 1, at),
         Place::List(at) => refused_in(number, 2, at),
         Place::Entry(at) => refused_in(number, 3, at),
@@ -51,21 +52,31 @@ fn refusal(number: u8, place: Place) -> PolluxAnswer
     }
 }
 
-pub(crate) fn of_reading(r: Result<usize, Refusal>) -> PolluxAnswer
+// How many were read, written, loaded, printed, fixed or drafted.
+pub(crate) fn of_count(r: Result<usize, Refusal>) -> PolluxAnswer
     ensures { result ≡ counted (says r) }
 {
     match r {
         Ok(n) => answer(3, n),
-        Err(refusal) => refusal(number, place),
+        Err(refusal) => turned_away(refusal),
     }
 }
 
-pub(crate) fn of_checking(r: Result<(), Refusal>) -> PolluxAnswer
+pub(crate) fn of_check(r: Result<(), Refusal>) -> PolluxAnswer
     ensures { result ≡ passed (says r) }
 {
     match r {
         Ok(()) => answer(3, 0),
-        Err(refusal) => refusal(number, place),
+        Err(refusal) => turned_away(refusal),
+    }
+}
+
+fn of_verdict(verdict: Verdict, steps: usize) -> PolluxAnswer
+    ensures { result ≡ verdict_after steps (accepts verdict) }
+{
+    match verdict {
+        Verdict::Accepted => answer(1, steps),
+        Verdict::Violated => answer(2, steps),
     }
 }
 
@@ -73,70 +84,17 @@ pub(crate) fn of_judgement(r: Judgement) -> PolluxAnswer
     ensures { result ≡ judged (judgement_says r) }
 {
     match r {
-        Ok(Verdict::Accepted) => answer(1, 0),
-        Ok(Verdict::Violated) => answer(2, 0),
-        Err(refusal) => refusal(number, place),
+        Ok(verdict) => of_verdict(verdict, 0),
+        Err(refusal) => turned_away(refusal),
     }
 }
 
-pub(crate) fn of_translation(r: Result<usize, Refusal>) -> PolluxAnswer
-    ensures { result ≡ counted (says r) }
-{
-    match r {
-        Ok(n) => answer(3, n),
-        Err(refusal) => refusal(number, place),
-    }
-}
-
-pub(crate) fn of_loading(r: Result<usize, Refusal>) -> PolluxAnswer
-    ensures { result ≡ counted (says r) }
-{
-    match r {
-        Ok(n) => answer(3, n),
-        Err(refusal) => refusal(number, place),
-    }
-}
-
-pub(crate) fn of_running(r: Result<Ended, Refusal>) -> PolluxAnswer
+pub(crate) fn of_run(r: Result<Ended, Refusal>) -> PolluxAnswer
     ensures { result ≡ ran (running_says r) }
 {
     match r {
-        Ok(Ended {
-verdict: Verdict::Accepted,
-steps: steps,
-}) => answer(1, steps),
-        Ok(Ended {
-verdict: Verdict::Violated,
-steps: steps,
-}) => answer(2, steps),
-        Err(refusal) => refusal(number, place),
-    }
-}
-
-pub(crate) fn of_printing(r: Result<usize, Refusal>) -> PolluxAnswer
-    ensures { result ≡ counted (says r) }
-{
-    match r {
-        Ok(n) => answer(3, n),
-        Err(refusal) => refusal(number, place),
-    }
-}
-
-pub(crate) fn of_fixing(r: Result<usize, Refusal>) -> PolluxAnswer
-    ensures { result ≡ counted (says r) }
-{
-    match r {
-        Ok(n) => answer(3, n),
-        Err(refusal) => refusal(number, place),
-    }
-}
-
-pub(crate) fn of_drafting(r: Result<usize, Refusal>) -> PolluxAnswer
-    ensures { result ≡ counted (says r) }
-{
-    match r {
-        Ok(n) => answer(3, n),
-        Err(refusal) => refusal(number, place),
+        Ok(ended) => of_verdict(ended.verdict, ended.steps),
+        Err(refusal) => turned_away(refusal),
     }
 }
 
@@ -146,6 +104,6 @@ pub(crate) fn of_agreement(r: Result<Agreement, Refusal>) -> PolluxAnswer
     match r {
         Ok(Agreement::Agrees) => answer(4, 0),
         Ok(Agreement::Differs) => answer(5, 0),
-        Err(refusal) => refusal(number, place),
+        Err(refusal) => turned_away(refusal),
     }
 }

@@ -46,19 +46,16 @@ pub(crate) fn of_counting(r: Result<Counted, Refusal>) -> PolluxCounts
     ensures { result ≡ spec.tallied (counting_says r) }
 {
     match r {
-        Ok(Counted {
-parts: parts,
-accepted: accepted,
-violated: violated,
-refused: refused,
-cut: cut,
-}) => {
-            let done = answer::of_reading(Ok(parts));
-            totals(done, accepted, violated, refused, cut)
+        Ok(counted) => {
+            let done = answer::of_count(Ok(counted.parts));
+            totals(
+                done,
+                counted.accepted,
+                counted.violated,
+                counted.refused,
+                counted.cut,
+            )
         }
-        Err(refusal) => {
-            let refused = answer::of_reading(Err(refusal));
-            totals(refused, 0, 0, 0, 0)
-        }
+        Err(refusal) => totals(answer::of_count(Err(refusal)), 0, 0, 0, 0),
     }
 }

@@ -10,9 +10,9 @@ fn no_answer() -> Judgement
     ensures { result ≡ spec.no_answer }
 {
     Err(Refusal {
-number: refused::ENTRY_RULE,
-place: Place::Entry(0),
-})
+        number: refused::ENTRY_RULE,
+        place: Place::Entry(0),
+    })
 }
 
 fn place_in(input: u64, at: usize) -> Place
@@ -43,9 +43,9 @@ fn refusal(a: PolluxAnswer) -> Judgement
         return no_answer();
     }
     Err(Refusal {
-number: a.number as u8,
-place: place_in(a.input, a.value as usize),
-})
+        number: a.number as u8,
+        place: place_in(a.input, a.value as usize),
+    })
 }
 
 // Nothing but a verdict.

@@ -40,7 +40,7 @@ pub extern "C" fn pollux_version() -> u64
 pub extern "C" fn pollux_read(text: &[u8]) -> PolluxAnswer
     ensures { ReadTold text.now result }
 {
-    answer::of_reading(valve::read(text))
+    answer::of_count(valve::read(text))
 }
 
 // Whether the text is good for the list.
@@ -48,7 +48,7 @@ pub extern "C" fn pollux_read(text: &[u8]) -> PolluxAnswer
 pub extern "C" fn pollux_check(text: &[u8], list: &[u8]) -> PolluxAnswer
     ensures { CheckTold text.now list.now result }
 {
-    answer::of_checking(valve::check(text, list))
+    answer::of_check(valve::check(text, list))
 }
 
 // What the text says of an entry.
@@ -64,7 +64,7 @@ pub extern "C" fn pollux_judge(text: &[u8], list: &[u8], entry: &[u8]) -> Pollux
 pub extern "C" fn pollux_translate(text: &[u8], list: &[u8], buffer: &mut [u8]) -> PolluxAnswer
     ensures { TranslateTold text.now list.now buffer.old buffer.new result }
 {
-    answer::of_translation(valve::translate(text, list, buffer))
+    answer::of_count(valve::translate(text, list, buffer))
 }
 
 // How many instructions the blocks hold.
@@ -72,7 +72,7 @@ pub extern "C" fn pollux_translate(text: &[u8], list: &[u8], buffer: &mut [u8]) 
 pub extern "C" fn pollux_load(list: &[u8], blocks: &[u8]) -> PolluxAnswer
     ensures { LoadTold list.now blocks.now result }
 {
-    answer::of_loading(valve::load(list, blocks))
+    answer::of_count(valve::load(list, blocks))
 }
 
 // What the blocks say of an entry, and how many instructions were carried out.
@@ -80,7 +80,7 @@ pub extern "C" fn pollux_load(list: &[u8], blocks: &[u8]) -> PolluxAnswer
 pub extern "C" fn pollux_run(list: &[u8], blocks: &[u8], entry: &[u8]) -> PolluxAnswer
     ensures { RunTold list.now blocks.now entry.now result }
 {
-    answer::of_running(valve::run(list, blocks, entry))
+    answer::of_run(valve::run(list, blocks, entry))
 }
 
 // How many entries there are, laid end to end, and how many instructions were carried out for all of them. What the blocks say of each stands in
@@ -102,7 +102,7 @@ pub extern "C" fn pollux_run_all(
 pub extern "C" fn pollux_print(text: &[u8], buffer: &mut [u8]) -> PolluxAnswer
     ensures { PrintTold text.now buffer.old buffer.new result }
 {
-    answer::of_printing(valve::print(text, buffer))
+    answer::of_count(valve::print(text, buffer))
 }
 
 // How many bytes the text has with its octal numerals in hex, which stands so in the buffer.
@@ -110,7 +110,7 @@ pub extern "C" fn pollux_print(text: &[u8], buffer: &mut [u8]) -> PolluxAnswer
 pub extern "C" fn pollux_fix_octal(text: &[u8], buffer: &mut [u8]) -> PolluxAnswer
     ensures { FixTold text.now buffer.old buffer.new result }
 {
-    answer::of_fixing(valve::fix_octal(text, buffer))
+    answer::of_count(valve::fix_octal(text, buffer))
 }
 
 // How many bytes the text of a contract has, which stands in the buffer.
@@ -123,7 +123,7 @@ pub extern "C" fn pollux_pact(
 ) -> PolluxAnswer
     ensures { DraftTold contract.now table.now names.now buffer.old buffer.new result }
 {
-    answer::of_drafting(valve::pact(contract, table, names, buffer))
+    answer::of_count(valve::pact(contract, table, names, buffer))
 }
 
 // Whether the blocks are the text's translation, its parts in some order.

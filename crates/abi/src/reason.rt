@@ -62,9 +62,9 @@ pub(crate) fn of_explanation(r: Explanation) -> PolluxReason
         }
         Explanation::Key(place, from, to) => {
             let bad = Err(Refusal {
-number: refused::ENTRY_RULE,
-place: Place::Entry(place),
-});
+                number: refused::ENTRY_RULE,
+                place: Place::Entry(place),
+            });
             let judged = answer::of_judgement(bad);
             reason(judged, 0, place, from, length(from, to))
         }

@@ -48,16 +48,16 @@ pub(crate) fn of_summarizing(r: Result<Summary, Refusal>) -> PolluxSummary
     ensures { result ≡ spec.summarized (summarizing_says r) }
 {
     match r {
-        Err(refusal) => {
-            let refused = answer::of_checking(Err(refusal));
-            naming(refused, 0, 0, 0)
+        Ok(summary) => {
+            let passed = answer::of_check(Ok(()));
+            let keys = summary.keys;
+            naming(
+                passed,
+                keys,
+                mark(summary.priority),
+                valve::count_keys(keys),
+            )
         }
-        Ok(Summary {
-keys: keys,
-priority: priority,
-}) => {
-            let passed = answer::of_checking(Ok(()));
-            naming(passed, keys, mark(priority), valve::count_keys(keys))
-        }
+        Err(refusal) => naming(answer::of_check(Err(refusal)), 0, 0, 0),
     }
 }

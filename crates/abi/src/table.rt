@@ -34,16 +34,10 @@ pub(crate) fn of_running_all(r: Result<RanAll, Refusal>) -> PolluxTable
     ensures { result ≡ spec.ran_through (running_all_says r) }
 {
     match r {
-        Ok(RanAll {
-entries: entries,
-steps: steps,
-}) => {
-            let done = answer::of_reading(Ok(entries));
-            stepping(done, steps)
+        Ok(ran) => {
+            let done = answer::of_count(Ok(ran.entries));
+            stepping(done, ran.steps)
         }
-        Err(refusal) => {
-            let refused = answer::of_reading(Err(refusal));
-            stepping(refused, 0)
-        }
+        Err(refusal) => stepping(answer::of_count(Err(refusal)), 0),
     }
 }

@@ -1,16 +1,14 @@
 -- Demand 3 for one text, list, entry and buffer, of what the real calls answered.
-use Rattle.std.specs.Prelude.{ℕ, ◌≡◌, List, Result, Ok}
+use Rattle.std.specs.Prelude.{ℕ, ◌≡◌, List, Result, Ok, Err}
 use Rattle.paper.specs.declared.Refusal.{Refusal}
 use Rattle.paper.specs.declared.Ended.{Ended}
 use Rattle.paper.specs.declared.RanAll.{RanAll}
 use Rattle.paper.specs.declared.Counted.{Counted}
-use Rattle.paper.specs.declared.Place.{Place}
-use Rattle.paper.specs.Answers.{running_says, refusal, Judgement}
+use Rattle.paper.specs.Answers.{running_says, Judgement}
 use Rattle.paper.specs.TranslationCorrect.{judged_in_steps}
 use Rattle.paper.specs.Promised.{judgement_of_run, JudgePromised, TranslateResult, TranslatePromised, LoadPromised, RunPromised, PrintResult, FixResult, DraftResult, CountResult, RunAllResult}
 use Rattle.paper.specs.Demands.{TranslateAnswered, blocks_written, Carried}
 use Rattle.promises.specs.declared.calls.Carrying.{Carrying}
-use Rattle.promises.specs.declared.calls.Carrying.TheVariants as W
 
 -- an answer of `translate`, and what the buffer holds at its exit
 abbrev pub gave : Result ℕ Refusal → List ℕ → TranslateResult
@@ -47,6 +45,6 @@ pub record Held (text list entry buffer exit : List ℕ) (n : ℕ) (loaded : Res
   pub alike : judgement_of_run ran ≡ judged
   pub steps : running_says ran ≡ judged_in_steps text list entry
 
-abbrev pub Carries : List ℕ → List ℕ → List ℕ → List ℕ → List ℕ → Carrying → Type 0
-Carries text list entry buffer exit (W.Refused n at) = TranslateAnswered text list buffer (gave (refusal n at) exit)
-Carries text list entry buffer exit (W.Written n loaded ran judged) = Held text list entry buffer exit n loaded ran judged
+abbrev pub Carries : List ℕ → List ℕ → List ℕ → List ℕ → List ℕ → Result Carrying Refusal → Type 0
+Carries text list entry buffer exit (Ok c) = Held text list entry buffer exit c.written c.loaded c.ran c.judged
+Carries text list entry buffer exit (Err v) = TranslateAnswered text list buffer (gave (Err v) exit)

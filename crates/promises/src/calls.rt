@@ -4,7 +4,9 @@ ghost use Rattle.paper.specs.Demands.{ReadAnswered, ReadRight, CheckAnswered, Ch
 ghost use Rattle.promises.specs.Held.{gave, lent, fixed_to, drafted_to, counted_to, ran_over, Carries};
 
 use blocks::Block;
-use paper::{Agreement, Counted, Ended, Explanation, Judgement, Place, RanAll, Rechecking, Refusal, Summary};
+use paper::{
+    Agreement, Counted, Ended, Explanation, Judgement, Place, RanAll, Rechecking, Refusal, Summary,
+};
 
 // The most parts that a text has: as many numbers are lent to `count`.
 const MOST_PARTS: usize = 512;
@@ -73,7 +75,12 @@ pub fn fix_octal(text: &[u8], buffer: &mut [u8]) -> Result<usize, Refusal>
 }
 
 // Demands 1 and 2 of `pact`.
-pub fn pact(contract: &[u8], table: &[u64], names: &[u8], buffer: &mut [u8]) -> Result<usize, Refusal>
+pub fn pact(
+    contract: &[u8],
+    table: &[u64],
+    names: &[u8],
+    buffer: &mut [u8],
+) -> Result<usize, Refusal>
     ensures draft_answered { DraftAnswered contract.now table.now names.now buffer.old (drafted_to result buffer.new) }
     ensures drafts_right { DraftsRight contract.now table.now names.now buffer.old (drafted_to result buffer.new) }
 {
@@ -89,7 +96,12 @@ pub fn compare(text: &[u8], list: &[u8], blocks: &[u8]) -> Result<Agreement, Ref
 }
 
 // Demands 1 and 2 of `count`.
-pub fn count(text: &[u8], list: &[u8], entries: &[u8], parts: &mut [u64; MOST_PARTS]) -> Result<Counted, Refusal>
+pub fn count(
+    text: &[u8],
+    list: &[u8],
+    entries: &[u8],
+    parts: &mut [u64; MOST_PARTS],
+) -> Result<Counted, Refusal>
     ensures count_answered { CountAnswered text.now list.now entries.now parts.old (counted_to result parts.new) }
     ensures count_right { CountRight text.now list.now entries.now parts.old (counted_to result parts.new) }
 {
@@ -97,7 +109,12 @@ pub fn count(text: &[u8], list: &[u8], entries: &[u8], parts: &mut [u64; MOST_PA
 }
 
 // Demands 1 and 2 of `run_all`.
-pub fn run_all(list: &[u8], blocks: &[u8], entries: &[u8], answers: &mut [u8]) -> Result<RanAll, Refusal>
+pub fn run_all(
+    list: &[u8],
+    blocks: &[u8],
+    entries: &[u8],
+    answers: &mut [u8],
+) -> Result<RanAll, Refusal>
     ensures run_all_answered { RunAllAnswered list.now blocks.now entries.now answers.old (ran_over result answers.new) }
     ensures run_all_right { RunAllRight list.now blocks.now entries.now answers.old (ran_over result answers.new) }
 {
@@ -128,28 +145,29 @@ pub fn recheck(text: &[u8], list: &[u8], old: &[u8], earlier: Judgement, new: &[
     valve::recheck(text, list, old, earlier, new)
 }
 
-// What a text, a list and an entry come to by way of blocks, and by the text alone.
+// What a text, a list and an entry come to by way of blocks, and by the text alone: how many instructions were written, what loading the blocks
+// answers, what running them answers, and what judging the text answers.
 #[derive(Clone, Copy)]
-pub enum Carrying {
-    // No blocks were written: the refusal.
-    Refused(u8, Place),
-    // So many instructions; what loading the blocks answers, what running them answers, and what judging the text answers.
-    Written(usize, Loading, Running, Judgement),
+pub struct Carrying {
+    pub written: usize,
+    pub loaded: Result<usize, Refusal>,
+    pub ran: Result<Ended, Refusal>,
+    pub judged: Judgement,
 }
 
 // Demand 3: a text is translated into the buffer, its blocks are loaded from there and run on an entry, and the text is judged on it.
-pub fn carry(text: &[u8], list: &[u8], entry: &[u8], buffer: &mut [u8]) -> Carrying
+pub fn carry(text: &[u8], list: &[u8], entry: &[u8], buffer: &mut [u8]) -> Result<Carrying, Refusal>
     ensures { Carries text.now list.now entry.now buffer.old buffer.new result }
 {
-    let translated = valve::translate(text, list, buffer);
-    match translated {
-        Err(refusal) => Carrying::Refused(number, place),
-        Ok(n) => {
-            let size = Block::SIZE * Block::needed(n);
-            let loaded = valve::load(list, &buffer[..size]);
-            let ran = valve::run(list, &buffer[..size], entry);
-            let judged = valve::judge(text, list, entry);
-            Carrying::Written(n, loaded, ran, judged)
-        }
-    }
+    let written = valve::translate(text, list, buffer)?;
+    let size = Block::SIZE * Block::needed(written);
+    let loaded = valve::load(list, &buffer[..size]);
+    let ran = valve::run(list, &buffer[..size], entry);
+    let judged = valve::judge(text, list, entry);
+    Ok(Carrying {
+        written,
+        loaded,
+        ran,
+        judged,
+    })
 }

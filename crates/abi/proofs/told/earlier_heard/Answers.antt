@@ -1,7 +1,7 @@
 -- A judgement's own four numbers are heard as it (`place_back`). Numbers that are heard as anything else than refused with 20 at entry 0 are told of
 -- that judgement, so that of numbers that tell none there is nothing else to hear.
 use Prim.Native.Nat.{ℕ, zero, suc, ◌≤◌}
-use Rattle.std.specs.Prelude.{Ok}
+use Rattle.std.specs.Prelude.{Ok, Err}
 use Rattle.paper.specs.declared.Verdict.TheVariants.{Accepted, Violated}
 use native.Mathlib.Omega.{arith}
 use mathlib.Core.Path.{◌≡◌, refl, sym, ap, ◌∙◌}
@@ -17,16 +17,19 @@ use Rattle.abi.specs.Heard.{no_answer, place_in, refusal_in, plain, verdict_in, 
 use Rattle.abi.specs.Told.{input_no, turned_away, judged, Numbered, EarlierHeard}
 use Rattle.abi.proofs.told.earlier_heard.Goals as goal
 
+refusal_told : (n : ℕ) (p : Place) → n ≤ 255 → heard_as (judged (judgement_says (refusal n p))) ≡ refusal n p
+refusal_told n (P.Text at) h = rw (le-leb n 255 h)
+refusal_told n (P.List at) h = rw (le-leb n 255 h)
+refusal_told n (P.Entry at) h = rw (le-leb n 255 h)
+refusal_told n (P.Blocks at) h = rw (le-leb n 255 h)
+refusal_told n (P.Buffer at) h = rw (le-leb n 255 h)
+refusal_told n (P.Contract at) h = rw (le-leb n 255 h)
+refusal_told n (P.Table at) h = rw (le-leb n 255 h)
+
 as_told : (j : Judgement) → Numbered j → heard_as (judged (judgement_says j)) ≡ j
 as_told (Ok Accepted) h = refl
 as_told (Ok Violated) h = refl
-as_told (refusal n (P.Text at)) h = rw (le-leb n 255 h)
-as_told (refusal n (P.List at)) h = rw (le-leb n 255 h)
-as_told (refusal n (P.Entry at)) h = rw (le-leb n 255 h)
-as_told (refusal n (P.Blocks at)) h = rw (le-leb n 255 h)
-as_told (refusal n (P.Buffer at)) h = rw (le-leb n 255 h)
-as_told (refusal n (P.Contract at)) h = rw (le-leb n 255 h)
-as_told (refusal n (P.Table at)) h = rw (le-leb n 255 h)
+as_told (Err v) h = refusal_told v.number v.place h
 
 -- four numbers are an answer
 abbrev four : ℕ → ℕ → ℕ → ℕ → PolluxAnswer

@@ -33,14 +33,12 @@ impl Cell {
     pub fn negated(self) -> Cell
         ensures { Is (negate_value (held self)) (held result) }
     {
-        let sort = self.sort;
-        let first = self.first;
-        match sort {
+        match self.sort {
             Sort::Truth(_) => self,
             Sort::Whole(negative) => Cell::of_whole(self.as_whole(negative).negated()),
             Sort::Match(kind) => {
                 let width = self.width_held();
-                Cell::one_value(kind, width, first.minus(width as u32))
+                Cell::one_value(kind, width, self.first.minus(width as u32))
             }
         }
     }
@@ -56,8 +54,7 @@ impl Cell {
         requires { width ≤ 128 }
         ensures { value result ≡ as_number width (held self) }
     {
-        let sort = self.sort;
-        match sort {
+        match self.sort {
             Sort::Truth(_) => Magnitude::zero(),
             Sort::Whole(negative) => self.as_whole(negative).reduced(width as u32),
             Sort::Match(_) => self.first,

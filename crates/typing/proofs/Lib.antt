@@ -2,6 +2,7 @@ pub mod Compared
 pub mod Knowing
 pub mod Leaves
 pub mod Minus
+pub mod Other
 pub mod Rooted
 pub mod Spelled
 pub mod Typable

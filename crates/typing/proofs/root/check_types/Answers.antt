@@ -1,5 +1,5 @@
 -- `typing::check_types` meets its contract: the type of the tree at the root, and refusal 14 at the root's place unless it is bool.
-use mathlib.Core.Path.{◌≡◌, sym, ◌∙◌, ap}
+use mathlib.Core.Path.{sym, ◌∙◌, ap}
 use Rattle.paper.specs.Answers.{says}
 use Rattle.paper.proofs.PassedUp.{passed_up}
 use Rattle.keys.specs.Says.{keys_in}

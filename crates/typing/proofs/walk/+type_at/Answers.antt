@@ -1,7 +1,7 @@
 -- `typing::type_at` meets its contract, by recursion on the node number: an operator's operands stand below it (`below`). Each arm answers
 -- what `type_of` says of the tree at the node (`leaf_is`, `prefixed_is`, `operated_is`): of a leaf by its marks, else of its operands from
 -- the left, and the first refusal ends it. A text is one whose names the marks are.
-use Prim.Native.Nat.{ℕ, ◌-◌}
+use Prim.Native.Nat.{◌-◌}
 use native.Mathlib.Omega.{arith}
 use mathlib.Core.Path.{sym, ◌∙◌}
 use Rattle.keys.specs.Says.{keys_in}

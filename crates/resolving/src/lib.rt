@@ -33,7 +33,7 @@ fn field_mark(text: &[u8], f: Span) -> u32
     ensures { result ≡ field_mark (field_named (spelling text.now f)) }
 {
     match fields::field_named(trees::spelled(text, f)) {
-        Some(n) => n as u32 + 1,
+        Some(n) => u32::from(n) + 1,
         None => 0,
     }
 }

@@ -38,7 +38,7 @@ pub fn shallow_type(list: &[u8], nodes: &[u32], at: usize) -> Result<Type, Refus
     ensures { (text : List ℕ) → Marked (keys_in list.now) text nodes.now (at + 1) → (a : Ty)
         → type_of (keys_in list.now) (tree_at text nodes.now at) ≡ ok a → typed_says result ≡ ok a }
 {
-    // No `rev().find(..)`: that one is found, the loop knows, and an Option would have to be opened.
+    // A loop, and no `rev().find(..)`: that such a node is found is known here, and an Option would have to be opened.
     let mut i = at;
     while is_minus(Node::read(nodes, i)) {
         i -= 1;

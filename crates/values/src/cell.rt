@@ -92,7 +92,7 @@ impl Cell {
             kinds::EXACT => Cell::matched(kind, width, n, Magnitude::zero(), 0),
             kinds::LPM => Cell::matched(kind, width, n, Magnitude::zero(), width),
             kinds::RANGE => Cell::matched(kind, width, n, n, 0),
-            _ => Cell::matched(kind, width, n, Magnitude::ones(width as u32), 0),
+            _ => Cell::matched(kind, width, n, Magnitude::ones(u32::from(width)), 0),
         }
     }
 
@@ -104,7 +104,7 @@ impl Cell {
         match field {
             fields::VALUE => Cell::one_value(kinds::EXACT, width, first),
             fields::MASK => Cell::one_value(kinds::EXACT, width, second),
-            fields::PREFIX_LENGTH => Cell::whole(Magnitude::of(length as u32)),
+            fields::PREFIX_LENGTH => Cell::whole(Magnitude::of(u32::from(length))),
             fields::LOW => Cell::one_value(kinds::EXACT, width, first),
             _ => Cell::one_value(kinds::EXACT, width, second),
         }

@@ -1,4 +1,5 @@
 // Comparisons of two values.
+// Comparisons are bytes and no enum: `compares` takes any, and reads one past the last as the last.
 ghost use Rattle.std.specs.Prelude.{◌≡◌};
 ghost use Rattle.paper.specs.Code.{comparison_of};
 ghost use Rattle.paper.specs.Meaning as paper;

@@ -1,4 +1,5 @@
 // Fields of a key, and the names after "::".
+// Fields and kinds are bytes and no enums: `field_type` takes any, and reads one past the last as the last.
 ghost use Rattle.std.specs.Prelude.{◌≡◌};
 ghost use Rattle.paper.specs.Tokens.{bytes, same_bytes};
 ghost use Rattle.paper.specs.Keys.{kind_of};

@@ -1,4 +1,5 @@
 // What the operators make of their operands. Where the paper gives no value, any cell is right.
+// Connectives are bytes and no enum: `connected` takes any, and reads one past the last as the last.
 ghost use Rattle.std.specs.Prelude.{◌≡◌, ◌≤◌};
 ghost use Rattle.paper.specs.Keys.{kind_of};
 ghost use Rattle.paper.specs.Meaning as paper;
@@ -38,7 +39,7 @@ impl Cell {
             Sort::Whole(negative) => Cell::of_whole(self.as_whole(negative).negated()),
             Sort::Match(kind) => {
                 let width = self.width_held();
-                Cell::one_value(kind, width, self.first.minus(width as u32))
+                Cell::one_value(kind, width, self.first.minus(u32::from(width)))
             }
         }
     }
@@ -56,7 +57,7 @@ impl Cell {
     {
         match self.sort {
             Sort::Truth(_) => Magnitude::zero(),
-            Sort::Whole(negative) => self.as_whole(negative).reduced(width as u32),
+            Sort::Whole(negative) => self.as_whole(negative).reduced(u32::from(width)),
             Sort::Match(_) => self.first,
         }
     }

@@ -1,4 +1,5 @@
 // The type that each operator gives.
+// Comparisons and kinds are bytes and no enums: `compare_type` and `convert_type` take any, and read one past the last as the last.
 ghost use Rattle.std.specs.Prelude.{◌≡◌};
 ghost use Rattle.paper.specs.Keys.{kind_of};
 ghost use Rattle.paper.specs.Code.{comparison_of};

@@ -7,7 +7,7 @@ ghost use Rattle.values.specs.Typed.{ty_meant, typing_meant};
 
 use paper::kinds;
 
-// A key's kind is held as its number in a key list. Any number over 4 is read as 4, optional.
+// A key's kind is its number in a key list and no enum: `bare_type` makes one of any byte. Any number over 4 is read as 4, optional.
 #[derive(Clone, Copy)]
 pub enum Type {
     Bool,
@@ -30,7 +30,7 @@ pub fn is_bool(a: Type) -> bool
     matches!(a, Type::Bool)
 }
 
-// Whether two types are equal in all fields. No derived `==`: kinds over 4 are all the same kind.
+// Whether two types are equal in all fields. It is no derived `==`: kinds over 4 are one kind.
 pub fn same(a: Type, b: Type) -> bool
     ensures { result ≡ same_ty (ty_meant a) (ty_meant b) }
 {

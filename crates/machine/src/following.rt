@@ -16,29 +16,29 @@ use crate::instruction::{Instruction, Op, narrow, takes};
 use crate::packing::{FLOORS, floor_in, packed, type_in};
 use operands::{bare_type, field_type_at};
 use values::operators;
-use values::types::{Type, Typing, is_bool};
+use values::types::{Type, is_bool};
 
 // The mark of one bool and nothing else.
 pub const ONE_BOOL: u32 = FLOORS;
 
 // What an instruction leaves, of the types of its lowest operand and its uppermost.
-fn typed(list: &[u8], instruction: Instruction, low: Type, top: Type) -> Typing
+fn typed(list: &[u8], instruction: Instruction, low: Type, top: Type) -> Option<Type>
     ensures { typing_meant result ≡ gives (action_of (type_action (keys_in list.now)) (instruction_meant instruction)) (ty_meant low) (ty_meant top) }
 {
     let op = instruction.op;
     match op {
-        Op::PushBool(_) => Typing::Is(Type::Bool),
-        Op::PushInt => Typing::Is(Type::Int),
+        Op::PushBool(_) => Some(Type::Bool),
+        Op::PushInt => Some(Type::Int),
         Op::PushKey(k) => bare_type(list, k),
         Op::PushField(field, k) => field_type_at(list, field, k),
-        Op::PushPriority => Typing::Is(Type::Int),
+        Op::PushPriority => Some(Type::Int),
         Op::Not => operators::not_type(low),
         Op::Negate => operators::negate_type(low),
         Op::Convert(kind, width) => operators::convert_type(kind, narrow(width), low),
         Op::Compare(comparison) => operators::compare_type(comparison, low, top),
         Op::Connect(_) => operators::join_type(low, top),
         Op::Skip(_, _, _) => operators::not_type(low),
-        Op::Wrong => Typing::Wrong,
+        Op::Wrong => None,
     }
 }
 
@@ -85,7 +85,7 @@ pub(crate) fn follow(list: &[u8], blocks: &[u8], n: usize, marks: &mut [u32]) ->
         }
         let low = type_in(stack[base]);
         let top = type_in(stack[below(height)]);
-        let Typing::Is(left) = typed(list, instruction, low, top) else {
+        let Some(left) = typed(list, instruction, low, top) else {
             return i;
         };
         let floor = floor_on(is_bool(left), base, floor_in(stack[below(base)]));

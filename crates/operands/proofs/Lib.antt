@@ -1,3 +1,2 @@
 pub mod Conforming
 pub mod Indexed
-pub mod Named

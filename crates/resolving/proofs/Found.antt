@@ -1,20 +1,15 @@
--- The index of a key that is found, and the number of a field.
+-- The index of a key that is found.
 use Prim.Native.Nat.{ℕ, suc, ◌+◌, ◌<◌, ◌≤◌, ◌/◌}
 use native.Mathlib.Omega.{arith}
-use mathlib.Core.Path.{◌≡◌, refl}
+use mathlib.Core.Path.{◌≡◌}
 use mathlib.Core.Bool.{Bool, true, false, cond}
-use mathlib.Core.Option.{Option, none, some, none-ne-some, some-injective}
+use mathlib.Core.Option.{some, none-ne-some, some-injective}
 use mathlib.Core.List.{List, [], ◌∷◌}
 use lib.ListN.{length}
 use Rattle.paper.specs.Tokens.{same_bytes}
 use Rattle.paper.specs.Keys.{Key, find_from, find}
-use Rattle.paper.specs.Types.{Field}
 use Rattle.keys.specs.Says.{keys_in}
 use Rattle.keys.proofs.Records.{keys_length}
-use Rattle.values.specs.Typed.{named_of}
-use Rattle.values.specs.declared.fields.Named.{Named}
-use Rattle.values.specs.declared.fields.Named.TheVariants as N
-use Rattle.trees.specs.Marks.{field_mark}
 
 found_below : (ks : List Key) (w : List ℕ) (m k : ℕ) → find_from m ks w ≡ some k → k < m + length ks
 found_below [] w m k h = absurd (none-ne-some k h)
@@ -28,13 +23,3 @@ found_below (x ∷ ks) w m k h = go (same_bytes x.name w) h (found_below ks w (s
 -- a list that is no longer than a good one has at most 32 keys
 pub few_keys : (list w : List ℕ) (k : ℕ) → length list ≤ 2560 → find (keys_in list) w ≡ some k → k < 32
 few_keys list w k short h = omega (arith, found_below (keys_in list) w 0 k h, keys_length list 0 (length list / 80))
-
--- the mark of a field by its number
-
-abbrev pub mark_of : Named → ℕ
-mark_of (N.Field n) = n + 1
-mark_of N.Nothing = 0
-
-pub named_mark : (o : Option Field) → mark_of (named_of o) ≡ field_mark o
-named_mark none = refl
-named_mark (some f) = refl

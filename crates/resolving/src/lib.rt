@@ -17,7 +17,6 @@ ghost use Rattle.resolving.specs.Resolved.{ResolvesAt, Resolves};
 use keys::Found;
 use trees::{Leaf, Span};
 use values::fields;
-use values::fields::Named;
 
 fn key_mark(text: &[u8], list: &[u8], w: Span) -> u32
     requires { length list.now ≤ 2560 }
@@ -33,11 +32,10 @@ fn key_mark(text: &[u8], list: &[u8], w: Span) -> u32
 fn field_mark(text: &[u8], f: Span) -> u32
     ensures { result ≡ field_mark (field_named (spelling text.now f)) }
 {
-    let field = fields::field_named(trees::spelled(text, f));
-    let Named::Field(n) = field else {
-        return 0;
-    };
-    n as u32 + 1
+    match fields::field_named(trees::spelled(text, f)) {
+        Some(n) => u32::from(n) + 1,
+        None => 0,
+    }
 }
 
 fn priority_mark(text: &[u8], f: Span) -> u32

@@ -1,9 +1,8 @@
-pub mod Coded
 pub mod Compared
 pub mod Knowing
 pub mod Leaves
 pub mod Minus
-pub mod Placed
+pub mod Other
 pub mod Rooted
 pub mod Spelled
 pub mod Typable

@@ -3,7 +3,6 @@
 use Prim.Native.Nat.{ℕ, zero, suc, ◌+◌, ◌-◌, ◌*◌, ◌/◌, ◌%◌, ◌^◌, ◌<◌, ◌≤◌}
 use mathlib.Core.Path.{◌≡◌, refl, ◌∙◌, ap, ap₂}
 use mathlib.Core.Bool.{Bool, true, false, not, cond, ◌&&◌, ◌||◌, and-true, and_self}
-use mathlib.Core.Option.{Option, some}
 use native.Mathlib.Omega.{arith}
 use borrow.Author.Tests.{eq-eqb, ne_eqb, lt-ltb}
 use lib.Dec.{eqb, ltb}
@@ -14,9 +13,7 @@ use Rattle.paper.specs.Types.{Ty, bool, int, of, bits, is_number, ordered, suits
 use Rattle.paper.specs.Meaning.{one_value}
 use Rattle.paper.specs.Code.{comparison_of, field_of, field_no}
 use Rattle.paper.proofs.MeetingTypes.{meet_own}
-use Rattle.values.specs.declared.fields.Named.TheVariants as N
 use Rattle.values.specs.Numbered.{ty_numbered}
-use Rattle.values.specs.Typed.{named_of}
 
 -- kinds
 
@@ -88,10 +85,6 @@ field_back mask = refl
 field_back prefix_length = refl
 field_back low = refl
 field_back high = refl
-
-pub named_if : (b : Bool) (f : Field) (o : Option Field) → named_of (cond b (some f) o) ≡ cond b (N.Field (field_no f)) (named_of o)
-named_if true f o = refl
-named_if false f o = refl
 
 -- comparisons
 

@@ -53,14 +53,12 @@ impl Cell {
     pub(crate) fn of_whole(n: Whole) -> Cell
         ensures { held result ≡ paper.whole (whole_of n) }
     {
-        let size = n.size;
-        let none = Magnitude::zero();
         Cell {
             sort: Sort::Whole(n.negative),
             width: 0,
             length: 0,
-            first: size,
-            second: none,
+            first: n.size,
+            second: Magnitude::zero(),
         }
     }
 
@@ -78,10 +76,10 @@ impl Cell {
     {
         Cell {
             sort: Sort::Match(kind),
-            width: width,
-            length: length,
-            first: first,
-            second: second,
+            width,
+            length,
+            first,
+            second,
         }
     }
 
@@ -94,7 +92,7 @@ impl Cell {
             kinds::EXACT => Cell::matched(kind, width, n, Magnitude::zero(), 0),
             kinds::LPM => Cell::matched(kind, width, n, Magnitude::zero(), width),
             kinds::RANGE => Cell::matched(kind, width, n, n, 0),
-            _ => Cell::matched(kind, width, n, Magnitude::ones(width as u32), 0),
+            _ => Cell::matched(kind, width, n, Magnitude::ones(u32::from(width)), 0),
         }
     }
 
@@ -106,7 +104,7 @@ impl Cell {
         match field {
             fields::VALUE => Cell::one_value(kinds::EXACT, width, first),
             fields::MASK => Cell::one_value(kinds::EXACT, width, second),
-            fields::PREFIX_LENGTH => Cell::whole(Magnitude::of(length as u32)),
+            fields::PREFIX_LENGTH => Cell::whole(Magnitude::of(u32::from(length))),
             fields::LOW => Cell::one_value(kinds::EXACT, width, first),
             _ => Cell::one_value(kinds::EXACT, width, second),
         }
@@ -116,20 +114,14 @@ impl Cell {
     pub fn is_true(self) -> bool
         ensures { result ≡ is_true (some (held self)) }
     {
-        let sort = self.sort;
-        match sort {
-            Sort::Truth(b) => b,
-            Sort::Whole(_) => false,
-            Sort::Match(_) => false,
-        }
+        matches!(self.sort, Sort::Truth(true))
     }
 
     // The type of what the cell holds.
     pub(crate) fn type_of(self) -> Type
         ensures { ty_meant result ≡ ty_of (held self) }
     {
-        let sort = self.sort;
-        match sort {
+        match self.sort {
             Sort::Truth(_) => Type::Bool,
             Sort::Whole(_) => Type::Int,
             Sort::Match(kind) => Type::Of(kind, self.width_held()),
@@ -140,21 +132,16 @@ impl Cell {
     pub(crate) fn width_held(self) -> u8
         ensures { (result ≡ min self.width 128) × (result ≤ 128) }
     {
-        if self.width < KeyRecord::WIDEST {
-            self.width
-        } else {
-            KeyRecord::WIDEST
-        }
+        self.width.min(KeyRecord::WIDEST)
     }
 
     // The whole number of this sign and the cell's size.
     pub(crate) fn as_whole(self, negative: bool) -> Whole
         ensures { whole_of result ≡ signed negative (value self.first) }
     {
-        let size = self.first;
         Whole {
-            negative: negative,
-            size: size,
+            negative,
+            size: self.first,
         }
     }
 }

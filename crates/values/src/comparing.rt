@@ -1,92 +1,36 @@
 // Comparisons of two values.
+// Comparisons are bytes and no enum: `compares` takes any, and reads one past the last as the last.
 ghost use Rattle.std.specs.Prelude.{◌≡◌};
 ghost use Rattle.paper.specs.Code.{comparison_of};
 ghost use Rattle.paper.specs.Meaning as paper;
 ghost use Rattle.paper.specs.Meaning.{ty_of, same_value, less_value, compare_value, comparison_value};
-ghost use Rattle.values.specs.declared.cell.Sort.TheVariants as sort;
-ghost use Rattle.values.specs.Held.{held, held_as, like_value, Is};
+ghost use Rattle.values.specs.Held.{held, like_value, Is};
 
 use crate::cell::{Cell, Sort};
 use crate::types;
 use paper::comparisons;
 
-fn same_truth(truth: bool, b: Cell) -> bool
-    ensures { result ≡ same_value (paper.truth truth) (held b) }
-{
-    let other = b.sort;
-    match other {
-        Sort::Truth(t) => truth == t,
-        Sort::Whole(_) => false,
-        Sort::Match(_) => false,
-    }
-}
-
-fn same_whole(negative: bool, a: Cell, b: Cell) -> bool
-    ensures { result ≡ same_value (held_as (sort.Whole negative) a) (held b) }
-{
-    let other = b.sort;
-    match other {
-        Sort::Truth(_) => false,
-        Sort::Whole(n) => a.as_whole(negative).equal(b.as_whole(n)),
-        Sort::Match(_) => false,
-    }
-}
-
-fn same_match(kind: u8, a: Cell, b: Cell) -> bool
-    ensures { result ≡ same_value (held_as (sort.Match kind) a) (held b) }
-{
-    let other = b.sort;
-    match other {
-        Sort::Truth(_) => false,
-        Sort::Whole(_) => false,
-        Sort::Match(_) => a.first.equal(b.first)
-            & a.second.equal(b.second)
-            & (a.length == b.length),
-    }
-}
-
-fn less_whole(negative: bool, a: Cell, b: Cell) -> bool
-    ensures { result ≡ less_value (held_as (sort.Whole negative) a) (held b) }
-{
-    let other = b.sort;
-    match other {
-        Sort::Truth(_) => false,
-        Sort::Whole(n) => a.as_whole(negative).less(b.as_whole(n)),
-        Sort::Match(_) => false,
-    }
-}
-
-fn less_match(kind: u8, a: Cell, b: Cell) -> bool
-    ensures { result ≡ less_value (held_as (sort.Match kind) a) (held b) }
-{
-    let other = b.sort;
-    match other {
-        Sort::Truth(_) => false,
-        Sort::Whole(_) => false,
-        Sort::Match(_) => a.first.less(b.first),
-    }
-}
-
 impl Cell {
     fn same(self, other: Cell) -> bool
         ensures { result ≡ same_value (held self) (held other) }
     {
-        let sort = self.sort;
-        match sort {
-            Sort::Truth(truth) => same_truth(truth, other),
-            Sort::Whole(negative) => same_whole(negative, self, other),
-            Sort::Match(kind) => same_match(kind, self, other),
+        match (self.sort, other.sort) {
+            (Sort::Truth(a), Sort::Truth(b)) => a == b,
+            (Sort::Whole(a), Sort::Whole(b)) => self.as_whole(a).equal(other.as_whole(b)),
+            (Sort::Match(_), Sort::Match(_)) => self.first.equal(other.first)
+                && self.second.equal(other.second)
+                && self.length == other.length,
+            _ => false,
         }
     }
 
     fn less(self, other: Cell) -> bool
         ensures { result ≡ less_value (held self) (held other) }
     {
-        let sort = self.sort;
-        match sort {
-            Sort::Truth(_) => false,
-            Sort::Whole(negative) => less_whole(negative, self, other),
-            Sort::Match(kind) => less_match(kind, self, other),
+        match (self.sort, other.sort) {
+            (Sort::Whole(a), Sort::Whole(b)) => self.as_whole(a).less(other.as_whole(b)),
+            (Sort::Match(_), Sort::Match(_)) => self.first.less(other.first),
+            _ => false,
         }
     }
 
@@ -117,11 +61,9 @@ impl Cell {
         if types::same(self.type_of(), other.type_of()) {
             return self;
         }
-        let sort = other.sort;
-        match sort {
-            Sort::Truth(_) => self,
-            Sort::Whole(_) => self,
+        match other.sort {
             Sort::Match(kind) => self.converted(kind, other.width_held()),
+            _ => self,
         }
     }
 

@@ -25,7 +25,7 @@ pub fn number_of(a: Type) -> u32
     match a {
         Type::Bool => BOOL,
         Type::Int => INT,
-        Type::Of(kind, width) => FIRST_OF + kind as u32 * WIDTHS + width as u32,
+        Type::Of(kind, width) => FIRST_OF + u32::from(kind) * WIDTHS + u32::from(width),
     }
 }
 

@@ -1,4 +1,5 @@
 // What the operators make of their operands. Where the paper gives no value, any cell is right.
+// Connectives are bytes and no enum: `connected` takes any, and reads one past the last as the last.
 ghost use Rattle.std.specs.Prelude.{◌≡◌, ◌≤◌};
 ghost use Rattle.paper.specs.Keys.{kind_of};
 ghost use Rattle.paper.specs.Meaning as paper;
@@ -33,14 +34,12 @@ impl Cell {
     pub fn negated(self) -> Cell
         ensures { Is (negate_value (held self)) (held result) }
     {
-        let sort = self.sort;
-        let first = self.first;
-        match sort {
+        match self.sort {
             Sort::Truth(_) => self,
             Sort::Whole(negative) => Cell::of_whole(self.as_whole(negative).negated()),
             Sort::Match(kind) => {
                 let width = self.width_held();
-                Cell::one_value(kind, width, first.minus(width as u32))
+                Cell::one_value(kind, width, self.first.minus(u32::from(width)))
             }
         }
     }
@@ -56,10 +55,9 @@ impl Cell {
         requires { width ≤ 128 }
         ensures { value result ≡ as_number width (held self) }
     {
-        let sort = self.sort;
-        match sort {
+        match self.sort {
             Sort::Truth(_) => Magnitude::zero(),
-            Sort::Whole(negative) => self.as_whole(negative).reduced(width as u32),
+            Sort::Whole(negative) => self.as_whole(negative).reduced(u32::from(width)),
             Sort::Match(_) => self.first,
         }
     }

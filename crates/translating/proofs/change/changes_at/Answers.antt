@@ -20,14 +20,14 @@ Right c text = let a = c.args in Known a.list.now a.nodes.now a.right text
 left_told : (c : goal.After-unchanged-in_default-met) (text : List ℕ) (l : Left c text) → typed_says c.shallow_type-a.result ≡ ok l.type
 left_told c text l = c.shallow_type-a.ensures text l.marked l.type l.typed
 
-left_is : (c : goal.After-unchanged-in_default-met) (text : List ℕ) (l : Left c text) → ty_meant c.in-Is.s ≡ l.type
-left_is c text l = ok_same _ _ (sym (ap typed_says c.in-Is.is) ∙ left_told c text l)
+left_is : (c : goal.After-unchanged-in_default-met) (text : List ℕ) (l : Left c text) → ty_meant c.in-Ok.s ≡ l.type
+left_is c text l = ok_same _ _ (sym (ap typed_says c.in-Ok.is) ∙ left_told c text l)
 
 right_told : (c : goal.After-unchanged-in_default-met) (text : List ℕ) (m : Right c text) → typed_says c.shallow_type-b.result ≡ ok m.type
 right_told c text m = c.shallow_type-b.ensures text m.marked m.type m.typed
 
-right_is : (c : goal.After-unchanged-in_default-met) (text : List ℕ) (m : Right c text) → ty_meant c.in-Is-b.t ≡ m.type
-right_is c text m = ok_same _ _ (sym (ap typed_says c.in-Is-b.is) ∙ right_told c text m)
+right_is : (c : goal.After-unchanged-in_default-met) (text : List ℕ) (m : Right c text) → ty_meant c.in-Ok-b.t ≡ m.type
+right_is c text m = ok_same _ _ (sym (ap typed_says c.in-Ok-b.is) ∙ right_told c text m)
 
 pub returns-in_default-met : goal.returns-in_default-met
 returns-in_default-met c text l m =
@@ -43,17 +43,17 @@ Right_2 c text = let a = c.args in Known a.list.now a.nodes.now a.right text
 left_told_2 : (c : goal.After-change_to-2) (text : List ℕ) (l : Left_2 c text) → typed_says c.shallow_type-a.result ≡ ok l.type
 left_told_2 c text l = c.shallow_type-a.ensures text l.marked l.type l.typed
 
-left_is_2 : (c : goal.After-change_to-2) (text : List ℕ) (l : Left_2 c text) → ty_meant c.in-Is.s ≡ l.type
-left_is_2 c text l = ok_same _ _ (sym (ap typed_says c.in-Is.is) ∙ left_told_2 c text l)
+left_is_2 : (c : goal.After-change_to-2) (text : List ℕ) (l : Left_2 c text) → ty_meant c.in-Ok.s ≡ l.type
+left_is_2 c text l = ok_same _ _ (sym (ap typed_says c.in-Ok.is) ∙ left_told_2 c text l)
 
 right_told_2 : (c : goal.After-change_to-2) (text : List ℕ) (m : Right_2 c text) → typed_says c.shallow_type-b.result ≡ ok m.type
 right_told_2 c text m = c.shallow_type-b.ensures text m.marked m.type m.typed
 
-right_is_2 : (c : goal.After-change_to-2) (text : List ℕ) (m : Right_2 c text) → ty_meant c.in-Is-b.t ≡ m.type
-right_is_2 c text m = ok_same _ _ (sym (ap typed_says c.in-Is-b.is) ∙ right_told_2 c text m)
+right_is_2 : (c : goal.After-change_to-2) (text : List ℕ) (m : Right_2 c text) → ty_meant c.in-Ok-b.t ≡ m.type
+right_is_2 c text m = ok_same _ _ (sym (ap typed_says c.in-Ok-b.is) ∙ right_told_2 c text m)
 
 pub returns : goal.returns
 returns c text l m =
     rw (← left_is_2 c text l, ← right_is_2 c text m)
-    (met _ _ (ty_meant c.in-Is-met.m) (record { left = c.change_to.result; right = c.change_to-2.result })
-    (sym c.meet-met.ensures ∙ ap typing_meant c.in-Is-met.is) c.change_to.ensures c.change_to-2.ensures)
+    (met _ _ (ty_meant c.in-Some.m) (record { left = c.change_to.result; right = c.change_to-2.result })
+    (sym c.meet-met.ensures ∙ ap typing_meant c.in-Some.is) c.change_to.ensures c.change_to-2.ensures)

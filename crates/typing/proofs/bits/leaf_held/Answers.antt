@@ -4,8 +4,8 @@ use Rattle.number.specs.Values.{value}
 use Rattle.typing.proofs.Spelled.{number_held}
 use Rattle.typing.proofs.bits.leaf_held.Goals as goal
 
-pub returns-in-Number : goal.returns-in-Number
+pub returns : goal.returns
 unfolding value
-returns-in-Number c text at =
+returns c text at =
     let a = c.args in
     rw c.in-Number.is (c.fits_in.ensures ∙ number_held a.w _ a.negative)

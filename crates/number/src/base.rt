@@ -52,7 +52,7 @@ impl Literal {
     {
         Literal {
             base: Base::Decimal,
-            number: number,
+            number,
         }
     }
 }

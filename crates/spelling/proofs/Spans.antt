@@ -1,11 +1,11 @@
--- A run of bytes, a byte at a time: what `span` gives from an offset on.
+-- Runs of bytes: what `span` counts, of a list and from an offset on.
 use Prim.Native.Nat.{ℕ, zero, suc, ◌+◌, ◌≤◌, ◌<◌}
 use mathlib.Core.Path.{◌≡◌, refl, sym, ap, ◌∙◌}
 use mathlib.Core.Bool.{Bool, true, false, not, cond, ◌&&◌, ◌||◌, and-true}
 use mathlib.Core.List.{List, [], ◌∷◌}
 use native.Mathlib.Omega.{arith}
 use lib.Dec.{leb, leb-zero, leb-suc-zero, leb-suc-suc}
-use lib.ListN.{length, get_or, take, drop, drop_of_length-le}
+use lib.ListN.{length, get_or, take, drop}
 use lib.Seq.{drop-cons, drop-drop}
 use Rattle.std.proofs.lemmas.List.Folds.{length-prefix_len}
 use Rattle.std.specs.List.{fold, prefix_len, take_while}
@@ -16,17 +16,7 @@ cut s i h =
     let e : i + 1 ≡ suc i = omega arith in
     rw (e, drop-cons s i 0 h)
 
-module _ (p : ℕ → Bool) (s : List ℕ) (i : ℕ) where
-  pub span_on : i < length s → p (get_or s i 0) ≡ true → span p (drop i s) ≡ suc (span p (drop (i + 1) s))
-  span_on h e = rw (cut s i h, e)
-
-  pub span_stop : i < length s → p (get_or s i 0) ≡ false → span p (drop i s) ≡ 0
-  span_stop h e = rw (cut s i h, e)
-
-  pub span_end : length s ≤ i → span p (drop i s) ≡ 0
-  span_end h = rw (drop_of_length-le s h)
-
--- and all of them together
+-- a run as a whole
 
 module _ (p : ℕ → Bool) where
   prefix_is_span : (s : List ℕ) → prefix_len p s ≡ span p s

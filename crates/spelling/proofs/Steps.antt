@@ -1,25 +1,18 @@
 -- What the proofs of loops and tests share: a list a byte at a time, and a count of what is left.
 use Prim.Native.Nat.{ℕ, zero, suc, ◌+◌, ◌-◌, ◌≤◌, ◌<◌}
 use mathlib.Core.Path.{◌≡◌, refl, sym, ap, ◌∙◌}
-use mathlib.Core.Bool.{Bool, true, false, not, cond, ◌&&◌, and-true}
+use mathlib.Core.Bool.{Bool, true, false, cond, ◌&&◌, and-true}
 use mathlib.Core.List.{List, [], ◌∷◌}
 use native.Mathlib.Omega.{arith}
 use lib.Bits.{bit_or, or_add_and, and_le_r}
 use lib.Dec.{eqb}
 use lib.ListN.{length, get_or, take, drop, length-drop}
 use lib.Seq.{take_all, drop-cons}
-use borrow.Author.Tests.{ne_eqb, not-true, not-false}
+use borrow.Author.Tests.{ne_eqb}
 use Rattle.std.specs.List.{fold}
 use Rattle.std.specs.Str.{bytes_eq}
 use Rattle.paper.specs.Tokens.{same_bytes}
 use Rattle.paper.specs.Keys.{all_zero}
-
--- after `if !test`
-pub refuted : {r t : Bool} → r ≡ t → not r ≡ true → t ≡ false
-refuted e h = sym e ∙ not-true _ h
-
-pub granted : {r t : Bool} → r ≡ t → not r ≡ false → t ≡ true
-granted e h = sym e ∙ not-false _ h
 
 -- k are passed, of n
 pub one_less : (n k : ℕ) → k < n → n - k ≡ suc (n - (k + 1))

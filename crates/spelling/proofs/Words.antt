@@ -1,14 +1,13 @@
 -- A word, a byte at a time.
-use Prim.Native.Nat.{ℕ, zero, suc, ◌+◌, ◌-◌, ◌≤◌, ◌<◌}
+use Prim.Native.Nat.{ℕ, zero, suc, ◌+◌, ◌-◌, ◌≤◌}
 use mathlib.Core.Path.{◌≡◌, refl, ap, ◌∙◌}
-use mathlib.Core.Bool.{false, cond, ◌&&◌}
-use mathlib.Core.List.{List, [], ◌∷◌}
+use mathlib.Core.Bool.{cond}
+use mathlib.Core.List.{List}
 use native.Mathlib.Omega.{arith}
-use lib.Dec.{eqb}
-use lib.ListN.{length, get_or, drop, drop_of_length-le}
+use lib.ListN.{length, drop, drop_of_length-le}
 use Rattle.std.proofs.lemmas.List.Folds.{length-prefix_len}
 use Rattle.std.specs.List.{prefix_len, take_while, range_with_len}
-use Rattle.paper.specs.Tokens.{is_id_start, word_more, is_key}
+use Rattle.paper.specs.Tokens.{word_more}
 use Rattle.spelling.specs.Words.{goes_on}
 use Rattle.spelling.proofs.Steps.{cut}
 
@@ -24,14 +23,3 @@ counted s (suc n) i e =
 
 pub word_counted : (s : List ℕ) (at : ℕ) → length (take_while (goes_on s) (range_with_len at (length s - at))) ≡ word_more (drop at s)
 word_counted s at = length-prefix_len (goes_on s) (range_with_len at (length s - at)) ∙ counted s (length s - at) at refl
-
-pub key_none : (s : List ℕ) → length s ≡ 0 → is_key s ≡ false
-key_none [] h = refl
-key_none (b ∷ s) h = absurd (omega arith)
-
-pub key_some : (s : List ℕ) → 0 < length s → is_key s ≡
-    (is_id_start (get_or s 0 0) && eqb (word_more (drop 1 s)) (length s - 1))
-key_some [] h = absurd (omega arith)
-key_some (b ∷ s) h =
-    let e : suc (length s) - 1 ≡ length s = omega arith in
-    rw e

@@ -1,5 +1,5 @@
 -- What stands before the copy, the copy, and what stands after it are the bytes set one by one (`copied`).
-use Rattle.spelling.proofs.Copies.{copied}
+use Rattle.number.proofs.BigEndian.{copied}
 use Rattle.spelling.proofs.bytes.copy.Goals as goal
 
 pub returns : goal.returns

@@ -1,4 +1,4 @@
--- `addresses::groups::groups` meets its contract. The invariant of its loop (`Going`): the parts before `at` are good, `count` says how many
+-- The invariant of the loop (`Going`): the parts before `at` are good, `count` says how many
 -- they are, and `number` is what they make after the number given. A turn cuts off the next part: a bad one decides (`going_bad`); a good one
 -- goes into the number, and is the last where it ends the string (`going_last`), or the next part starts behind its separator (`going_on`).
 -- The measure is how many bytes are left.

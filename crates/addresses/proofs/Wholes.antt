@@ -1,35 +1,28 @@
 -- Whole strings: so many parts, and groups on both sides of a "::".
 use Prim.Native.Nat.{ℕ, zero, suc, ◌+◌, ◌-◌, ◌%◌, ◌^◌, ◌≤◌, ◌<◌}
 use mathlib.Core.Path.{◌≡◌, refl, sym, ap, ◌∙◌}
-use mathlib.Core.Bool.{true, false, and-false}
-use mathlib.Core.Option.{none, some}
+use mathlib.Core.Bool.{true}
+use mathlib.Core.Option.{some}
 use mathlib.Core.List.{List, [], ◌∷◌, ◌++◌}
 use native.Mathlib.Nat.{mod-mod, mod-eq_of_lt, lt_of_lt_of_le}
 use native.Mathlib.Omega.{arith}
-use borrow.Author.Tests.{eq-eqb, ne_eqb, le-leb, lt-leb}
+use borrow.Author.Tests.{eq-eqb, le-leb}
 use lib.ListN.{length, replicate, length-append, length-map, length-replicate}
 use lib.Dec.{lit<}
 use Rattle.paper.specs.Numbers.{digits_after, in_base}
 use Rattle.paper.specs.Addresses.{Scheme, ipv6, every, is_group, groups, eight_groups, gapped}
 use Rattle.number.specs.Values.{value}
 use Rattle.addresses.specs.declared.groups.PartsRead.{PartsRead}
-use Rattle.addresses.specs.Reads.{is_part, scale_of, numbers, parts_of, whole_of, GroupedAs}
+use Rattle.addresses.specs.Reads.{scale_of, numbers, parts_of, whole_of, GroupedAs}
 use Rattle.addresses.proofs.Digits.{Below, after_lt, after_mod, after_append, parts_below, parts_lt}
 
 -- a string of so many parts
-
-pub whole_bad : (k : Scheme) (wanted : ℕ) (ps : List (List ℕ)) → every (is_part k) ps ≡ false → none ≡ whole_of k wanted ps
-whole_bad k wanted ps e = rw (e, and-false)
-
 module _ (k : Scheme) (wanted : ℕ) (ps : List (List ℕ)) (most : ℕ) (r : PartsRead) (g : GroupedAs k ps 0 most r) where
   pub whole_good : scale_of k ^ wanted ≤ 2 ^ 128 → r.count ≡ wanted → some (value r.number) ≡ whole_of k wanted ps
   whole_good l c =
       let n : length ps ≡ wanted = sym g.counted ∙ c in
       let m : in_base (scale_of k) (numbers k ps) < scale_of k ^ wanted = rw n at (parts_lt k ps g.told) in
       rw (eq-eqb (length ps) wanted n, g.told) (ap some (g.grown ∙ mod-eq_of_lt (lt_of_lt_of_le m l)))
-
-  pub whole_other : (r.count ≡ wanted → ⊥) → none ≡ whole_of k wanted ps
-  whole_other c = rw (ne_eqb (length ps) wanted (λ e. c (g.counted ∙ e)))
 
 -- no part
 pub none_grouped : (r : PartsRead) → r.count ≡ 0 → value r.number < 2 ^ 128 → GroupedAs ipv6 [] (value r.number) 0 r
@@ -57,15 +50,6 @@ below_zeros base zero h = tt
 below_zeros base (suc n) h = (h, below_zeros base n h)
 
 module _ (ps qs : List (List ℕ)) where
-  pub gapped_left : every is_group ps ≡ false → gapped ps qs ≡ none
-  gapped_left e = rw (e, and-false)
-
-  pub gapped_right : every is_group qs ≡ false → gapped ps qs ≡ none
-  gapped_right e = rw (e, and-false)
-
-  pub gapped_many : 7 < length ps + length qs → gapped ps qs ≡ none
-  gapped_many l = rw (lt-leb (length ps + length qs) 7 l)
-
   pub gapped_good : every is_group ps ≡ true → every is_group qs ≡ true → length ps + length qs ≤ 7 → (f z n : ℕ)
       → f ≡ digits_after 65536 0 (numbers ipv6 ps) % 2 ^ 128
       → z ≡ digits_after 65536 f (replicate (8 - (length ps + length qs)) 0) % 2 ^ 128

@@ -15,7 +15,7 @@ ghost use Rattle.grammar.specs.Reading.{start_of, Ready, Leads, Worded, Reads, B
 use crate::steps::{COUNT, NODE, Start, TOKEN, Taken};
 use crate::store::{put_attribute, put_field, put_number};
 use crate::tape::{Next, next_in, place_at, string_at, word_at};
-use addresses::{Scheme, SchemeName};
+use addresses::Scheme;
 use number::Literal;
 use paper::refused::{ADDRESS, GRAMMAR, LEVELS_MANY};
 use spelling::bytes::same_bytes;
@@ -159,7 +159,7 @@ fn keyed(text: &[u8], tape: &[u32], from: &Start, nodes: &mut [u32]) -> Taken
     let Next::Is(_) = next_in(tape, count, at + 1, OPENING, OPENING) else {
         return key_node(tape, at, free, nodes);
     };
-    let SchemeName::Is(scheme) = addresses::scheme_of(word_at(text, tape, at)) else {
+    let Some(scheme) = addresses::scheme_of(word_at(text, tape, at)) else {
         return key_node(tape, at, free, nodes);
     };
     addressed(text, tape, scheme, from, nodes)
@@ -194,11 +194,9 @@ fn addressed(text: &[u8], tape: &[u32], scheme: Scheme, from: &Start, nodes: &mu
     let Next::Is(_) = next_in(tape, count, quote, STRING, STRING) else {
         return Taken::Refused(GRAMMAR, place_at(text, tape, count, quote));
     };
-    let read = addresses::read(scheme, string_at(text, tape, quote));
-    if !read.ok {
+    let Some(number) = addresses::read(scheme, string_at(text, tape, quote)) else {
         return Taken::Refused(ADDRESS, place_at(text, tape, count, quote));
-    }
-    let number = read.number;
+    };
     // "address numerals stay decimal"
     put_number(tape, nodes, free, at, Literal::plain(number));
     close(text, tape, count, free + 1, quote + 1)

@@ -5,7 +5,7 @@ ghost use Rattle.number.specs.Values.{value};
 use crate::magnitude::Magnitude;
 
 impl Magnitude {
-    // Whether this number is below the other.
+    // Whether this number is below the other. It is no Ord, whose laws would have to hold of limbs that are no number's.
     pub fn less(self, other: Magnitude) -> bool
         ensures { result ≡ nat_lt (value self) (value other) }
     {

@@ -16,7 +16,7 @@ struct Divided {
     rest: u32,
 }
 
-// The bytes of a numeral, from `first` on.
+// The bytes of a numeral, from `first` on: no String, since the switch has no heap.
 #[derive(Clone, Copy)]
 pub struct Digits {
     pub bytes: [u8; 128],

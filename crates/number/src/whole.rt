@@ -40,7 +40,7 @@ impl Whole {
         self.negative && !self.size.is_zero()
     }
 
-    // Whether the two whole numbers are equal.
+    // Whether the two whole numbers are equal. It is not derived, since zero may carry either sign.
     pub fn equal(self, other: Whole) -> bool
         ensures { result ≡ same_whole (whole_of self) (whole_of other) }
     {

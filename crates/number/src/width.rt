@@ -20,6 +20,7 @@ fn clear(limb: u32, k: u32) -> bool
     k.min(32) <= limb.trailing_zeros()
 }
 
+// What is left of a limb, whether or not it owes one: it is no Option.
 #[derive(Clone, Copy)]
 struct Borrowed {
     limb: u32,

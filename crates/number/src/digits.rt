@@ -23,7 +23,7 @@ fn scaled(limb: u32, base: u32, over: u32) -> Carry
 
 impl Magnitude {
     // The lowest 128 bits of the number with one more digit written after it, and what they leave over.
-    fn grow(self, base: u32, digit: u32) -> (Magnitude, u32)
+    pub fn grow(self, base: u32, digit: u32) -> (Magnitude, u32)
         ensures { value result.0 + 2 ^ 128 * result.1 ≡ value self * base + digit }
     {
         let a = scaled(self.limbs[0], base, digit);

@@ -52,7 +52,7 @@ fn goes_through(text: &[u8], at: usize) -> bool
         .fold(false, |ended, byte| ended | (*byte == b'\n'))
 }
 
-// Where the line ends that goes on at an offset.
+// Where the line ends that goes on at an offset. Strides are passed by their place, which chunks would have to be counted back into.
 pub fn line_end(text: &[u8], at: usize) -> usize
     requires { at ≤ length text.now }
     ensures { EndsAt text.now at (line_more text.now at) result }

@@ -1,62 +1,16 @@
--- Strings: their parts from an offset on, where a "::" stands, and comparisons.
+-- Where a "::" stands in a string.
 use Prim.Native.Nat.{ℕ, zero, suc, ◌+◌, ◌-◌, ◌≤◌, ◌<◌}
 use mathlib.Core.Path.{◌≡◌, refl, sym, ap, ◌∙◌}
 use mathlib.Core.Bool.{Bool, true, false, not, cond, true≢false, and-false}
 use mathlib.Core.List.{List, [], ◌∷◌}
 use native.Mathlib.Omega.{arith}
-use lib.ListN.{length, get_or, take, drop, length-drop, drop_of_length-le}
-use lib.Seq.{drop-drop, take_all}
+use lib.ListN.{length, get_or, drop, drop_of_length-le}
 use Rattle.std.proofs.lemmas.List.Folds.{length-prefix_len}
 use Rattle.std.specs.List.{prefix_len, take_while, range_with_len}
-use Rattle.paper.specs.Tokens.{is, span}
-use Rattle.paper.specs.Addresses.{parts, before_gap}
+use Rattle.paper.specs.Tokens.{is}
+use Rattle.paper.specs.Addresses.{before_gap}
 use Rattle.spelling.proofs.Spans.{cut}
 use Rattle.addresses.specs.Reads.{gap_at}
-
-module _ (sep : ℕ → Bool) where
-  abbrev inside : ℕ → Bool
-  inside b = not (sep b)
-
-  parts_last : (s : List ℕ) → span inside s ≡ length s → parts sep s ≡ s ∷ []
-  parts_last [] e = refl
-  parts_last (b ∷ s) e = go (sep b) refl (parts_last s)
-    where
-      go : (t : Bool) → sep b ≡ t → (span inside s ≡ length s → parts sep s ≡ s ∷ []) → parts sep (b ∷ s) ≡ (b ∷ s) ∷ []
-      go true h i = let f : 0 ≡ suc (length s) = rw h at e in absurd (omega arith)
-      go false h i =
-          let f : suc (span inside s) ≡ suc (length s) = rw h at e in
-          let g : parts sep s ≡ s ∷ [] = i (omega arith) in
-          rw (h, g)
-
-  parts_more : (s : List ℕ) → span inside s < length s → parts sep s ≡ take (span inside s) s ∷ parts sep (drop (suc (span inside s)) s)
-  parts_more [] l = absurd (omega arith)
-  parts_more (b ∷ s) l = go (sep b) refl (parts_more s)
-    where
-      go : (t : Bool) → sep b ≡ t
-          → (span inside s < length s → parts sep s ≡ take (span inside s) s ∷ parts sep (drop (suc (span inside s)) s))
-          → parts sep (b ∷ s) ≡ take (span inside (b ∷ s)) (b ∷ s) ∷ parts sep (drop (suc (span inside (b ∷ s))) (b ∷ s))
-      go true h i = rw h
-      go false h i =
-          let f : suc (span inside s) < suc (length s) = rw h at l in
-          let g = i (omega arith) in
-          rw (h, g)
-
-  -- the part from an offset up to an end
-  module _ (s : List ℕ) (at end : ℕ) (far : end ≡ at + span inside (drop at s)) where
-    pub part_last : end ≡ length s → parts sep (drop at s) ≡ take (end - at) (drop at s) ∷ []
-    part_last e =
-        let n = length-drop at s in
-        let f : span inside (drop at s) ≡ length (drop at s) = omega arith in
-        let l : length (drop at s) ≤ end - at = omega arith in
-        rw (take_all (end - at) (drop at s) l) (parts_last (drop at s) f)
-
-    pub part_more : end < length s → parts sep (drop at s) ≡ take (end - at) (drop at s) ∷ parts sep (drop (end + 1) s)
-    part_more l =
-        let n = length-drop at s in
-        let f : span inside (drop at s) < length (drop at s) = omega arith in
-        let e : end - at ≡ span inside (drop at s) = omega arith in
-        let g : end + 1 ≡ at + suc (span inside (drop at s)) = omega arith in
-        rw (e, g, ← drop-drop (suc (span inside (drop at s))) at s) (parts_more (drop at s) f)
 
 -- the first "::"
 

@@ -43,37 +43,21 @@ fn scale(kind: Scheme) -> u32
     }
 }
 
-// Where the part ends that starts at an offset.
-fn part_end(string: &[u8], at: usize, separator: u8) -> usize
-    requires { at ≤ length string.now }
-    ensures { (result ≡ at + span (within separator) (drop at string.now)) × (result ≤ length string.now) }
-{
-    at + string[at..]
-        .iter()
-        .take_while(|byte| **byte != separator)
-        .count()
-}
-
 // Reads all parts of a string, if they are good: how many they are, and the number that they are after another one.
 pub(crate) fn groups(kind: Scheme, string: &[u8], before: Magnitude) -> Option<PartsRead>
     ensures { Grouped (scheme kind) (parts_of (scheme kind) string.now) (value before) (length string.now) result }
 {
+    let separator = separator(kind);
     let mut number = before;
     let mut count = 0;
-    let mut at = 0;
-    loop {
-        let end = part_end(string, at, separator(kind));
-        let part = &string[at..end];
+    for part in string.split(|byte| *byte == separator) {
         if !is_part(kind, part) {
             return None;
         }
         number = number.wrapping_grow(scale(kind), value_of(part, base(kind)));
         count += 1;
-        if end == string.len() {
-            return Some(PartsRead { count, number });
-        }
-        at = end + 1;
     }
+    Some(PartsRead { count, number })
 }
 
 // Reads a string of so many parts.

@@ -1,5 +1,5 @@
 -- Digits in a base: how they go on, modulo a number, and how large they get.
-use Prim.Native.Nat.{ℕ, suc, ◌+◌, ◌*◌, ◌/◌, ◌%◌, ◌^◌, ◌-◌, ◌≤◌, ◌<◌}
+use Prim.Native.Nat.{ℕ, zero, suc, ◌+◌, ◌*◌, ◌/◌, ◌%◌, ◌^◌, ◌≤◌, ◌<◌}
 use mathlib.Core.Path.{◌≡◌, refl, sym, ap, ◌∙◌}
 use mathlib.Core.Bool.{Bool, true, false, not, ◌&&◌, ◌||◌}
 use mathlib.Core.List.{List, [], ◌∷◌, ◌++◌, map}
@@ -33,13 +33,16 @@ module _ (base M : ℕ) where
   after_mod [] n m e = e
   after_mod (d ∷ ds) n m e = after_mod ds (n * base + d) (m * base + d) (digit_mod n m d e)
 
--- a digit 0 of some that are left
-pub zero_on : (base M n m left : ℕ) → 0 < left → m ≡ (n * base + 0) % M
-    → digits_after base m (replicate (left - 1) 0) % M ≡ digits_after base n (replicate left 0) % M
-zero_on base M n m left h e =
-    let f : left ≡ suc (left - 1) = omega arith in
-    after_mod base M (replicate (left - 1) 0) m (n * base + 0) (ap (λ (x : ℕ). x % M) e ∙ mod-mod _ _)
-    ∙ sym (ap (λ (l : ℕ). digits_after base n (replicate l 0) % M) f)
+-- zeros, the last of them after the others
+zeros_end : (base n i : ℕ) → digits_after base n (replicate (suc i) 0) ≡ digits_after base n (replicate i 0) * base + 0
+zeros_end base n zero = refl
+zeros_end base n (suc i) = zeros_end base (n * base + 0) i
+
+pub zero_more : (base M n m k i : ℕ) → m ≡ digits_after base n (replicate i 0) % M → k ≡ (m * base + 0) % M
+    → k ≡ digits_after base n (replicate (i + 1) 0) % M
+zero_more base M n m k i e f =
+    f ∙ digit_mod base M m (digits_after base n (replicate i 0)) 0 (ap (λ (x : ℕ). x % M) e ∙ mod-mod _ _)
+    ∙ sym (ap (λ (j : ℕ). digits_after base n (replicate j 0) % M) (add-one i) ∙ ap (λ (x : ℕ). x % M) (zeros_end base n i))
 
 pub after_append : (base : ℕ) (xs ys : List ℕ) (n : ℕ) → digits_after base n (xs ++ ys) ≡ digits_after base (digits_after base n xs) ys
 after_append base [] ys n = refl

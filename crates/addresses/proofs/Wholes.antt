@@ -1,47 +1,32 @@
 -- Whole strings: so many parts, and groups on both sides of a "::".
 use Prim.Native.Nat.{ℕ, zero, suc, ◌+◌, ◌-◌, ◌%◌, ◌^◌, ◌≤◌, ◌<◌}
-use mathlib.Core.Path.{◌≡◌, refl, sym, ap, ◌∙◌, subst}
-use mathlib.Core.Bool.{Bool, true, false, ◌&&◌, and-false, true≢false}
-use mathlib.Core.Option.{Option, none, some}
+use mathlib.Core.Path.{◌≡◌, refl, sym, ap, ◌∙◌}
+use mathlib.Core.Bool.{true}
+use mathlib.Core.Option.{some}
 use mathlib.Core.List.{List, [], ◌∷◌, ◌++◌}
 use native.Mathlib.Nat.{mod-mod, mod-eq_of_lt, lt_of_lt_of_le}
 use native.Mathlib.Omega.{arith}
-use borrow.Author.Tests.{eqb-true, le-leb, lt-leb}
+use borrow.Author.Tests.{eq-eqb, le-leb}
 use lib.ListN.{length, replicate, length-append, length-map, length-replicate}
-use lib.Dec.{eqb, lit<}
+use lib.Dec.{lit<}
 use Rattle.paper.specs.Numbers.{digits_after, in_base}
-use Rattle.paper.specs.Addresses.{Scheme, ipv6, only, every, is_group, groups, eight_groups, gapped}
+use Rattle.paper.specs.Addresses.{Scheme, ipv6, every, is_group, groups, eight_groups, gapped}
 use Rattle.number.specs.Values.{value}
-use Rattle.addresses.specs.declared.Address.{Address}
 use Rattle.addresses.specs.declared.groups.PartsRead.{PartsRead}
-use Rattle.addresses.specs.Reads.{ReadAs, is_part, scale_of, numbers, parts_of, whole_of, Grouped}
+use Rattle.addresses.specs.Reads.{scale_of, numbers, parts_of, whole_of, GroupedAs}
 use Rattle.addresses.proofs.Digits.{Below, after_lt, after_mod, after_append, parts_below, parts_lt}
 
--- what a string is read as is what another equation says it is
-pub read_as : {n m : Option ℕ} {r : Address} → n ≡ m → ReadAs n r → ReadAs m r
-read_as {r} e h = subst (λ o. ReadAs o r) e h
-
-pub read_good : (r : Address) {n : Option ℕ} → r.ok ≡ true → some (value r.number) ≡ n → ReadAs n r
-read_good r o e = record { says = rw o e; clear = λ h. absurd (true≢false (sym o ∙ h)) }
-
-pub whole_bad : (k : Scheme) (wanted : ℕ) (ps : List (List ℕ)) → every (is_part k) ps ≡ false → whole_of k wanted ps ≡ none
-whole_bad k wanted ps e = rw (e, and-false)
-
-pub whole_good : (k : Scheme) (wanted : ℕ) (ps : List (List ℕ)) (r : PartsRead) → scale_of k ^ wanted ≤ 2 ^ 128 → Grouped k ps 0 r → r.ok ≡ true
-    → only (eqb r.count wanted) (value r.number) ≡ whole_of k wanted ps
-whole_good k wanted ps r l g o = rw (g.counted o, sym g.told ∙ o) (go (eqb (length ps) wanted) refl)
-  where
-    go : (t : Bool) → eqb (length ps) wanted ≡ t
-        → only (eqb (length ps) wanted) (value r.number) ≡ only (eqb (length ps) wanted && true) (in_base (scale_of k) (numbers k ps))
-    go true e =
-        let n : length ps ≡ wanted = eqb-true (length ps) wanted e in
-        let m : in_base (scale_of k) (numbers k ps) < scale_of k ^ wanted = rw n at (parts_lt k ps (sym g.told ∙ o)) in
-        rw e (ap some (g.grown o ∙ mod-eq_of_lt (lt_of_lt_of_le m l)))
-    go false e = rw e
+-- a string of so many parts
+module _ (k : Scheme) (wanted : ℕ) (ps : List (List ℕ)) (most : ℕ) (r : PartsRead) (g : GroupedAs k ps 0 most r) where
+  pub whole_good : scale_of k ^ wanted ≤ 2 ^ 128 → r.count ≡ wanted → some (value r.number) ≡ whole_of k wanted ps
+  whole_good l c =
+      let n : length ps ≡ wanted = sym g.counted ∙ c in
+      let m : in_base (scale_of k) (numbers k ps) < scale_of k ^ wanted = rw n at (parts_lt k ps g.told) in
+      rw (eq-eqb (length ps) wanted n, g.told) (ap some (g.grown ∙ mod-eq_of_lt (lt_of_lt_of_le m l)))
 
 -- no part
-pub none_grouped : (k : Scheme) (r : PartsRead) → r.ok ≡ true → r.count ≡ 0 → value r.number < 2 ^ 128 → Grouped k [] (value r.number) r
-none_grouped k r o c l = record { told = o; counted = λ _. c; grown = λ _. sym (mod-eq_of_lt l) }
+pub none_grouped : (r : PartsRead) → r.count ≡ 0 → value r.number < 2 ^ 128 → GroupedAs ipv6 [] (value r.number) 0 r
+none_grouped r c l = record { told = refl; counted = c; grown = sym (mod-eq_of_lt l); few = omega (arith, c) }
 
 pub no_bytes : (s : List ℕ) → length s ≡ 0 → s ≡ []
 no_bytes [] e = refl
@@ -65,15 +50,6 @@ below_zeros base zero h = tt
 below_zeros base (suc n) h = (h, below_zeros base n h)
 
 module _ (ps qs : List (List ℕ)) where
-  pub gapped_left : every is_group ps ≡ false → gapped ps qs ≡ none
-  gapped_left e = rw (e, and-false)
-
-  pub gapped_right : every is_group qs ≡ false → gapped ps qs ≡ none
-  gapped_right e = rw (e, and-false)
-
-  pub gapped_many : 7 < length ps + length qs → gapped ps qs ≡ none
-  gapped_many l = rw (lt-leb (length ps + length qs) 7 l)
-
   pub gapped_good : every is_group ps ≡ true → every is_group qs ≡ true → length ps + length qs ≤ 7 → (f z n : ℕ)
       → f ≡ digits_after 65536 0 (numbers ipv6 ps) % 2 ^ 128
       → z ≡ digits_after 65536 f (replicate (8 - (length ps + length qs)) 0) % 2 ^ 128

@@ -1,6 +1,6 @@
 -- What the crate's types say in the paper's words, and how the three schemes differ.
-use Rattle.std.specs.Prelude.{ℕ, ◌%◌, ◌^◌, ◌≡◌, Bool, true, false, not, ◌&&◌, List, [], ◌∷◌, map, length, eqb}
-use Rattle.std.proofs.Math.Option.{Option, none, some}
+use Rattle.std.specs.Prelude.{ℕ, ◌%◌, ◌^◌, ◌≡◌, ◌≤◌, Option, Some, None, Bool, true, false, not, ◌&&◌, List, [], ◌∷◌, map, length, eqb}
+use Rattle.std.proofs.Math.Option as maybe
 use Rattle.paper.specs.Numbers.{digits_after, in_base}
 use Rattle.paper.specs.Tokens.{is, starts}
 use Rattle.paper.specs.Addresses as A
@@ -8,9 +8,7 @@ use Rattle.paper.specs.Addresses.{only, every, value_of}
 use Rattle.number.specs.Values.{value}
 use Rattle.addresses.specs.declared.Scheme.{Scheme}
 use Rattle.addresses.specs.declared.Scheme.TheVariants as S
-use Rattle.addresses.specs.declared.SchemeName.{SchemeName}
-use Rattle.addresses.specs.declared.SchemeName.TheVariants as N
-use Rattle.addresses.specs.declared.Address.{Address}
+use Rattle.number.specs.declared.magnitude.Magnitude.{Magnitude}
 use Rattle.addresses.specs.declared.groups.PartsRead.{PartsRead}
 
 abbrev pub scheme : Scheme → A.Scheme
@@ -18,17 +16,18 @@ scheme S.Ipv4 = A.ipv4
 scheme S.Ipv6 = A.ipv6
 scheme S.Mac = A.mac
 
-abbrev pub named : SchemeName → Option A.Scheme
-named (N.Is s) = some (scheme s)
-named N.Other = none
+-- the paper's option
 
-abbrev pub address : Address → Option ℕ
-address r = only r.ok (value r.number)
+abbrev pub named : Option Scheme → maybe.Option A.Scheme
+named (Some s) = maybe.some (scheme s)
+named None = maybe.none
 
--- the paper's number, and no other beside a bad string
-pub record ReadAs (n : Option ℕ) (r : Address) : Type 0 where
-  pub says : address r ≡ n
-  pub clear : r.ok ≡ false → value r.number ≡ 0
+abbrev pub address : Option Magnitude → maybe.Option ℕ
+address (Some m) = maybe.some (value m)
+address None = maybe.none
+
+abbrev pub ReadAs : maybe.Option ℕ → Option Magnitude → Type 0
+ReadAs n r = address r ≡ n
 
 -- of each scheme: the byte between two parts, what a part may be, the base of its digits, and how far a part moves those before it
 
@@ -62,7 +61,7 @@ abbrev pub within : ℕ → ℕ → Bool
 within separator b = not (eqb b separator)
 
 -- so many parts, all good
-abbrev pub whole_of : A.Scheme → ℕ → List (List ℕ) → Option ℕ
+abbrev pub whole_of : A.Scheme → ℕ → List (List ℕ) → maybe.Option ℕ
 whole_of s wanted ps = only (eqb (length ps) wanted && every (is_part s) ps) (in_base (scale_of s) (numbers s ps))
 
 -- "::" comes first
@@ -73,8 +72,13 @@ gap_at (b ∷ s) = is ":" b && starts (is ":") s
 abbrev pub zero_first : List ℕ → Bool
 zero_first s = not (eqb (length s) 1) && starts (is "0") s
 
--- parts after a number
-pub record Grouped (s : A.Scheme) (ps : List (List ℕ)) (n : ℕ) (r : PartsRead) : Type 0 where
-  pub told : r.ok ≡ every (is_part s) ps
-  pub counted : r.ok ≡ true → r.count ≡ length ps
-  pub grown : r.ok ≡ true → value r.number ≡ digits_after (scale_of s) n (numbers s ps) % 2 ^ 128
+-- parts of so many bytes, after a number
+pub record GroupedAs (s : A.Scheme) (ps : List (List ℕ)) (n most : ℕ) (r : PartsRead) : Type 0 where
+  pub told : every (is_part s) ps ≡ true
+  pub counted : r.count ≡ length ps
+  pub grown : value r.number ≡ digits_after (scale_of s) n (numbers s ps) % 2 ^ 128
+  pub few : r.count ≤ most
+
+abbrev pub Grouped : A.Scheme → List (List ℕ) → ℕ → ℕ → Option PartsRead → Type 0
+Grouped s ps n most (Some r) = GroupedAs s ps n most r
+Grouped s ps n most None = every (is_part s) ps ≡ false

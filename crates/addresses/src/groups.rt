@@ -4,15 +4,14 @@ ghost use Rattle.paper.specs.Tokens.{span};
 ghost use Rattle.number.specs.Values.{value};
 ghost use Rattle.addresses.specs.Reads.{scheme, ReadAs, separates, within, parts_of, base_of, scale_of, Grouped, whole_of};
 
+use crate::Scheme;
 use crate::parts::{is_part, value_of};
-use crate::{Address, Scheme, bad};
 use number::Magnitude;
 use spelling::bytes::{DECIMAL, HEX};
 
-// Whether all parts are good; if so, how many there are, and the number that they are after another.
+// How many parts a string has, and the number that they are after another.
 #[derive(Clone, Copy)]
 pub struct PartsRead {
-    pub ok: bool,
     pub count: usize,
     pub number: Magnitude,
 }
@@ -22,8 +21,7 @@ fn separator(kind: Scheme) -> u8
 {
     match kind {
         Scheme::Ipv4 => b'.',
-        Scheme::Ipv6 => b':',
-        Scheme::Mac => b':',
+        Scheme::Ipv6 | Scheme::Mac => b':',
     }
 }
 
@@ -32,8 +30,7 @@ fn base(kind: Scheme) -> u8
 {
     match kind {
         Scheme::Ipv4 => DECIMAL,
-        Scheme::Ipv6 => HEX,
-        Scheme::Mac => HEX,
+        Scheme::Ipv6 | Scheme::Mac => HEX,
     }
 }
 
@@ -41,74 +38,37 @@ fn scale(kind: Scheme) -> u32
     ensures { result ≡ scale_of (scheme kind) }
 {
     match kind {
-        Scheme::Ipv4 => 256,
+        Scheme::Ipv4 | Scheme::Mac => 256,
         Scheme::Ipv6 => 65536,
-        Scheme::Mac => 256,
     }
 }
 
-// Where the part ends that starts at an offset.
-fn part_end(string: &[u8], at: usize, separator: u8) -> usize
-    requires { at ≤ length string.now }
-    ensures { (result ≡ at + span (within separator) (drop at string.now)) × (result ≤ length string.now) }
+// Reads all parts of a string, if they are good: how many they are, and the number that they are after another one.
+pub(crate) fn groups(kind: Scheme, string: &[u8], before: Magnitude) -> Option<PartsRead>
+    ensures { Grouped (scheme kind) (parts_of (scheme kind) string.now) (value before) (length string.now) result }
 {
-    let mut i = at;
-    while i < string.len() {
-        if string[i] == separator {
-            return i;
-        }
-        i += 1;
-    }
-    i
-}
-
-// Reads all parts of a string, and the number that they are after another one.
-pub(crate) fn groups(kind: Scheme, string: &[u8], before: Magnitude) -> PartsRead
-    ensures grouped { Grouped (scheme kind) (parts_of (scheme kind) string.now) (value before) result }
-    ensures count_in_bounds { result.count ≤ length string.now }
-{
+    let separator = separator(kind);
     let mut number = before;
     let mut count = 0;
-    let mut at = 0;
-    loop {
-        let end = part_end(string, at, separator(kind));
-        let part = &string[at..end];
+    for part in string.split(|byte| *byte == separator) {
         if !is_part(kind, part) {
-            return PartsRead {
-                ok: false,
-                count: count,
-                number: number,
-            };
+            return None;
         }
-        let grown = number.grow(scale(kind), value_of(part, base(kind)));
-        number = grown.number;
+        number = number.wrapping_grow(scale(kind), value_of(part, base(kind)));
         count += 1;
-        if end == string.len() {
-            return PartsRead {
-                ok: true,
-                count: count,
-                number: number,
-            };
-        }
-        at = end + 1;
     }
+    Some(PartsRead { count, number })
 }
 
 // Reads a string of so many parts.
-pub(crate) fn whole(kind: Scheme, string: &[u8], wanted: usize) -> Address
+pub(crate) fn whole(kind: Scheme, string: &[u8], wanted: usize) -> Option<Magnitude>
     requires { scale_of (scheme kind) ^ wanted ≤ 2 ^ 128 }
     ensures { ReadAs (whole_of (scheme kind) wanted (parts_of (scheme kind) string.now)) result }
 {
-    let all = groups(kind, string, Magnitude::zero());
-    if !all.ok {
-        return bad();
-    }
-    if all.count != wanted {
-        return bad();
-    }
-    let number = all.number;
-    Address {
-        ok: true,
-        number: number,
+    let all = groups(kind, string, Magnitude::zero())?;
+    if all.count == wanted {
+        Some(all.number)
+    } else {
+        None
     }
 }

@@ -5,8 +5,8 @@ ghost use Rattle.paper.specs.Addresses as paper;
 ghost use Rattle.number.specs.Values.{value};
 ghost use Rattle.addresses.specs.Reads.{ReadAs, gap_at, Grouped};
 
+use crate::Scheme;
 use crate::groups::{PartsRead, groups, whole};
-use crate::{Address, Scheme, bad};
 use number::Magnitude;
 
 // Whether a "::" stands at an offset.
@@ -14,40 +14,27 @@ fn gap_at(string: &[u8], at: usize) -> bool
     requires { at < length string.now }
     ensures { result ≡ gap_at (drop at string.now) }
 {
-    if string[at] != b':' {
-        return false;
-    }
-    if string.len() <= at + 1 {
-        return false;
-    }
-    string[at + 1] == b':'
+    matches!(&string[at..], [b':', b':', ..])
 }
 
 // How many bytes stand before the first "::", or all of them.
 fn before_gap(string: &[u8]) -> usize
     ensures { result ≡ paper.before_gap string.now }
 {
-    let mut i = 0;
-    while i < string.len() {
-        if gap_at(string, i) {
-            return i;
-        }
-        i += 1;
-    }
-    i
+    (0..string.len())
+        .take_while(|at| !gap_at(string, *at))
+        .count()
 }
 
 // The groups on one side of a "::", of which there may be none, after a number.
-fn side(string: &[u8], before: Magnitude) -> PartsRead
-    ensures grouped { Grouped paper.ipv6 (paper.groups string.now) (value before) result }
-    ensures count_in_bounds { result.count ≤ length string.now }
+fn side(string: &[u8], before: Magnitude) -> Option<PartsRead>
+    ensures { Grouped paper.ipv6 (paper.groups string.now) (value before) (length string.now) result }
 {
-    if string.len() == 0 {
-        return PartsRead {
-            ok: true,
+    if string.is_empty() {
+        return Some(PartsRead {
             count: 0,
             number: before,
-        };
+        });
     }
     groups(Scheme::Ipv6, string, before)
 }
@@ -56,43 +43,25 @@ fn side(string: &[u8], before: Magnitude) -> PartsRead
 fn with_zeros(before: Magnitude, count: usize) -> Magnitude
     ensures { value result ≡ digits_after 65536 (value before) (replicate count 0) % 2 ^ 128 }
 {
-    let mut number = before;
-    let mut left = count;
-    while 0 < left {
-        let grown = number.grow(65536, 0);
-        number = grown.number;
-        left -= 1;
-    }
-    number
+    (0..count).fold(before, |number, _| number.wrapping_grow(65536, 0))
 }
 
 // What stands before a "::" and after it.
-fn gapped(left: &[u8], right: &[u8]) -> Address
+fn gapped(left: &[u8], right: &[u8]) -> Option<Magnitude>
     ensures { ReadAs (paper.gapped (paper.groups left.now) (paper.groups right.now)) result }
 {
-    let first = side(left, Magnitude::zero());
-    let second = side(right, Magnitude::zero());
-    if !first.ok {
-        return bad();
-    }
-    if !second.ok {
-        return bad();
-    }
+    let first = side(left, Magnitude::zero())?;
+    let second = side(right, Magnitude::zero())?;
     let count = first.count + second.count;
     if 7 < count {
-        return bad();
+        return None;
     }
-    let number = first.number;
-    let all = side(right, with_zeros(number, 8 - count));
-    let whole = all.number;
-    Address {
-        ok: true,
-        number: whole,
-    }
+    let all = side(right, with_zeros(first.number, 8 - count))?;
+    Some(all.number)
 }
 
 // Reads the string of an ipv6 address.
-pub(crate) fn read_ipv6(string: &[u8]) -> Address
+pub(crate) fn read_ipv6(string: &[u8]) -> Option<Magnitude>
     ensures { ReadAs (paper.ipv6_of string.now) result }
 {
     let gap = before_gap(string);

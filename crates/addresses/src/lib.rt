@@ -9,7 +9,6 @@ mod ipv6;
 mod parts;
 
 ghost use Rattle.std.specs.Prelude.{◌≡◌};
-ghost use Rattle.std.proofs.Math.Option.{none};
 ghost use Rattle.paper.specs.Addresses as paper;
 ghost use Rattle.addresses.specs.Reads.{named, scheme, ReadAs};
 
@@ -23,48 +22,23 @@ pub enum Scheme {
     Mac,
 }
 
-// A word that begins an address, or another.
-#[derive(Clone, Copy)]
-pub enum SchemeName {
-    Is(Scheme),
-    Other,
-}
-
-// Whether a string is good; if so, its number, and else zero.
-#[derive(Clone, Copy)]
-pub struct Address {
-    pub ok: bool,
-    pub number: Magnitude,
-}
-
-// What a bad string is read as.
-fn bad() -> Address
-    ensures { ReadAs none result }
-{
-    Address {
-        ok: false,
-        number: Magnitude::zero(),
-    }
-}
-
-// The scheme of which a word begins an address.
-pub fn scheme_of(word: &[u8]) -> SchemeName
+// The scheme of which a word begins an address, if it begins one.
+pub fn scheme_of(word: &[u8]) -> Option<Scheme>
     ensures { named result ≡ paper.scheme_of word.now }
 {
     if same_bytes(word, b"ipv4") {
-        return SchemeName::Is(Scheme::Ipv4);
+        Some(Scheme::Ipv4)
+    } else if same_bytes(word, b"ipv6") {
+        Some(Scheme::Ipv6)
+    } else if same_bytes(word, b"mac") {
+        Some(Scheme::Mac)
+    } else {
+        None
     }
-    if same_bytes(word, b"ipv6") {
-        return SchemeName::Is(Scheme::Ipv6);
-    }
-    if same_bytes(word, b"mac") {
-        return SchemeName::Is(Scheme::Mac);
-    }
-    SchemeName::Other
 }
 
-// Reads the string of an address.
-pub fn read(kind: Scheme, string: &[u8]) -> Address
+// Reads the string of an address: the number that it stands for, if it is good.
+pub fn read(kind: Scheme, string: &[u8]) -> Option<Magnitude>
     ensures { ReadAs (paper.address (scheme kind) string.now) result }
 {
     match kind {

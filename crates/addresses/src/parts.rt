@@ -19,10 +19,8 @@ pub(crate) fn value_of(part: &[u8], base: u8) -> u32
     ensures { result ≡ paper.value_of base part.now }
 {
     let mut value = 0;
-    let mut i = 0;
-    while i < part.len() {
-        value = value * base as u32 + digit_of(part[i]) as u32;
-        i += 1;
+    for byte in part {
+        value = value * base as u32 + digit_of(*byte) as u32;
     }
     value
 }
@@ -31,50 +29,30 @@ pub(crate) fn value_of(part: &[u8], base: u8) -> u32
 fn zero_first(part: &[u8]) -> bool
     ensures { result ≡ zero_first part.now }
 {
-    if part.len() < 2 {
-        return false;
-    }
-    part[0] == b'0'
+    matches!(part, [b'0', _, ..])
 }
 
 // 0 to 255.
 fn is_decimal(part: &[u8]) -> bool
     ensures { result ≡ paper.is_decimal part.now }
 {
-    if part.len() < 1 {
-        return false;
-    }
-    if 3 < part.len() {
-        return false;
-    }
-    if !all_digits(part, DECIMAL) {
-        return false;
-    }
-    if zero_first(part) {
-        return false;
-    }
-    value_of(part, DECIMAL) <= 255
+    1 <= part.len()
+        && part.len() <= 3
+        && all_digits(part, DECIMAL)
+        && !zero_first(part)
+        && value_of(part, DECIMAL) <= 255
 }
 
 fn is_pair(part: &[u8]) -> bool
     ensures { result ≡ paper.is_pair part.now }
 {
-    if part.len() != 2 {
-        return false;
-    }
-    all_digits(part, HEX)
+    part.len() == 2 && all_digits(part, HEX)
 }
 
 fn is_group(part: &[u8]) -> bool
     ensures { result ≡ paper.is_group part.now }
 {
-    if part.len() < 1 {
-        return false;
-    }
-    if 4 < part.len() {
-        return false;
-    }
-    all_digits(part, HEX)
+    1 <= part.len() && part.len() <= 4 && all_digits(part, HEX)
 }
 
 // Whether bytes are a part of an address of a scheme.

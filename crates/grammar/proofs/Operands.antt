@@ -1,7 +1,7 @@
 -- Operands: after a prefix operator, in parentheses, and where neither is the next token.
 use Prim.Native.Nat.{ℕ, zero, suc, ◌+◌, ◌-◌, ◌≤◌, ◌<◌}
 use Rattle.paper.specs.declared.Refusal.{Refusal}
-use Rattle.std.specs.Prelude.{Result, Ok, Err}
+use Rattle.std.specs.Prelude.{Result, Ok, Err, None}
 use mathlib.Core.Path.{◌≡◌, refl, sym, ap, ◌∙◌}
 use mathlib.Core.Bool.{false, cond}
 use mathlib.Core.Logic.{◌⊎◌, ⊎_elim, inl, inr}
@@ -17,7 +17,6 @@ use Rattle.paper.specs.Grammar as G
 use Rattle.paper.specs.Grammar.{Tree, Out, got, stuck, deep, Parser, Reader, ◌>>>◌, closed, is_sign, operand, operand_at, signed, prefixes, sequence}
 use Rattle.tokens.specs.Tape.{Tape, kind_at, first_prefix, last_prefix, token_on, sign_no}
 use Rattle.grammar.specs.declared.steps.Taken.{Taken}
-use Rattle.grammar.specs.declared.tape.Next.TheVariants.{Other}
 use Rattle.grammar.specs.Ladder as L
 use Rattle.trees.specs.Words.{prefix_no, words, operator_words}
 use Rattle.trees.proofs.Stored.{words_length}
@@ -140,7 +139,7 @@ module _ (read : Reader) (inner outer : ℕ → Parser) (T : Tape) (n at : ℕ) 
         }
 
   -- another token: what a prefix operator would stand before does not matter
-  pub prefix_not : Finds T.rows n at first_prefix last_prefix Other → (inner' : ℕ → Parser) → operand read inner outer here ≡ operand read inner' outer here
+  pub prefix_not : Finds T.rows n at first_prefix last_prefix None → (inner' : ℕ → Parser) → operand read inner outer here ≡ operand read inner' outer here
   unfolding operand
   prefix_not h inner' =
       elim (dec_lt at n) [
@@ -174,7 +173,7 @@ module _ (read : Reader) (inner outer : ℕ → Parser) (T : Tape) (n at : ℕ) 
         → (r : Result Taken Refusal) → Closes (length T.text) T.rows n f i r → Meets T n at b (operand read inner outer here) before after r
     paren_close {b} {f} {i} {before} {after} t r c = rw paren_here (close_on T n at (at + 1) b _ before after f i t (omega arith) r c)
 
-  pub paren_not : Finds T.rows n at (sign_no opening) (sign_no opening) Other → (outer' : ℕ → Parser) → operand read inner outer here ≡ operand read inner outer' here
+  pub paren_not : Finds T.rows n at (sign_no opening) (sign_no opening) None → (outer' : ℕ → Parser) → operand read inner outer here ≡ operand read inner outer' here
   unfolding operand
   paren_not h outer' =
       elim (dec_lt at n) [
@@ -195,7 +194,7 @@ module _ (read : Reader) (inner outer : ℕ → Parser) (T : Tape) (n at : ℕ) 
       go d colons e = refl
 
 -- an atom, where no parenthesis is next, is a leaf
-pub leaf_only : (l : ℕ) (T : Tape) (n at : ℕ) → Finds T.rows n at (sign_no opening) (sign_no opening) Other
+pub leaf_only : (l : ℕ) (T : Tape) (n at : ℕ) → Finds T.rows n at (sign_no opening) (sign_no opening) None
     → L.atom l (onward T n at) ≡ L.prefix 0 (onward T n at)
 unfolding prefixes
 leaf_only l T n at h = paren_not address (λ place us. deep place) (λ _. L.sequence false (l - 1)) T n at h (λ place us. deep place)
@@ -214,11 +213,11 @@ module _ (l : ℕ) (some : l ≡ 0 → ⊥) (T : Tape) (n at : ℕ) where
         → last ≡ sets after (node_at f) (operator_words (prefixed_kind k) (place_on T at) 0) → Took T n at b (L.prefix l (onward T n at)) before last (f + 1) i
     level_took r put = rw level (prefix_took address _ _ T n at h r put)
 
-  pub level_not : Finds T.rows n at first_prefix last_prefix Other → L.prefix l (onward T n at) ≡ L.atom l (onward T n at)
+  pub level_not : Finds T.rows n at first_prefix last_prefix None → L.prefix l (onward T n at) ≡ L.atom l (onward T n at)
   level_not h = level ∙ prefix_not address _ _ T n at h (λ place us. deep place)
 
 -- where no token opens a level, it does not matter how many are left
-pub leaf_first : (l : ℕ) (T : Tape) (n at : ℕ) → Finds T.rows n at first_prefix (sign_no opening) Other
+pub leaf_first : (l : ℕ) (T : Tape) (n at : ℕ) → Finds T.rows n at first_prefix (sign_no opening) None
     → L.prefix l (onward T n at) ≡ L.prefix 0 (onward T n at)
 leaf_first zero T n at h = refl
 leaf_first (suc l) T n at h =

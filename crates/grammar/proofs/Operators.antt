@@ -1,4 +1,5 @@
 -- The operators between two operands: which token is one, and what node it makes.
+use Rattle.std.specs.Prelude.{None}
 use Prim.Native.Nat.{ℕ, ◌+◌, ◌-◌, ◌≤◌, ◌<◌}
 use mathlib.Core.Path.{◌≡◌, refl, sym, ap, ◌∙◌}
 use mathlib.Core.Logic.{◌⊎◌, ⊎_elim}
@@ -15,7 +16,6 @@ use Rattle.trees.specs.Words.{words, operator_words, join_no, comparison_no, Spe
 use Rattle.grammar.specs.Places.{place_on, onward, joined_kind}
 use Rattle.grammar.specs.declared.steps.Rung.{Rung}
 use Rattle.grammar.specs.declared.steps.Rung.TheVariants as R
-use Rattle.grammar.specs.declared.tape.Next.TheVariants.{Other}
 use Rattle.grammar.specs.Ladder as L
 use Rattle.grammar.specs.Reading.{Seen, Finds}
 use Rattle.grammar.proofs.Tapes.{tokens_here, tokens_none, Stands, by_kind, sign_at}
@@ -131,7 +131,7 @@ module _ (T : Tape) (n i : ℕ) where
             stored = λ b p q. rw (e, compared_no c);
           }
 
-  pub no_join : (o : Join) → Finds T.rows n i (sign_no (join o)) (sign_no (join o)) Other → Apart T n i (joins o)
+  pub no_join : (o : Join) → Finds T.rows n i (sign_no (join o)) (sign_no (join o)) None → Apart T n i (joins o)
   no_join o h =
       apart T n i (joins o) λ lt.
       by_kind T i (λ t. by_sign t (sign_joins o (place_on T i)) ≡ none) (λ _. refl) (λ _. refl) (λ _. refl) (go (h lt))
@@ -147,7 +147,7 @@ module _ (T : Tape) (n i : ℕ) where
       go d closing e = refl
       go d colons e = refl
 
-  pub no_comparison : Finds T.rows n i first_comparison last_comparison Other → Apart T n i compares
+  pub no_comparison : Finds T.rows n i first_comparison last_comparison None → Apart T n i compares
   no_comparison h =
       apart T n i compares λ lt.
       by_kind T i (λ t. by_sign t (sign_compares (place_on T i)) ≡ none) (λ _. refl) (λ _. refl) (λ _. refl) (go (h lt))
@@ -170,7 +170,7 @@ module _ (T : Tape) (n i : ℕ) where
   operating R.Conjunction h = joining and_also h
   operating R.Comparison h = comparing h
 
-  pub no_operator : (rung : Rung) → Finds T.rows n i (L.lowest rung) (L.highest rung) Other → Apart T n i (L.operators rung)
+  pub no_operator : (rung : Rung) → Finds T.rows n i (L.lowest rung) (L.highest rung) None → Apart T n i (L.operators rung)
   no_operator R.Whole h = no_join sequel h
   no_operator R.Sequence h = no_join sequel h
   no_operator R.Implication h = no_join implies h

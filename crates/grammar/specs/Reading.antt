@@ -1,5 +1,5 @@
 -- What the parser's functions ask of the tape and of the nodes, and what they say of their answers.
-use Rattle.std.specs.Prelude.{ℕ, ◌+◌, ◌*◌, ◌-◌, ◌≤◌, ◌<◌, ◌≡◌, Bool, cond, ◌&&◌, ◌⊎◌, List, [], ◌∷◌, length, get_or, eqb, ltb, Result, Ok, Err}
+use Rattle.std.specs.Prelude.{ℕ, ◌+◌, ◌*◌, ◌-◌, ◌≤◌, ◌<◌, ◌≡◌, Bool, cond, ◌&&◌, ◌⊎◌, List, [], ◌∷◌, length, get_or, eqb, ltb, Result, Ok, Err, Option, Some, None}
 use Rattle.paper.specs.declared.Refusal.{Refusal}
 use Rattle.std.proofs.lemmas.List.Edits.{sets}
 use Rattle.std.proofs.Math.Seq.{slice}
@@ -13,8 +13,6 @@ use Rattle.tokens.specs.Tape.{Tape, tokens_on, kind_at, start_at, end_at, word_n
 use Rattle.tokens.specs.Tokenized.{Sound}
 use Rattle.grammar.specs.Places.{onward, node_words, node_at}
 use Rattle.grammar.specs.declared.steps.Taken.{Taken}
-use Rattle.grammar.specs.declared.tape.Next.{Next}
-use Rattle.grammar.specs.declared.tape.Next.TheVariants.{Is, Other}
 use Rattle.trees.specs.Words.{words, Spelled}
 
 -- where a reading starts: how many tokens there are, how many levels may still be opened, the next token, and the next free node
@@ -106,9 +104,9 @@ pub record Seen (rows : List ℕ) (n at lowest highest k : ℕ) : Type 0 where
   pub low : lowest ≤ k
   pub high : k ≤ highest
 
-abbrev pub Finds : List ℕ → ℕ → ℕ → ℕ → ℕ → Next → Type 0
-Finds rows n at lowest highest (Is k) = Seen rows n at lowest highest k
-Finds rows n at lowest highest Other = at < n → (kind_at rows at < lowest) ⊎ (highest < kind_at rows at)
+abbrev pub Finds : List ℕ → ℕ → ℕ → ℕ → ℕ → Option ℕ → Type 0
+Finds rows n at lowest highest (Some k) = Seen rows n at lowest highest k
+Finds rows n at lowest highest None = at < n → (kind_at rows at < lowest) ⊎ (highest < kind_at rows at)
 
 -- the place of the first of the tokens from `at` on, or the text's end
 abbrev pub place_from : ℕ → List ℕ → ℕ → ℕ → Place

@@ -12,7 +12,7 @@ ghost use Rattle.grammar.specs.Reading.{start_of, Ready, Reads, Continues, Finds
 use crate::leaves::{close, leaf};
 use crate::steps::{COUNT, LEVELS_LEFT, NODE, Rung, Start, TOKEN, Taken, Tighter, inside, moved};
 use crate::store::{put_joined, put_prefixed};
-use crate::tape::{Next, next_in};
+use crate::tape::next_in;
 use paper::Refusal;
 use tokens::kinds::{AND_ALSO, AT_MOST, EQUAL, IMPLIES, MINUS, NOT, OPENING, OR_ELSE, SEQUEL};
 
@@ -35,7 +35,7 @@ fn signs_of(rung: Rung) -> KindRange
 }
 
 // Whether an operator of a rung is the token of an index, and of which kind.
-fn operator_at(tape: &[u32], rung: Rung, count: usize, at: usize) -> Next
+fn operator_at(tape: &[u32], rung: Rung, count: usize, at: usize) -> Option<u32>
     requires { count * row_words ≤ length tape.now }
     ensures { Finds tape.now count at (L.lowest rung) (L.highest rung) result }
 {
@@ -126,7 +126,7 @@ fn operand(
     ensures { Reads (L.operand_of rung) (tape_of text.now tape.now) (start_of from.now) nodes.old nodes.new result }
 {
     let Tighter::Rung(next) = tighter(rung) else {
-        let Next::Is(_) = next_in(tape, from[COUNT], from[TOKEN], NOT, OPENING) else {
+        let Some(_) = next_in(tape, from[COUNT], from[TOKEN], NOT, OPENING) else {
             return leaf(text, tape, from, nodes);
         };
         return prefix(text, tape, from, nodes);
@@ -185,7 +185,7 @@ fn further(
     let mut past = from[NODE];
     let mut next = from[TOKEN];
     loop {
-        let Next::Is(sign) = operator_at(tape, rung, from[COUNT], next) else {
+        let Some(sign) = operator_at(tape, rung, from[COUNT], next) else {
             return Ok(Taken {
                 node: past,
                 token: next,
@@ -225,7 +225,7 @@ fn prefix(text: &[u8], tape: &[u32], from: &Start, nodes: &mut [u32]) -> Result<
         return leaf(text, tape, from, nodes);
     }
     let at = from[TOKEN];
-    let Next::Is(sign) = next_in(tape, from[COUNT], at, NOT, MINUS) else {
+    let Some(sign) = next_in(tape, from[COUNT], at, NOT, MINUS) else {
         return atom(text, tape, from, nodes);
     };
     let onward = inside(from);
@@ -247,7 +247,7 @@ fn atom(text: &[u8], tape: &[u32], from: &Start, nodes: &mut [u32]) -> Result<Ta
     requires ready { Ready (tape_of text.now tape.now) (length nodes.old) (start_of from.now) }
     ensures { Reads L.atom (tape_of text.now tape.now) (start_of from.now) nodes.old nodes.new result }
 {
-    let Next::Is(_) = next_in(tape, from[COUNT], from[TOKEN], OPENING, OPENING) else {
+    let Some(_) = next_in(tape, from[COUNT], from[TOKEN], OPENING, OPENING) else {
         return leaf(text, tape, from, nodes);
     };
     let onward = inside(from);

@@ -14,8 +14,8 @@ ghost use Rattle.grammar.specs.Reading.{start_of, Ready, Leads, Worded, Reads, B
 
 use crate::steps::{COUNT, NODE, Start, TOKEN, Taken};
 use crate::store::{put_attribute, put_field, put_number};
-use crate::tape::{Next, next_in, place_at, string_at, word_at};
-use addresses::{Scheme, SchemeName};
+use crate::tape::{next_in, place_at, string_at, word_at};
+use addresses::Scheme;
 use number::Literal;
 use paper::Refusal;
 use paper::refused::{ADDRESS, GRAMMAR, LEVELS_MANY};
@@ -69,7 +69,7 @@ pub(crate) fn close(
     requires { Sound (tape_of text.now tape.now) count }
     ensures { Closes (length text.now) tape.now count free at result }
 {
-    let Next::Is(_) = next_in(tape, count, at, CLOSING, CLOSING) else {
+    let Some(_) = next_in(tape, count, at, CLOSING, CLOSING) else {
         return Err(Refusal {
             number: GRAMMAR,
             place: place_at(text, tape, count, at),
@@ -146,7 +146,7 @@ fn is_name(text: &[u8], tape: &[u32], count: usize, at: usize) -> bool
     requires { Sound (tape_of text.now tape.now) count }
     ensures { result ≡ is_name (tape_of text.now tape.now) count at }
 {
-    let Next::Is(_) = next_in(tape, count, at, WORD, WORD) else {
+    let Some(_) = next_in(tape, count, at, WORD, WORD) else {
         return false;
     };
     undotted(word_at(text, tape, at))
@@ -201,13 +201,13 @@ fn keyed(text: &[u8], tape: &[u32], from: &Start, nodes: &mut [u32]) -> Result<T
     let at = from[TOKEN];
     let free = from[NODE];
     let count = from[COUNT];
-    if let Next::Is(_) = next_in(tape, count, at + 1, COLONS, COLONS) {
+    if let Some(_) = next_in(tape, count, at + 1, COLONS, COLONS) {
         return field(text, tape, from, nodes);
     }
-    let Next::Is(_) = next_in(tape, count, at + 1, OPENING, OPENING) else {
+    let Some(_) = next_in(tape, count, at + 1, OPENING, OPENING) else {
         return key_node(tape, at, free, nodes);
     };
-    let SchemeName::Is(scheme) = addresses::scheme_of(word_at(text, tape, at)) else {
+    let Some(scheme) = addresses::scheme_of(word_at(text, tape, at)) else {
         return key_node(tape, at, free, nodes);
     };
     addressed(text, tape, scheme, from, nodes)
@@ -251,20 +251,18 @@ fn addressed(
     let free = from[NODE];
     let count = from[COUNT];
     let quote = at + 2;
-    let Next::Is(_) = next_in(tape, count, quote, STRING, STRING) else {
+    let Some(_) = next_in(tape, count, quote, STRING, STRING) else {
         return Err(Refusal {
             number: GRAMMAR,
             place: place_at(text, tape, count, quote),
         });
     };
-    let read = addresses::read(scheme, string_at(text, tape, quote));
-    if !read.ok {
+    let Some(number) = addresses::read(scheme, string_at(text, tape, quote)) else {
         return Err(Refusal {
             number: ADDRESS,
             place: place_at(text, tape, count, quote),
         });
-    }
-    let number = read.number;
+    };
     // "address numerals stay decimal"
     put_number(tape, nodes, free, at, Literal::plain(number));
     close(text, tape, count, free + 1, quote + 1)

@@ -1,9 +1,12 @@
 -- Numbers as bytes, the highest first: read, and written.
 -- Assumes nothing.
-use Rattle.std.proofs.Common.{◌≡◌, ℕ, zero, suc, ◌+◌, ◌*◌, ◌/◌, ◌%◌, ◌^◌, ◌<◌, ◌≤◌, List, [], ◌∷◌, ◌++◌, length, set, sym, refl, ap, ◌∙◌, ap₂, add-zero, add_assoc, add-suc, mod-eq_of_lt, mul_assoc, add_comm, suc-add, pow-suc, zero-add, mul-one, add-one, one-add, arith, lit<, length-set, get_or-set_other, get_or-set_same, pow-add}
+use Rattle.std.proofs.Common.{◌≡◌, ℕ, zero, suc, ◌+◌, ◌-◌, ◌*◌, ◌/◌, ◌%◌, ◌^◌, ◌<◌, ◌≤◌, List, [], ◌∷◌, ◌++◌, length, set, take, drop, append_assoc, sym, refl, ap, ◌∙◌, ap₂, add-zero, add_assoc, add-suc, mod-eq_of_lt, mul_assoc, add_comm, suc-add, pow-suc, zero-add, mul-one, add-one, one-add, arith, lit<, length-set, get_or-set_other, get_or-set_same, pow-add}
 use native.Mathlib.Nat.{pow-succ', div-div-eq-div-mul, mod-one, one-le-pow}
 use lib.Arith.{mod-mul}
-use lib.Seq.{sets}
+use borrow.Rule.Slice.PartMut.{put_mid}
+use lib.Seq.{sets, drop-drop}
+use Rattle.std.proofs.lemmas.List.Edits.{sets-eq}
+use Rattle.std.specs.Int.{to_be_bytes, w32}
 use Rattle.paper.specs.Numbers.{byte_at, number_at, big_endian}
 use Rattle.number.specs.declared.magnitude.Magnitude.{Magnitude}
 use Rattle.number.specs.Values.{limb, nested, value}
@@ -48,15 +51,17 @@ pub sets_append : (l : List ℕ) (i : ℕ) (xs ys : List ℕ) → sets l i (xs +
 sets_append l i [] ys = rw (add-zero i)
 sets_append l i (x ∷ xs) ys = sets_append (set l i x) (suc i) xs ys ∙ rw (add-suc i, suc-add i)
 
-pub four_stores : (l : List ℕ) (at n : ℕ) → n < 2 ^ 32
-    → set (set (set (set l at (n / 256 ^ 3)) (at + 1) (n / 256 ^ 2 % 256)) (at + 2) (n / 256 % 256)) (at + 3) (n % 256) ≡ sets l at (big_endian 4 n)
-four_stores l at n h =
-    let e : n / 256 ^ 3 % 256 ≡ n / 256 ^ 3 = omega arith in
-    let f : n / 256 ^ 0 % 256 ≡ n % 256 = omega arith in
-    let a1 : at + 1 ≡ suc at = omega arith in
-    let a2 : at + 2 ≡ suc (suc at) = omega arith in
-    let a3 : at + 3 ≡ suc (suc (suc at)) = omega arith in
-    rw (e, f, a1, a2, a3)
+-- four bytes as the library has them
+pub four_bytes : (n : ℕ) → to_be_bytes w32 n ≡ big_endian 4 n
+four_bytes n =
+    let e : n % 256 ≡ n / 256 ^ 0 % 256 = omega arith in
+    ap (λ (b : ℕ). n / 256 ^ 3 % 256 ∷ (n / 256 ^ 2 % 256 ∷ (n / 256 ^ 1 % 256 ∷ (b ∷ [])))) e
+
+-- a copy: what stands before it, the bytes, and what stands after them
+pub copied : (d s : List ℕ) (at : ℕ) → at + length s ≤ length d → put_mid at (at + length s - at) d s ≡ sets d at s
+copied d s at h =
+    let n : at + length s - at ≡ length s = omega arith in
+    rw (sets-eq s d at h, append_assoc) (ap (λ rest. take at d ++ (s ++ rest)) (ap (λ k. drop k (drop at d)) n ∙ drop-drop (length s) at d))
 
 put_digit : (l : List ℕ) (at j a m : ℕ) → a < 2 ^ 32
     → sets (sets l at (big_endian j m)) (at + j) (big_endian 4 a) ≡ sets l at (big_endian (j + 4) (a + 2 ^ 32 * m))

@@ -1,13 +1,12 @@
 -- Four limbs with what is carried over them, or borrowed.
 -- Assumes nothing.
-use Rattle.std.proofs.Common.{◌≡◌, ℕ, zero, suc, ◌+◌, ◌-◌, ◌*◌, ◌%◌, ◌^◌, ◌<◌, ◌≤◌, true, not, eqb, ltb, sym, refl, ap, ◌∙◌, add-zero, mod-eq_of_lt, mul_assoc, add-mul, mul-le-mul, mul-zero, mul-suc, arith, w32, Fits, ltb-true, lt-ltb, eq-eqb, eqb-true}
+use Rattle.std.proofs.Common.{◌≡◌, ℕ, zero, suc, ◌+◌, ◌-◌, ◌*◌, ◌%◌, ◌^◌, ◌<◌, ◌≤◌, not, eqb, ltb, sym, refl, ap, ◌∙◌, add-zero, mod-eq_of_lt, mul_assoc, add-mul, mul-le-mul, mul-zero, mul-suc, arith, w32, Fits, ltb-true, lt-ltb, eq-eqb, eqb-true}
 use native.Mathlib.Nat.{add-mul-mod_self_left}
 use lib.Dec.{eqb-suc-zero}
 use Rattle.number.specs.declared.digits.Carry.{Carry}
-use Rattle.number.specs.declared.digits.Extended.{Extended}
 use Rattle.number.specs.declared.magnitude.Magnitude.{Magnitude}
 use Rattle.number.specs.declared.width.Borrowed.{Borrowed}
-use Rattle.number.specs.Values.{bit, limb, nested, value, Grows}
+use Rattle.number.specs.Values.{bit, limb, nested, value}
 use Rattle.number.proofs.Orders.{agree}
 
 -- a limb times a base, with what came over: below 2^64
@@ -33,24 +32,13 @@ no_more M n zero t e h = refl
 no_more M n (suc o) t e h = absurd (omega (arith, mul-suc M o))
 
 -- t is n, and o times M
-over_none : (M n o t : ℕ) → n < M → n + M * o ≡ t → eqb o 0 ≡ ltb t M
+pub over_none : (M n o t : ℕ) → n < M → n + M * o ≡ t → eqb o 0 ≡ ltb t M
 over_none M n o t h e =
     agree (eqb o 0) (ltb t M) (λ z. lt-ltb t M (rw (← e, eqb-true o 0 z, mul-zero, add-zero) h))
     (λ l. eq-eqb o 0 (no_more M n o t e (ltb-true t M l)))
 
-rest_of : (M n o t : ℕ) → n < M → n + M * o ≡ t → n ≡ t % M
+pub rest_of : (M n o t : ℕ) → n < M → n + M * o ≡ t → n ≡ t % M
 rest_of M n o t h e = rw (← e, add-mul-mod_self_left) (sym (mod-eq_of_lt h))
-
--- a Magnitude that holds n with o over it
-pub grows : (r : Extended) (o t : ℕ) → r.ok ≡ eqb o 0 → value r.number < 2 ^ 128 → value r.number + 2 ^ 128 * o ≡ t → Grows t r
-grows r o t e h s =
-    record {
-      told = e ∙ over_none (2 ^ 128) (value r.number) o t h s;
-      kept = rest_of (2 ^ 128) (value r.number) o t h s;
-    }
-
-pub grown_exact : {n : ℕ} {r : Extended} → Grows n r → r.ok ≡ true → value r.number ≡ n
-grown_exact {n} g e = g.kept ∙ mod-eq_of_lt (ltb-true n (2 ^ 128) (sym g.told ∙ e))
 
 scale_step : (n o l k c N M : ℕ) → n + 2 ^ 32 * o ≡ l * k + c → N ≡ M * k + o → n + 2 ^ 32 * N ≡ (l + 2 ^ 32 * M) * k + c
 scale_step n o l k c N M e f = rw (f, add-mul l (2 ^ 32 * M) k, mul_assoc (2 ^ 32) M k) (omega arith)

@@ -1,11 +1,8 @@
--- A number is at most half of what w bits count where it is below that half, or is the half itself; and so a number below zero lies in the
--- range of w bits.
+-- A number is at most half of what w bits count where it is below that half, or is the half itself.
 -- Assumes nothing.
-use Rattle.std.proofs.Common.{◌≡◌, ℕ, zero, suc, ◌+◌, ◌-◌, ◌*◌, ◌%◌, ◌^◌, ◌<◌, ◌≤◌, true, false, eqb, leb, pos, neg_ℤ, sym, refl, ap, ◌∙◌, mod-eq_of_lt, arith, pow_pos, pow-add, lt-ltb, eq-eqb, eqb-true, le-leb, leb-true}
+use Rattle.std.proofs.Common.{◌≡◌, ℕ, ◌+◌, ◌-◌, ◌*◌, ◌%◌, ◌^◌, ◌<◌, ◌≤◌, true, false, eqb, leb, sym, ap, ◌∙◌, mod-eq_of_lt, arith, pow_pos, pow-add, eq-eqb, eqb-true, le-leb, leb-true}
 use native.Mathlib.Nat.{mod-eq-sub-mod}
 use borrow.Author.Tests.{lt-leb}
-use lib.Dec.{leb-zero}
-use Rattle.paper.specs.Types.{fits_in}
 use Rattle.number.proofs.Orders.{agree}
 
 -- from the half up to its double, only the half leaves nothing
@@ -34,7 +31,3 @@ module _ (n k w : ℕ) (e : k ≡ w - 1) where
 
   pub past_double : 2 ^ (k + 1) ≤ n → false ≡ leb n (2 ^ (w - 1))
   past_double l = sym (lt-leb n half (let d = doubled k in let p = pow_pos k in omega (arith, d, p, l))) ∙ at_half
-
-pub below_zero_fits : (n w : ℕ) → leb n (2 ^ (w - 1)) ≡ fits_in w (neg_ℤ (pos n))
-below_zero_fits zero w = leb-zero (2 ^ (w - 1)) ∙ sym (lt-ltb 0 (2 ^ w) (pow_pos w))
-below_zero_fits (suc n) w = refl

@@ -10,5 +10,4 @@ pub mod Masks
 pub mod Orders
 pub mod Powers
 pub mod Quotients
-pub mod Signs
 pub mod Zeros

@@ -1,9 +1,14 @@
 -- Two Magnitudes compared limb by limb, from the highest down.
 -- Assumes nothing.
-use Rattle.std.proofs.Common.{◌≡◌, ℕ, ◌+◌, ◌*◌, ◌^◌, ◌<◌, Bool, true, false, eqb, ltb, sym, refl, ◌∙◌, arith, w32, Fits, ltb-true, lt-ltb, eq-eqb, ne_eqb, eqb-true}
+use Rattle.std.proofs.Common.{◌≡◌, ℕ, ◌+◌, ◌*◌, ◌^◌, ◌<◌, ◌≤◌, Bool, true, false, cond, eqb, ltb, List, Some, Option, Less, Ordering, Equal, Greater, get_or, sym, refl, ap, ◌∙◌, mul-suc, le_refl, mul-le-mul_left, arith, ltb-true, lt-ltb, le-ltb, eq-eqb, ne_eqb, eqb-true}
+use native.Mathlib.Decide.{dec_lt}
+use Rattle.std.proofs.lemmas.Bool.Decides.{Decides-eqb}
+use Rattle.std.proofs.lemmas.Slice.Eq.{slice_eq-Decides}
+use Rattle.std.specs.Cmp.Lexicographic.{pointwise}
+use Rattle.std.specs.Ordering.{is_some_and, nat_cmp, is_lt, partial_ordering_then}
 use Rattle.number.specs.declared.magnitude.Magnitude.{Magnitude}
-use Rattle.number.specs.Values.{limb, value}
-use Rattle.number.proofs.Limbs.{Held, digit_same, limb_for_limb}
+use Rattle.number.specs.Values.{limb, nested, value}
+use Rattle.number.proofs.Limbs.{Held, same_value}
 
 pub agree : (s t : Bool) → (s ≡ true → t ≡ true) → (t ≡ true → s ≡ true) → s ≡ t
 agree true t f g = sym (f refl)
@@ -16,53 +21,72 @@ ltb_iff a b c d f g = agree (ltb a b) (ltb c d) (λ h. lt-ltb c d (f (ltb-true a
 pub eqb_iff : (a b c d : ℕ) → (a ≡ b → c ≡ d) → (c ≡ d → a ≡ b) → eqb a b ≡ eqb c d
 eqb_iff a b c d f g = agree (eqb a b) (eqb c d) (λ h. eq-eqb c d (f (eqb-true a b h))) (λ h. eq-eqb a b (g (eqb-true c d h)))
 
-same_digits : {a b m n : ℕ} → a ≡ b → m ≡ n → a + 2 ^ 32 * m ≡ b + 2 ^ 32 * n
-same_digits e f = omega arith
+-- the test that a comparison answers
+lt_told : (m n : ℕ) → is_lt (nat_cmp m n) ≡ ltb m n
+lt_told m n = go (ltb m n) (eqb m n)
+  where
+    go : (s t : Bool) → is_lt (cond s Less (cond t Equal Greater)) ≡ s
+    go true t = refl
+    go false true = refl
+    go false false = refl
 
--- r says which of two numbers is less, and they are not the same
-abbrev Told : Bool → ℕ → ℕ → Type 0
-Told r m n = (r ≡ ltb m n) × (m ≡ n → ⊥)
+cmp_less : {m n : ℕ} → m < n → nat_cmp m n ≡ Less
+cmp_less {m} {n} h = rw (lt-ltb m n h) refl
 
--- a digit after them does not change it
-lower_digits : {a b m n : ℕ} {r : Bool} → Fits w32 a → Fits w32 b → Told r m n → Told r (a + 2 ^ 32 * m) (b + 2 ^ 32 * n)
-lower_digits {a} {b} {m} {n} ha hb t =
-    (t.0 ∙ ltb_iff m n (a + 2 ^ 32 * m) (b + 2 ^ 32 * n) (λ h. omega arith) (λ h. omega arith), (λ e. t.1 (digit_same ha.fits hb.fits e).1))
+cmp_more : {m n : ℕ} → n < m → nat_cmp m n ≡ Greater
+cmp_more {m} {n} h =
+    let above : n ≤ m = omega arith in
+    rw (le-ltb m n above, ne_eqb m n (λ e. omega arith)) refl
 
--- digits after the same digits
-after : {m n : ℕ} (a b : ℕ) → m ≡ n → ltb a b ≡ ltb (a + 2 ^ 32 * m) (b + 2 ^ 32 * n)
-after {m} {n} a b e = ltb_iff a b (a + 2 ^ 32 * m) (b + 2 ^ 32 * n) (λ h. omega arith) (λ h. omega arith)
+cmp_same : (B a b m n : ℕ) → m ≡ n → nat_cmp a b ≡ nat_cmp (a + B * m) (b + B * n)
+cmp_same B a b m n e =
+    rw (
+      e,
+      ltb_iff a b (a + B * n) (b + B * n) (λ h. omega arith) (λ h. omega arith),
+      eqb_iff a b (a + B * n) (b + B * n) (λ h. omega arith) (λ h. omega arith),
+    ) refl
 
-differ : {a b m n : ℕ} → Fits w32 a → Fits w32 b → m ≡ n → (a ≡ b → ⊥) → Told (ltb a b) (a + 2 ^ 32 * m) (b + 2 ^ 32 * n)
-differ {a} {b} ha hb e f = (after a b e, (λ q. f (digit_same ha.fits hb.fits q).0))
+-- two numbers of two digits, the higher digits first
+digit_by_digit : (B a b m n : ℕ) → a < B → b < B
+    → partial_ordering_then (Some (nat_cmp m n)) (Some (nat_cmp a b)) ≡ Some (nat_cmp (a + B * m) (b + B * n))
+digit_by_digit B a b m n ha hb = go (dec_lt m n) (dec_lt n m)
+  where
+    go : Dec (m < n) → Dec (n < m) → partial_ordering_then (Some (nat_cmp m n)) (Some (nat_cmp a b)) ≡ Some (nat_cmp (a + B * m) (b + B * n))
+    go (yes p) q =
+        let above = mul-le-mul_left B p in
+        let less : a + B * m < b + B * n = omega (arith, above, mul-suc B m) in
+        rw (cmp_less p, cmp_less less) refl
+    go (no p) (yes q) =
+        let above = mul-le-mul_left B q in
+        let more : b + B * n < a + B * m = omega (arith, above, mul-suc B n) in
+        rw (cmp_more q, cmp_more more) refl
+    go (no p) (no q) =
+        let e : m ≡ n = omega arith in
+        ap (λ o. partial_ordering_then (Some o) (Some (nat_cmp a b))) (tied e) ∙ ap Some (cmp_same B a b m n e)
+      where
+        tied : m ≡ n → nat_cmp m n ≡ Equal
+        tied e = rw (e, le-ltb n n (le_refl n), eq-eqb n n refl) refl
 
 module _ (a b : Magnitude) (ha : Held a) (hb : Held b) where
-  pub less3 : (limb a 3 ≡ limb b 3 → ⊥) → ltb (limb a 3) (limb b 3) ≡ ltb (value a) (value b)
+  abbrev at : ℕ → Option Ordering
+  at i = Some (nat_cmp (limb a i) (limb b i))
+
+  -- the first two limbs that differ, from the highest down, decide
+  pub by_limbs : is_some_and is_lt (partial_ordering_then (partial_ordering_then (partial_ordering_then (at 3) (at 2)) (at 1)) (at 0)) ≡ ltb (value a) (value b)
   unfolding value
-  less3 n = (lower_digits ha.l0 hb.l0 (lower_digits ha.l1 hb.l1 (lower_digits ha.l2 hb.l2 (refl, n)))).0
+  by_limbs =
+      ap (λ (o : Option Ordering). is_some_and is_lt o)
+      (ap (λ (o : Option Ordering). partial_ordering_then o (at 0))
+      (ap (λ (o : Option Ordering). partial_ordering_then o (at 1)) (digit_by_digit (2 ^ 32) _ _ _ _ ha.l2.fits hb.l2.fits)
+      ∙ digit_by_digit (2 ^ 32) _ _ _ _ ha.l1.fits hb.l1.fits)
+      ∙ digit_by_digit (2 ^ 32) _ _ _ _ ha.l0.fits hb.l0.fits)
+      ∙ lt_told (value a) (value b)
 
-  pub less2 : limb a 3 ≡ limb b 3 → (limb a 2 ≡ limb b 2 → ⊥) → ltb (limb a 2) (limb b 2) ≡ ltb (value a) (value b)
+  -- two numbers are the same where their limbs are
+  pub same_limbs : pointwise eqb a.limbs b.limbs ≡ eqb (value a) (value b)
   unfolding value
-  less2 e n = (lower_digits ha.l0 hb.l0 (lower_digits ha.l1 hb.l1 (differ ha.l2 hb.l2 e n))).0
-
-  pub less1 : limb a 3 ≡ limb b 3 → limb a 2 ≡ limb b 2 → (limb a 1 ≡ limb b 1 → ⊥) → ltb (limb a 1) (limb b 1) ≡ ltb (value a) (value b)
-  unfolding value
-  less1 e f n = (lower_digits ha.l0 hb.l0 (differ ha.l1 hb.l1 (same_digits f e) n)).0
-
-  pub less0 : limb a 3 ≡ limb b 3 → limb a 2 ≡ limb b 2 → limb a 1 ≡ limb b 1 → ltb (limb a 0) (limb b 0) ≡ ltb (value a) (value b)
-  unfolding value
-  less0 e f g = after (limb a 0) (limb b 0) (same_digits g (same_digits f e))
-
-  pub equal3 : (limb a 3 ≡ limb b 3 → ⊥) → false ≡ eqb (value a) (value b)
-  equal3 n = sym (ne_eqb (value a) (value b) (λ e. n (limb_for_limb a b ha hb e).3))
-
-  pub equal2 : (limb a 2 ≡ limb b 2 → ⊥) → false ≡ eqb (value a) (value b)
-  equal2 n = sym (ne_eqb (value a) (value b) (λ e. n (limb_for_limb a b ha hb e).2))
-
-  pub equal1 : (limb a 1 ≡ limb b 1 → ⊥) → false ≡ eqb (value a) (value b)
-  equal1 n = sym (ne_eqb (value a) (value b) (λ e. n (limb_for_limb a b ha hb e).1))
-
-  pub equal0 : limb a 3 ≡ limb b 3 → limb a 2 ≡ limb b 2 → limb a 1 ≡ limb b 1 → eqb (limb a 0) (limb b 0) ≡ eqb (value a) (value b)
-  unfolding value
-  equal0 e f g =
-      eqb_iff (limb a 0) (limb b 0) (value a) (value b) (λ h. same_digits h (same_digits g (same_digits f e)))
-      (λ h. (limb_for_limb a b ha hb h).0)
+  same_limbs =
+      let told = slice_eq-Decides Decides-eqb a.limbs b.limbs (pointwise eqb a.limbs b.limbs) refl in
+      agree (pointwise eqb a.limbs b.limbs) (eqb (value a) (value b))
+      (λ e. eq-eqb (value a) (value b) (ap (λ (l : List ℕ). nested (get_or l 0 0) (get_or l 1 0) (get_or l 2 0) (get_or l 3 0)) (told.0 e)))
+      (λ e. told.1 (ap (λ (m : Magnitude). m.limbs) (same_value a b ha hb (eqb-true (value a) (value b) e))))

@@ -1,15 +1,10 @@
 -- A number of four limbs is divided limb by limb from the highest: each limb stands after what the one above it left over, so the
 -- quotients are the limbs of the whole quotient.
-use Rattle.std.proofs.Common.{◌≡◌, ℕ, ◌+◌, ◌*◌, ◌/◌, ◌%◌, ◌^◌, ◌<◌, sym, ap, ◌∙◌, mul_assoc, div-lt_iff_lt-mul, add-mul, arith}
+use Rattle.std.proofs.Common.{◌≡◌, ℕ, ◌+◌, ◌*◌, ◌/◌, ◌%◌, ◌^◌, ◌<◌, sym, ap, ◌∙◌, mul_assoc, add-mul, arith}
 use lib.Arith.{digits_div, digits_mod}
 use Rattle.number.specs.declared.magnitude.Magnitude.{Magnitude}
 use Rattle.number.specs.declared.numeral.Split.{Split}
 use Rattle.number.specs.Values.{nested, limb, value}
-
-pub quotient_fits : (limb over base : ℕ) → limb < 2 ^ 32 → over < base → (over * 2 ^ 32 + limb) / base < 2 ^ 32
-quotient_fits limb over base h g =
-    let n : over * 2 ^ 32 + limb < 2 ^ 32 * base = omega arith in
-    (div-lt_iff_lt-mul {k = base} (omega arith)).1 n
 
 -- one limb, after what was left over
 abbrev pub Splits : ℕ → ℕ → ℕ → Split → Type 0

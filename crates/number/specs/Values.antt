@@ -1,7 +1,6 @@
 -- What the crate's types stand for: the number that four limbs hold, and the whole number of a size and a sign.
-use Rattle.std.specs.Prelude.{◌≡◌, ℕ, ◌+◌, ◌*◌, ◌%◌, ◌^◌, Bool, true, false, ℤ, pos, neg_ℤ, nat_lt, slice_index}
+use Rattle.std.specs.Prelude.{◌≡◌, ℕ, ◌+◌, ◌*◌, ◌^◌, Bool, true, false, ℤ, pos, neg_ℤ, nat_lt, slice_index, Option, Some, None}
 use Rattle.number.specs.declared.magnitude.Magnitude.{Magnitude}
-use Rattle.number.specs.declared.digits.Extended.{Extended}
 use Rattle.number.specs.declared.whole.Whole.{Whole}
 
 -- digits in base 2^32, the lowest first
@@ -26,7 +25,7 @@ signed false n = pos n
 abbrev pub whole_of : Whole → ℤ
 whole_of w = signed w.negative (value w.size)
 
--- what growing to n gives: whether n fits 128 bits, and those bits of it
-pub record Grows (n : ℕ) (r : Extended) : Type 0 where
-  pub told : r.ok ≡ nat_lt n (2 ^ 128)
-  pub kept : value r.number ≡ n % 2 ^ 128
+-- n, if it fits 128 bits
+abbrev pub Fitted : ℕ → Option Magnitude → Type 0
+Fitted n (Some m) = (nat_lt n (2 ^ 128) ≡ true) × (value m ≡ n)
+Fitted n None = nat_lt n (2 ^ 128) ≡ false

@@ -20,7 +20,7 @@ pub struct Literal {
 }
 
 impl Base {
-    // How many digits the base has. A word that holds a base holds this number.
+    // How many digits the base has. A word that holds a base holds this number. It is no From: callers are promised its bounds too.
     pub fn radix(self) -> u32
         ensures is { result ≡ paper.radix (base_meant self) }
         ensures two { 2 ≤ result }
@@ -33,7 +33,7 @@ impl Base {
         }
     }
 
-    // The base that has so many digits. Of any other number, decimal.
+    // The base that has so many digits. Of any other number, decimal; so it is no From, which would lose nothing.
     pub fn of_radix(radix: u32) -> Base
         ensures { result ≡ of_radix radix }
     {
@@ -52,7 +52,7 @@ impl Literal {
     {
         Literal {
             base: Base::Decimal,
-            number: number,
+            number,
         }
     }
 }

@@ -6,28 +6,19 @@ ghost use Rattle.number.specs.Values.{value};
 
 use crate::magnitude::Magnitude;
 
-fn wide(byte: u8) -> u32
-    ensures { (result ≡ byte) × (result < 256) }
-{
-    byte as u32
-}
-
 // The number that four bytes from an offset on are.
 pub fn word(s: &[u8], at: usize) -> u32
     requires { at + 4 ≤ length s.now }
     ensures { result ≡ number_at s.now at 4 }
 {
-    ((wide(s[at]) * 256 + wide(s[at + 1])) * 256 + wide(s[at + 2])) * 256 + wide(s[at + 3])
+    u32::from_be_bytes([s[at], s[at + 1], s[at + 2], s[at + 3]])
 }
 
 fn put_word(out: &mut [u8], at: usize, n: u32)
     requires { at + 4 ≤ length out.old }
     ensures { out.new ≡ sets out.old at (big_endian 4 n) }
 {
-    out[at] = (n / 0x100_0000) as u8;
-    out[at + 1] = (n / 0x1_0000 % 0x100) as u8;
-    out[at + 2] = (n / 0x100 % 0x100) as u8;
-    out[at + 3] = (n % 0x100) as u8;
+    out[at..at + 4].copy_from_slice(&n.to_be_bytes());
 }
 
 impl Magnitude {

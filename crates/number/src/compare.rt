@@ -1,52 +1,24 @@
-// Order and equality, from the highest limb down.
+// Order, from the highest limb down, and equality.
 ghost use Rattle.std.specs.Prelude.{◌≡◌, ◌==◌, nat_lt};
 ghost use Rattle.number.specs.Values.{value};
 
 use crate::magnitude::Magnitude;
 
 impl Magnitude {
-    // Whether this number is below the other.
+    // Whether this number is below the other. It is no Ord, whose laws would have to hold of limbs that are no number's.
     pub fn less(self, other: Magnitude) -> bool
         ensures { result ≡ nat_lt (value self) (value other) }
     {
-        let a3 = self.limbs[3];
-        let b3 = other.limbs[3];
-        if a3 != b3 {
-            return a3 < b3;
-        }
-        let a2 = self.limbs[2];
-        let b2 = other.limbs[2];
-        if a2 != b2 {
-            return a2 < b2;
-        }
-        let a1 = self.limbs[1];
-        let b1 = other.limbs[1];
-        if a1 != b1 {
-            return a1 < b1;
-        }
-        self.limbs[0] < other.limbs[0]
+        let [a0, a1, a2, a3] = self.limbs;
+        let [b0, b1, b2, b3] = other.limbs;
+        (a3, a2, a1, a0) < (b3, b2, b1, b0)
     }
 
     // Whether the two numbers are equal.
     pub fn equal(self, other: Magnitude) -> bool
         ensures { result ≡ (value self == value other) }
     {
-        let a3 = self.limbs[3];
-        let b3 = other.limbs[3];
-        if a3 != b3 {
-            return false;
-        }
-        let a2 = self.limbs[2];
-        let b2 = other.limbs[2];
-        if a2 != b2 {
-            return false;
-        }
-        let a1 = self.limbs[1];
-        let b1 = other.limbs[1];
-        if a1 != b1 {
-            return false;
-        }
-        self.limbs[0] == other.limbs[0]
+        self == other
     }
 
     // Whether the number is zero.

@@ -1,15 +1,8 @@
 // A number after which one more digit is written.
-ghost use Rattle.std.specs.Prelude.{◌≡◌, ◌+◌, ◌*◌, ◌^◌};
-ghost use Rattle.number.specs.Values.{value, Grows};
+ghost use Rattle.std.specs.Prelude.{◌≡◌, ◌+◌, ◌*◌, ◌%◌, ◌^◌};
+ghost use Rattle.number.specs.Values.{value, Fitted};
 
 use crate::magnitude::Magnitude;
-
-// Whether the number still fits, and its lowest 128 bits.
-#[derive(Clone, Copy)]
-pub struct Extended {
-    pub ok: bool,
-    pub number: Magnitude,
-}
 
 #[derive(Clone, Copy)]
 struct Carry {
@@ -29,9 +22,9 @@ fn scaled(limb: u32, base: u32, over: u32) -> Carry
 }
 
 impl Magnitude {
-    // The number with one more digit written after it: its lowest 128 bits, and whether these are all.
-    pub fn grow(self, base: u32, digit: u32) -> Extended
-        ensures { Grows (value self * base + digit) result }
+    // The lowest 128 bits of the number with one more digit written after it, and what they leave over.
+    pub fn grow(self, base: u32, digit: u32) -> (Magnitude, u32)
+        ensures { value result.0 + 2 ^ 128 * result.1 ≡ value self * base + digit }
     {
         let a = scaled(self.limbs[0], base, digit);
         let b = scaled(self.limbs[1], base, a.over);
@@ -40,9 +33,23 @@ impl Magnitude {
         let number = Magnitude {
             limbs: [a.limb, b.limb, c.limb, d.limb],
         };
-        Extended {
-            ok: d.over == 0,
-            number: number,
+        (number, d.over)
+    }
+
+    // The number with one more digit written after it, if it still fits.
+    pub fn checked_grow(self, base: u32, digit: u32) -> Option<Magnitude>
+        ensures { Fitted (value self * base + digit) result }
+    {
+        match self.grow(base, digit) {
+            (number, 0) => Some(number),
+            _ => None,
         }
+    }
+
+    // The lowest 128 bits of the number with one more digit written after it.
+    pub fn wrapping_grow(self, base: u32, digit: u32) -> Magnitude
+        ensures { value result ≡ (value self * base + digit) % 2 ^ 128 }
+    {
+        self.grow(base, digit).0
     }
 }

@@ -18,7 +18,6 @@ mod width;
 
 pub use base::{Base, Literal};
 pub use bytes::word;
-pub use digits::Extended;
 pub use magnitude::Magnitude;
 pub use numeral::{Digits, MOST_LIMB_DIGITS, put_limb_digits};
 pub use whole::Whole;

@@ -2,7 +2,7 @@ ghost use Rattle.std.specs.Prelude.{◌≡◌};
 ghost use Rattle.number.specs.Values.{value};
 
 // A number below 2^128, its lowest 32 bits first.
-#[derive(Clone, Copy)]
+#[derive(Clone, Copy, PartialEq, Eq)]
 pub struct Magnitude {
     pub limbs: [u32; 4],
 }

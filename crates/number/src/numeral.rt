@@ -16,7 +16,7 @@ struct Divided {
     rest: u32,
 }
 
-// The bytes of a numeral, from `first` on.
+// The bytes of a numeral, from `first` on: no String, since the switch has no heap.
 #[derive(Clone, Copy)]
 pub struct Digits {
     pub bytes: [u8; 128],
@@ -63,10 +63,8 @@ fn digit_byte(digit: u32) -> u8
     requires { digit < 16 }
     ensures { result ≡ digit_byte digit }
 {
-    if digit < 10 {
-        return (48 + digit) as u8;
-    }
-    (87 + digit) as u8
+    let byte = if digit < 10 { 48 + digit } else { 87 + digit };
+    byte as u8
 }
 
 // What numbers of a base are cut by: its seventh power.
@@ -84,13 +82,10 @@ fn put_cut(n: u32, base: u32, end: usize, bytes: &mut [u8])
     requires le_end { (7 ≤ end) × (end ≤ length bytes.old) }
     ensures { Ends base 7 n end bytes.old bytes.new }
 {
-    let first = end - CUT;
-    let mut i = end;
     let mut left = n;
-    while first < i {
-        i -= 1;
+    for i in (end - CUT..end).rev() {
         bytes[i] = digit_byte(left % base);
-        left = left / base;
+        left /= base;
     }
 }
 
@@ -100,15 +95,13 @@ fn put_limb(n: u32, base: u32, end: usize, bytes: &mut [u8]) -> usize
     requires end_in_bounds { end ≤ length bytes.old }
     ensures { Begins base n end bytes.old bytes.new result }
 {
-    let mut i = end;
     let mut left = n;
-    while 0 < i {
-        i -= 1;
+    for i in (0..end).rev() {
         bytes[i] = digit_byte(left % base);
         if left < base {
             return i;
         }
-        left = left / base;
+        left /= base;
     }
     0
 }
@@ -151,13 +144,7 @@ impl Magnitude {
     pub fn is_long(self) -> bool
         ensures { (result ≡ false → value self ≡ limb self 0) × (result ≡ true → 2 ^ 32 ≤ value self) }
     {
-        if self.limbs[1] != 0 {
-            return true;
-        }
-        if self.limbs[2] != 0 {
-            return true;
-        }
-        self.limbs[3] != 0
+        !matches!(self.limbs, [_, 0, 0, 0])
     }
 
     // The number divided, limb by limb from the highest, and what is left over.
@@ -204,9 +191,6 @@ impl Magnitude {
             left = d.number;
         }
         let first = put_first(left.limbs[0], base, end, &mut bytes);
-        Digits {
-            bytes: bytes,
-            first: first,
-        }
+        Digits { bytes, first }
     }
 }

@@ -19,7 +19,7 @@ impl Whole {
     {
         Whole {
             negative: false,
-            size: size,
+            size,
         }
     }
 
@@ -27,10 +27,9 @@ impl Whole {
     pub fn negated(self) -> Whole
         ensures { whole_of result ≡ neg_ℤ (whole_of self) }
     {
-        let size = self.size;
         Whole {
             negative: !self.negative,
-            size: size,
+            ..self
         }
     }
 
@@ -38,68 +37,46 @@ impl Whole {
     fn below_zero(self) -> bool
         ensures { result ≡ less_whole (whole_of self) (pos 0) }
     {
-        let size = self.size;
-        if self.negative {
-            return !size.is_zero();
-        }
-        false
+        self.negative && !self.size.is_zero()
     }
 
-    // Whether the two whole numbers are equal.
+    // Whether the two whole numbers are equal. It is not derived, since zero may carry either sign.
     pub fn equal(self, other: Whole) -> bool
         ensures { result ≡ same_whole (whole_of self) (whole_of other) }
     {
-        let a = self.size;
-        let b = other.size;
-        if self.below_zero() {
-            if other.below_zero() {
-                return a.equal(b);
-            }
-            return false;
-        }
-        if other.below_zero() {
-            return false;
-        }
-        a.equal(b)
+        self.below_zero() == other.below_zero() && self.size.equal(other.size)
     }
 
     // Whether this whole number is below the other.
     pub fn less(self, other: Whole) -> bool
         ensures { result ≡ less_whole (whole_of self) (whole_of other) }
     {
-        let a = self.size;
-        let b = other.size;
-        if self.below_zero() {
-            if other.below_zero() {
-                return b.less(a);
-            }
-            return true;
+        match (self.below_zero(), other.below_zero()) {
+            (false, false) => self.size.less(other.size),
+            (true, true) => other.size.less(self.size),
+            (below, _) => below,
         }
-        if other.below_zero() {
-            return false;
-        }
-        a.less(b)
     }
 
     // The remainder modulo 2^w that is not negative; a w past 128 counts as 128.
     pub fn reduced(self, w: u32) -> Magnitude
         ensures { value result ≡ modulo (whole_of self) (2 ^ min w 128) }
     {
-        let size = self.size;
         if self.negative {
-            return size.minus(w);
+            self.size.minus(w)
+        } else {
+            self.size.lowest(w)
         }
-        size.lowest(w)
     }
 
     // Whether the whole number lies between -2^(w - 1) and 2^w - 1, so that w bits hold it with none lost.
     pub fn fits_in(self, w: u32) -> bool
         ensures { result ≡ fits_in w (whole_of self) }
     {
-        let size = self.size;
         if self.negative {
-            return size.at_most_half(w);
+            self.size.at_most_half(w)
+        } else {
+            self.size.fits(w)
         }
-        size.fits(w)
     }
 }

@@ -10,33 +10,17 @@ use crate::magnitude::Magnitude;
 fn low(limb: u32, w: u32) -> u32
     ensures { result ≡ limb % 2 ^ w }
 {
-    if 32 <= w {
-        return limb;
-    }
-    limb % (1 << w)
+    if 32 <= w { limb } else { limb % (1 << w) }
 }
 
 // Whether the lowest k bits of a limb are zero. The processor counts 32 zeros at most, those of a limb that is zero.
 fn clear(limb: u32, k: u32) -> bool
     ensures { result ≡ (limb % 2 ^ k == 0) }
 {
-    at_most(k, 32) <= u32::trailing_zeros(limb)
+    k.min(32) <= limb.trailing_zeros()
 }
 
-// The lesser of k and n.
-fn at_most(k: u32, n: u32) -> u32
-    ensures { result ≡ min k n }
-{
-    if k < n { k } else { n }
-}
-
-// How far w reaches past n.
-fn past(w: u32, n: u32) -> u32
-    ensures { result ≡ w - n }
-{
-    if w < n { 0 } else { w - n }
-}
-
+// What is left of a limb, whether or not it owes one: it is no Option.
 #[derive(Clone, Copy)]
 struct Borrowed {
     limb: u32,
@@ -49,12 +33,12 @@ fn taken(limb: u32, owed: bool) -> Borrowed
 {
     if owed {
         return Borrowed {
-            limb: std::num::wrapping_sub_u32(u32::MAX, limb),
+            limb: u32::MAX.wrapping_sub(limb),
             owed: true,
         };
     }
     Borrowed {
-        limb: std::num::wrapping_sub_u32(0, limb),
+        limb: 0u32.wrapping_sub(limb),
         owed: limb != 0,
     }
 }
@@ -67,9 +51,9 @@ impl Magnitude {
         Magnitude {
             limbs: [
                 low(self.limbs[0], w),
-                low(self.limbs[1], past(w, 32)),
-                low(self.limbs[2], past(w, 64)),
-                low(self.limbs[3], past(w, 96)),
+                low(self.limbs[1], w.saturating_sub(32)),
+                low(self.limbs[2], w.saturating_sub(64)),
+                low(self.limbs[3], w.saturating_sub(96)),
             ],
         }
     }
@@ -93,7 +77,7 @@ impl Magnitude {
         ensures { value result ≡ 2 ^ min w 128 - 1 }
     {
         let all = Magnitude {
-            limbs: [u32::MAX, u32::MAX, u32::MAX, u32::MAX],
+            limbs: [u32::MAX; 4],
         };
         all.lowest(w)
     }
@@ -109,19 +93,12 @@ impl Magnitude {
     pub fn low_clear(self, k: u32) -> bool
         ensures { result ≡ (value self % 2 ^ k == 0) }
     {
-        let first = self.limbs[0];
-        if first != 0 {
-            return clear(first, k);
+        match self.limbs {
+            [0, 0, 0, fourth] => clear(fourth, k.saturating_sub(96)),
+            [0, 0, third, _] => clear(third, k.saturating_sub(64)),
+            [0, second, _, _] => clear(second, k.saturating_sub(32)),
+            [first, _, _, _] => clear(first, k),
         }
-        let second = self.limbs[1];
-        if second != 0 {
-            return clear(second, past(k, 32));
-        }
-        let third = self.limbs[2];
-        if third != 0 {
-            return clear(third, past(k, 64));
-        }
-        clear(self.limbs[3], past(k, 96))
     }
 
     // Whether the number is at most 2^(w - 1), half of what w bits count. From that half on, it is the half where w bits hold it and all
@@ -129,13 +106,7 @@ impl Magnitude {
     pub(crate) fn at_most_half(self, w: u32) -> bool
         ensures { result ≡ nat_le (value self) (2 ^ (w - 1)) }
     {
-        let k = past(w, 1);
-        if self.fits(k) {
-            return true;
-        }
-        if self.fits(k + 1) {
-            return self.low_clear(k);
-        }
-        false
+        let k = w.saturating_sub(1);
+        self.fits(k) || self.fits(k + 1) && self.low_clear(k)
     }
 }

@@ -1,4 +1,3 @@
-mod Copies
 pub mod Numbers
 pub mod Spans
 pub mod Tests

@@ -1,12 +1,14 @@
--- A run of bytes, a byte at a time: what `span` gives from an offset on.
+-- Runs of bytes: what `span` counts, of a list and from an offset on.
 use Prim.Native.Nat.{ℕ, zero, suc, ◌+◌, ◌≤◌, ◌<◌}
-use mathlib.Core.Path.{◌≡◌, refl, ap, ◌∙◌}
-use mathlib.Core.Bool.{Bool, true, false, cond, ◌&&◌}
+use mathlib.Core.Path.{◌≡◌, refl, sym, ap, ◌∙◌}
+use mathlib.Core.Bool.{Bool, true, false, not, cond, ◌&&◌, ◌||◌, and-true}
 use mathlib.Core.List.{List, [], ◌∷◌}
 use native.Mathlib.Omega.{arith}
 use lib.Dec.{leb, leb-zero, leb-suc-zero, leb-suc-suc}
-use lib.ListN.{length, get_or, drop, length-drop, drop_of_length-le}
-use lib.Seq.{drop-cons, drop-drop, get_or-drop}
+use lib.ListN.{length, get_or, take, drop}
+use lib.Seq.{drop-cons, drop-drop}
+use Rattle.std.proofs.lemmas.List.Folds.{length-prefix_len}
+use Rattle.std.specs.List.{fold, prefix_len, take_while}
 use Rattle.paper.specs.Tokens.{span}
 
 pub cut : (s : List ℕ) (i : ℕ) → i < length s → drop i s ≡ get_or s i 0 ∷ drop (i + 1) s
@@ -14,32 +16,38 @@ cut s i h =
     let e : i + 1 ≡ suc i = omega arith in
     rw (e, drop-cons s i 0 h)
 
-module _ (p : ℕ → Bool) (s : List ℕ) (i : ℕ) where
-  pub span_on : i < length s → p (get_or s i 0) ≡ true → span p (drop i s) ≡ suc (span p (drop (i + 1) s))
-  span_on h e = rw (cut s i h, e)
-
-  pub span_stop : i < length s → p (get_or s i 0) ≡ false → span p (drop i s) ≡ 0
-  span_stop h e = rw (cut s i h, e)
-
-  pub span_end : length s ≤ i → span p (drop i s) ≡ 0
-  span_end h = rw (drop_of_length-le s h)
-
--- and many bytes at a time
+-- a run as a whole
 
 module _ (p : ℕ → Bool) where
-  reaches_on : (s : List ℕ) (k : ℕ) → k < length s → leb (suc k) (span p s) ≡ (leb k (span p s) && p (get_or s k 0))
-  reaches_on [] k h = absurd (omega arith)
-  reaches_on (b ∷ s) zero h = go (p b)
+  prefix_is_span : (s : List ℕ) → prefix_len p s ≡ span p s
+  prefix_is_span [] = refl
+  prefix_is_span (b ∷ s) =
+      let one : 1 + prefix_len p s ≡ suc (span p s) = omega (arith, prefix_is_span s) in
+      ap (λ n. cond (p b) n 0) one
+
+  -- a run is as long as the bytes that are taken while they are of it
+  pub span_taken : (s : List ℕ) → length (take_while p s) ≡ span p s
+  span_taken s = length-prefix_len p s ∙ prefix_is_span s
+
+  pub span_within : (s : List ℕ) → span p s ≤ length s
+  span_within [] = omega arith
+  span_within (b ∷ s) = go (p b) (span_within s)
     where
-      go : (t : Bool) → leb (suc zero) (cond t (suc (span p s)) 0) ≡ (leb zero (cond t (suc (span p s)) 0) && t)
-      go true = rw (leb-suc-suc zero (span p s), leb-zero (span p s), leb-zero (suc (span p s)))
-      go false = refl
-  reaches_on (b ∷ s) (suc k) h = go (p b) (reaches_on s k (omega arith))
+      go : (t : Bool) → span p s ≤ length s → cond t (suc (span p s)) 0 ≤ suc (length s)
+      go true h = omega arith
+      go false h = omega arith
+
+  -- no byte that ends a run is met in the first k exactly where it goes through them
+  pub not_ended : (s : List ℕ) (k : ℕ) (ended : Bool) → k ≤ length s
+      → not (fold (λ e b. e || p b) ended (take k s)) ≡ (not ended && leb k (span (λ b. not (p b)) s))
+  not_ended s zero ended h = rw leb-zero (sym (and-true (not ended)))
+  not_ended [] (suc k) ended h = absurd (omega arith)
+  not_ended (b ∷ s) (suc k) ended h = not_ended s k (ended || p b) (omega arith) ∙ go ended (p b)
     where
-      go : (t : Bool) → leb (suc k) (span p s) ≡ (leb k (span p s) && p (get_or s k 0))
-          → leb (suc (suc k)) (cond t (suc (span p s)) 0) ≡ (leb (suc k) (cond t (suc (span p s)) 0) && p (get_or s k 0))
-      go true on = rw (leb-suc-suc (suc k) (span p s), leb-suc-suc k (span p s)) on
-      go false on = rw (leb-suc-zero (suc k), leb-suc-zero k)
+      go : (e t : Bool) → (not (e || t) && leb k (span (λ b. not (p b)) s)) ≡ (not e && leb (suc k) (cond (not t) (suc (span (λ b. not (p b)) s)) 0))
+      go true t = refl
+      go false true = sym (leb-suc-zero k)
+      go false false = sym (leb-suc-suc k (span (λ b. not (p b)) s))
 
   skipped : (s : List ℕ) (k : ℕ) → k ≤ span p s → span p s ≡ k + span p (drop k s)
   skipped s zero h = omega arith
@@ -49,12 +57,6 @@ module _ (p : ℕ → Bool) where
       go : (t : Bool) → (k ≤ span p s → span p s ≡ k + span p (drop k s)) → suc k ≤ cond t (suc (span p s)) 0 → cond t (suc (span p s)) 0 ≡ suc k + span p (drop k s)
       go true on g = omega (arith, on (omega arith))
       go false on g = absurd (omega arith)
-
-  -- a run from an offset on goes through k bytes and one more, where it goes through k and that one is of it
-  pub span_reaches : (s : List ℕ) (at k : ℕ) → at + k < length s
-      → leb (suc k) (span p (drop at s)) ≡ (leb k (span p (drop at s)) && p (get_or s (at + k) 0))
-  span_reaches s at k h =
-      reaches_on (drop at s) k (omega (arith, length-drop at s)) ∙ ap (λ b. leb k (span p (drop at s)) && p b) (get_or-drop at s k 0)
 
   -- what it goes through can be passed over
   pub span_skip : (s : List ℕ) (at k : ℕ) → k ≤ span p (drop at s) → span p (drop at s) ≡ k + span p (drop (at + k) s)

@@ -14,27 +14,14 @@ pub const HEX: u8 = 16;
 pub fn within(low: u8, high: u8, byte: u8) -> bool
     ensures { result ≡ paper.within low high byte }
 {
-    if byte < low {
-        return false;
-    }
-    byte <= high
+    low <= byte && byte <= high
 }
 
-// Whether two slices hold the same bytes. The lengths come first: no byte is read that one of the two does not have.
+// Whether two slices hold the same bytes.
 pub fn same_bytes(a: &[u8], b: &[u8]) -> bool
     ensures { result ≡ same_bytes a.now b.now }
 {
-    if a.len() != b.len() {
-        return false;
-    }
-    let mut i = 0;
-    while i < a.len() {
-        if a[i] != b[i] {
-            return false;
-        }
-        i += 1;
-    }
-    true
+    a == b
 }
 
 // Whether every byte is zero. All of them are looked at, whatever the first ones are: with no way out of the loop the compiler takes
@@ -42,13 +29,7 @@ pub fn same_bytes(a: &[u8], b: &[u8]) -> bool
 pub fn all_zero(s: &[u8]) -> bool
     ensures { result ≡ all_zero s.now }
 {
-    let mut any: u8 = 0;
-    let mut i = 0;
-    while i < s.len() {
-        any = any | s[i];
-        i += 1;
-    }
-    any == 0
+    s.iter().fold(0, |any, byte| any | *byte) == 0
 }
 
 // Copies bytes to an offset; every other byte stays.
@@ -56,48 +37,31 @@ pub fn copy(s: &[u8], at: usize, out: &mut [u8])
     requires { at + length s.now ≤ length out.old }
     ensures { out.new ≡ sets out.old at s.now }
 {
-    let mut i = 0;
-    while i < s.len() {
-        out[at + i] = s[i];
-        i += 1;
-    }
+    out[at..at + s.len()].copy_from_slice(s);
 }
 
 // Whether a byte is a decimal digit.
 pub fn is_digit(byte: u8) -> bool
     ensures { result ≡ is_digit byte }
 {
-    within(b'0', b'9', byte)
+    matches!(byte, b'0'..=b'9')
 }
 
 // Whether a byte is a blank: space, tab, CR or LF.
 pub fn is_blank(byte: u8) -> bool
     ensures { result ≡ is_blank byte }
 {
-    if byte == b' ' {
-        return true;
-    }
-    if byte == b'\t' {
-        return true;
-    }
-    if byte == b'\r' {
-        return true;
-    }
-    byte == b'\n'
+    matches!(byte, b' ' | b'\t' | b'\r' | b'\n')
 }
 
 // What a digit counts, in either case of a letter; 16, the digit of no base, for any other byte.
 pub fn digit_of(byte: u8) -> u8
     ensures { result ≡ digit_of byte }
 {
-    if is_digit(byte) {
-        return byte - b'0';
+    match byte {
+        b'0'..=b'9' => byte - b'0',
+        b'a'..=b'f' => byte - b'a' + 10,
+        b'A'..=b'F' => byte - b'A' + 10,
+        _ => 16,
     }
-    if within(b'a', b'f', byte) {
-        return byte - b'a' + 10;
-    }
-    if within(b'A', b'F', byte) {
-        return byte - b'A' + 10;
-    }
-    16
 }

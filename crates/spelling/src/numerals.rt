@@ -2,18 +2,12 @@
 ghost use Rattle.std.specs.Prelude.{◌≡◌, map, ◌<◌, ◌≤◌};
 ghost use Rattle.paper.specs.Numbers.{in_base};
 ghost use Rattle.paper.specs.Tokens.{radix_of, notation_of, digit_of, spelling};
-ghost use Rattle.spelling.specs.Numerals.{notation_meant, announced, Announces, Counts, Spells, written_in};
+ghost use Rattle.number.specs.Values.{Fitted};
+ghost use Rattle.spelling.specs.Numerals.{notation_meant, announced, Announces, Spells, written_in};
 
 use crate::runs::Run;
 use crate::{bytes, runs};
-use number::{Base, Extended, Magnitude};
-
-#[derive(Clone, Copy)]
-pub enum Fit {
-    Fits,
-    TooLarge,
-    NoNumeral,
-}
+use number::{Base, Magnitude};
 
 // How a numeral is written: in a base, or in octal, which no token has.
 #[derive(Clone, Copy)]
@@ -22,19 +16,18 @@ pub enum Notation {
     Octal,
 }
 
-// What a run is; the notation is that of a numeral, and the number that of a numeral that fits.
+// How a numeral is written, and its number.
 #[derive(Clone, Copy)]
 pub struct Numeral {
-    pub sort: Fit,
     pub notation: Notation,
     pub number: Magnitude,
 }
 
-// What the first bytes of a run announce.
+// Why a run has no number: it is no numeral, or one whose number does not fit.
 #[derive(Clone, Copy)]
-pub enum Announced {
-    Digits(Notation),
-    Nothing,
+pub enum NumeralError {
+    NoNumeral,
+    TooLarge(Notation),
 }
 
 impl Notation {
@@ -52,91 +45,60 @@ impl Notation {
 }
 
 // The notation that a letter announces after a first 0.
-fn notation_of(letter: u8) -> Announced
+fn notation_of(letter: u8) -> Option<Notation>
     ensures { announced result ≡ notation_of letter }
 {
     match letter {
-        b'd' | b'D' => Announced::Digits(Notation::Based(Base::Decimal)),
-        b'b' | b'B' => Announced::Digits(Notation::Based(Base::Binary)),
-        b'o' | b'O' => Announced::Digits(Notation::Octal),
-        b'x' | b'X' => Announced::Digits(Notation::Based(Base::Hex)),
-        _ => Announced::Nothing,
+        b'd' | b'D' => Some(Notation::Based(Base::Decimal)),
+        b'b' | b'B' => Some(Notation::Based(Base::Binary)),
+        b'o' | b'O' => Some(Notation::Octal),
+        b'x' | b'X' => Some(Notation::Based(Base::Hex)),
+        _ => None,
     }
 }
 
-fn notation_announced(run: &[u8]) -> Announced
+// The notation that the first bytes of a run announce.
+fn notation_announced(run: &[u8]) -> Option<Notation>
     ensures { Announces run.now result }
 {
-    if run.len() < 2 {
-        return Announced::Nothing;
+    match run {
+        [b'0', letter, ..] => notation_of(*letter),
+        _ => None,
     }
-    if run[0] != b'0' {
-        return Announced::Nothing;
-    }
-    notation_of(run[1])
 }
 
-// What digits count, as far as it fits.
-fn count(digits: &[u8], base: u32) -> Extended
+// What digits count, if it fits.
+fn count(digits: &[u8], base: u32) -> Option<Magnitude>
     requires { 0 < base }
-    ensures { Counts (in_base base (map digit_of digits.now)) result }
+    ensures { Fitted (in_base base (map digit_of digits.now)) result }
 {
     let mut number = Magnitude::zero();
-    let mut i = 0;
-    while i < digits.len() {
-        let grown = number.grow(base, bytes::digit_of(digits[i]) as u32);
-        if !grown.ok {
-            return grown;
-        }
-        number = grown.number;
-        i += 1;
+    for digit in digits {
+        number = number.checked_grow(base, bytes::digit_of(*digit) as u32)?;
     }
-    Extended {
-        ok: true,
-        number: number,
-    }
+    Some(number)
 }
 
-// What has no number that fits.
-fn without_number(sort: Fit, notation: Notation) -> Numeral
-    ensures { (result.sort ≡ sort) × (result.notation ≡ notation) }
-{
-    Numeral {
-        sort: sort,
-        notation: notation,
-        number: Magnitude::zero(),
-    }
-}
-
-fn in_notation(digits: &[u8], notation: Notation) -> Numeral
+fn in_notation(digits: &[u8], notation: Notation) -> Result<Numeral, NumeralError>
     ensures { Spells (written_in (notation_meant notation) digits.now) result }
 {
     let radix = notation.radix();
     let end = runs::run_end(digits, 0, Run::Digits(radix as u8));
-    if end == 0 {
-        return without_number(Fit::NoNumeral, notation);
+    if end == 0 || end < digits.len() {
+        return Err(NumeralError::NoNumeral);
     }
-    if end < digits.len() {
-        return without_number(Fit::NoNumeral, notation);
+    match count(digits, radix) {
+        Some(number) => Ok(Numeral { notation, number }),
+        None => Err(NumeralError::TooLarge(notation)),
     }
-    let grown = count(digits, radix);
-    if grown.ok {
-        let number = grown.number;
-        return Numeral {
-            sort: Fit::Fits,
-            notation: notation,
-            number: number,
-        };
-    }
-    without_number(Fit::TooLarge, notation)
 }
 
 // What a run that starts with a digit is, as a whole: a numeral that fits, one that is too large, or none.
-pub fn read_numeral(run: &[u8]) -> Numeral
+pub fn read_numeral(run: &[u8]) -> Result<Numeral, NumeralError>
     ensures { Spells (spelling run.now) result }
 {
-    let Announced::Digits(notation) = notation_announced(run) else {
-        return in_notation(run, Notation::Based(Base::Decimal));
-    };
-    in_notation(&run[2..], notation)
+    match notation_announced(run) {
+        Some(notation) => in_notation(&run[2..], notation),
+        None => in_notation(run, Notation::Based(Base::Decimal)),
+    }
 }

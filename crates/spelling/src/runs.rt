@@ -23,12 +23,7 @@ fn goes_on(run: Run, byte: u8) -> bool
     match run {
         Run::Name => word::is_id_byte(byte),
         Run::Line => byte != b'\n',
-        Run::Quoted => {
-            if byte == b'\n' {
-                return false;
-            }
-            byte != b'\''
-        }
+        Run::Quoted => !matches!(byte, b'\'' | b'\n'),
         Run::Digits(base) => bytes::digit_of(byte) < base,
     }
 }
@@ -38,14 +33,10 @@ pub fn run_end(text: &[u8], at: usize, run: Run) -> usize
     requires { at ≤ length text.now }
     ensures { EndsAt text.now at (span (in_run run) (drop at text.now)) result }
 {
-    let mut i = at;
-    while i < text.len() {
-        if !goes_on(run, text[i]) {
-            return i;
-        }
-        i += 1;
-    }
-    i
+    at + text[at..]
+        .iter()
+        .take_while(|byte| goes_on(run, **byte))
+        .count()
 }
 
 // So many bytes are looked through together for the end of a line.
@@ -56,18 +47,12 @@ fn goes_through(text: &[u8], at: usize) -> bool
     requires { at + stride ≤ length text.now }
     ensures { result ≡ leb stride (line_more text.now at) }
 {
-    let mut ended = 0u8;
-    let mut k = 0;
-    while k < STRIDE {
-        if text[at + k] == b'\n' {
-            ended = 1;
-        }
-        k += 1;
-    }
-    ended == 0
+    !text[at..at + STRIDE]
+        .iter()
+        .fold(false, |ended, byte| ended | (*byte == b'\n'))
 }
 
-// Where the line ends that goes on at an offset.
+// Where the line ends that goes on at an offset. Strides are passed by their place, which chunks would have to be counted back into.
 pub fn line_end(text: &[u8], at: usize) -> usize
     requires { at ≤ length text.now }
     ensures { EndsAt text.now at (line_more text.now at) result }

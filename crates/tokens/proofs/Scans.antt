@@ -8,10 +8,13 @@ use lib.Dec.{eqb}
 use lib.ListN.{length, get_or, take, drop, length-drop}
 use Rattle.paper.specs.Tokens.{is, starts, is_blank, is_id_start, is_digit, is_id_byte, word_more, span, Numeral, spelling, is_numeral, numeral_value, numeral_scan, Scan, scan, scan_comment, scan_string, scan_word, scan_numeral, scan_sign, blank, token, word, Literal, plain}
 use Rattle.paper.specs.Tokens as P
-use Rattle.spelling.specs.Numerals.{notation_meant, SpeltAs}
+use Rattle.std.proofs.Common.{◌^◌, ltb, Result, Ok, Err}
+use Rattle.number.specs.Values.{value}
+use Rattle.spelling.specs.Numerals.{notation_meant, Spells}
 use Rattle.spelling.specs.Runs.{EndsAt}
-use Rattle.spelling.specs.declared.numerals.Fit.{Fit}
-use Rattle.spelling.specs.declared.numerals.Fit.TheVariants as S
+use Rattle.spelling.specs.declared.numerals.Numeral as read
+use Rattle.spelling.specs.declared.numerals.NumeralError.{NumeralError}
+use Rattle.spelling.specs.declared.numerals.NumeralError.TheVariants as S
 use Rattle.spelling.specs.declared.numerals.Notation.{Notation}
 use Rattle.spelling.specs.declared.numerals.Notation.TheVariants.{Based, Octal}
 use Rattle.tokens.specs.Scanned.{Stands, fits_as, literal_for, too_large_as}
@@ -86,9 +89,9 @@ run_more s at = span is_id_byte (drop (at + 1) s)
 abbrev spelt : List ℕ → ℕ → Numeral
 spelt s at = spelling (get_or s at 0 ∷ take (run_more s at) (drop (at + 1) s))
 
-module _ (s : List ℕ) (at end : ℕ) (h : at < length s) (f : EndsAt s (at + 1) (run_more s at) end) (w : Notation) (v : ℕ) where
-  on_the_run : (sort : Fit) → SpeltAs (spelling (take (end - at) (drop at s))) (notation_meant w) v sort → SpeltAs (spelt s at) (notation_meant w) v sort
-  on_the_run sort e = subst (λ l. SpeltAs (spelling l) (notation_meant w) v sort) (part_first s at (run_more s at) end h f.far) e
+module _ (s : List ℕ) (at end : ℕ) (h : at < length s) (f : EndsAt s (at + 1) (run_more s at) end) where
+  on_the_run : (r : Result read.Numeral NumeralError) → Spells (spelling (take (end - at) (drop at s))) r → Spells (spelt s at) r
+  on_the_run r e = subst (λ l. Spells (spelling l) r) (part_first s at (run_more s at) end h f.far) e
 
   run_taken : end - (at + 1) ≡ run_more s at
   run_taken = omega arith
@@ -97,29 +100,30 @@ module _ (s : List ℕ) (at end : ℕ) (h : at < length s) (f : EndsAt s (at + 1
       → numeral_scan x (numeral_value (spelt s at)) (run_more s at) ≡ scan_numeral (get_or s at 0) (drop (at + 1) s)
   scanned_in e n = ap (λ x. numeral_scan x (numeral_value (spelt s at)) (run_more s at)) n ∙ rw e
 
-  pub numeral_fits : SpeltAs (spelling (take (end - at) (drop at s))) (notation_meant w) v S.Fits
-      → Stands s at (literal_for (notation_meant w) v) (scan_numeral (get_or s at 0) (drop (at + 1) s)) (fits_as w end)
-  numeral_fits e = go w (on_the_run S.Fits e)
+  pub numeral_fits : (r : read.Numeral) → Spells (spelling (take (end - at) (drop at s))) (Ok r)
+      → Stands s at (literal_for (notation_meant r.notation) (value r.number)) (scan_numeral (get_or s at 0) (drop (at + 1) s)) (fits_as r.notation end)
+  numeral_fits r e = go r.notation (value r.number) (on_the_run (Ok r) e)
     where
-      go : (w : Notation) → SpeltAs (spelt s at) (notation_meant w) v S.Fits
+      go : (w : Notation) (v : ℕ)
+          → (is_numeral (spelt s at) ≡ true) × (ltb (numeral_value (spelt s at)) (2 ^ 128) ≡ true) × (notation_meant w ≡ (spelt s at).notation) × (v ≡ numeral_value (spelt s at))
           → Stands s at (literal_for (notation_meant w) v) (scan_numeral (get_or s at 0) (drop (at + 1) s)) (fits_as w end)
-      go (Based base) g = record { says = rw (g.3, run_taken) (rw g.1 at (scanned_in g.0 g.2)); ends = omega arith }
-      go Octal g =
+      go (Based base) v g = record { says = rw (g.3, run_taken) (rw g.1 at (scanned_in g.0 g.2)); ends = omega arith }
+      go Octal v g =
           record {
             says = record { is = rw (g.3, run_taken) (scanned_in g.0 g.2); fits = rw g.3 g.1 };
             ends = omega arith;
           }
 
-  pub numeral_large : SpeltAs (spelling (take (end - at) (drop at s))) (notation_meant w) v S.TooLarge
+  pub numeral_large : (w : Notation) → Spells (spelling (take (end - at) (drop at s))) (Err (S.TooLarge w))
       → Stands s at (plain 0) (scan_numeral (get_or s at 0) (drop (at + 1) s)) (too_large_as w)
-  numeral_large e = go w (on_the_run S.TooLarge e)
+  numeral_large w e = go w (on_the_run (Err (S.TooLarge w)) e)
     where
-      go : (w : Notation) → SpeltAs (spelt s at) (notation_meant w) v S.TooLarge
+      go : (w : Notation) → Spells (spelt s at) (Err (S.TooLarge w))
           → Stands s at (plain 0) (scan_numeral (get_or s at 0) (drop (at + 1) s)) (too_large_as w)
       go (Based base) g = record { says = rw g.1 at (scanned_in g.0 g.2); ends = tt }
       go Octal g =
           record { says = record { number = numeral_value (spelt s at); more = run_more s at; is = scanned_in g.0 g.2; large = g.1 }; ends = tt }
 
-  pub numeral_none : SpeltAs (spelling (take (end - at) (drop at s))) (notation_meant w) v S.NoNumeral
+  pub numeral_none : Spells (spelling (take (end - at) (drop at s))) (Err S.NoNumeral)
       → Stands s at (plain 0) (scan_numeral (get_or s at 0) (drop (at + 1) s)) NoToken
-  numeral_none e = record { says = rw (on_the_run S.NoNumeral e); ends = tt }
+  numeral_none e = record { says = rw (on_the_run (Err S.NoNumeral) e); ends = tt }

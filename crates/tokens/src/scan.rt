@@ -9,7 +9,7 @@ ghost use Rattle.tokens.specs.Scanned.{Stands, fits_as, literal_for, too_large_a
 use crate::found::Lexeme;
 use crate::{kinds, quotes, signs};
 use number::{Base, Literal, Magnitude};
-use spelling::numerals::{Fit, Notation};
+use spelling::numerals::{Notation, NumeralError};
 use spelling::runs::Run;
 use spelling::{bytes, numerals, runs};
 
@@ -73,14 +73,10 @@ fn numeral(text: &[u8], at: usize) -> Scanned
     ensures { Stands text.now at (literal_meant result.literal) (paper.scan_numeral (get_or text.now at 0) (drop (at + 1) text.now)) result.found }
 {
     let end = runs::run_end(text, at + 1, Run::Name);
-    let read = numerals::read_numeral(&text[at..end]);
-    let sort = read.sort;
-    let notation = read.notation;
-    let number = read.number;
-    match sort {
-        Fit::Fits => fitting(notation, number, end),
-        Fit::TooLarge => unnumbered(too_large(notation)),
-        Fit::NoNumeral => unnumbered(Lexeme::NoToken),
+    match numerals::read_numeral(&text[at..end]) {
+        Ok(read) => fitting(read.notation, read.number, end),
+        Err(NumeralError::TooLarge(notation)) => unnumbered(too_large(notation)),
+        Err(NumeralError::NoNumeral) => unnumbered(Lexeme::NoToken),
     }
 }
 

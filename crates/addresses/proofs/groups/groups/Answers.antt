@@ -1,113 +1,46 @@
--- `addresses::groups::groups` meets its contract. The invariant of its loop (`Going`): the parts before `at` are good, `count` says how many
--- they are, and `number` is what they make after the number given. A turn cuts off the next part: a bad one decides (`going_bad`); a good one
--- goes into the number, and is the last where it ends the string (`going_last`), or the next part starts behind its separator (`going_on`).
--- The measure is how many bytes are left.
-use Prim.Native.Nat.{ℕ, ◌+◌, ◌*◌, ◌-◌, ◌%◌, ◌^◌}
-use mathlib.Core.Path.{◌≡◌, refl, sym, ◌∙◌, ap, ap₂}
-use mathlib.Core.Bool.{true, false≢true}
-use mathlib.Core.List.{List}
-use native.Mathlib.Omega.{arith}
-use lib.ListN.{take, drop, length-take}
-use Rattle.paper.specs.Tokens.{span}
-use Rattle.paper.specs.Addresses.{Scheme, value_of}
+-- A bad part decides (`one_bad`); a good one goes after those before it (`read_more`); at the end they are all parts (`split_parts`).
+use Rattle.std.proofs.Common.{◌≡◌, ℕ, eqb, refl, sym, ap, ◌∙◌, arith, rules, tests, mod-eq_of_lt, length, map}
+use Rattle.std.proofs.lemmas.Iterator.Consumers.{YieldsList-turn, YieldsList-end}
+use Rattle.std.proofs.lemmas.Iterator.Splits.{YieldsList-from_slice_split}
+use Rattle.std.proofs.lemmas.List.{length_push, map-append}
+use Rattle.std.specs.Slice.Iter.{split_rest, split_done, split_callee}
+use Rattle.std.specs.List.{slice_split}
 use Rattle.number.specs.Values.{value}
-use Rattle.addresses.specs.Reads.{scheme, separates, within, is_part, base_of, scale_of}
-use Rattle.addresses.proofs.Digits.{part_size}
-use Rattle.addresses.proofs.Turns.{going_bad, going_last, going_on}
+use Rattle.number.proofs.Limbs.{value_lt}
+use Rattle.addresses.specs.Reads.{scheme, separates, parts_of}
+use Rattle.addresses.proofs.Turns.{split_parts, one_bad, read_more, parts_few}
 use Rattle.addresses.proofs.groups.groups.Goals as goal
 
-abbrev kind : goal.Then-not-is_part → Scheme
-kind t = scheme t.args.kind
+pub loop-part-init : goal.loop-part-init
+loop-part-init c = (refl, (refl, sym (mod-eq_of_lt (value_lt c.args.before (search rules)))))
 
-abbrev string : goal.Then-not-is_part → List ℕ
-string t = t.args.string.now
-
-abbrev at : goal.Then-not-is_part → ℕ
-at t = t.loop-part.at
-
-abbrev end : goal.Then-not-is_part → ℕ
-end c = c.part_end-end.result
-
-abbrev part : goal.Then-not-is_part → List ℕ
-part c = take (end c - at c) (drop (at c) (string c))
-
-part_ends : (c : goal.Then-not-is_part) → end c ≡ at c + span (within (separates (kind c))) (drop (at c) (string c))
-part_ends c = rw (← c.separator.ensures) c.part_end-end.ensures.0
-
--- a bad part decides
 pub returns-then-not-is_part : goal.returns-then-not-is_part
 returns-then-not-is_part c =
-    let going = c.loop-part.invariant in
-    let bad = sym c.is_part.ensures ∙ c.if-not-is_part.true in record {
-      grouped = record {
-        told = sym (going_bad going (end c) (part_ends c) c.part_end-end.ensures.1 bad);
-        counted = λ h. absurd (false≢true h);
-        grown = λ h. absurd (false≢true h);
-      };
-      count_in_bounds = omega (arith, going);
-    }
-
-abbrev kind_2 : goal.Then-end-string → Scheme
-kind_2 t = scheme t.args.kind
-
-abbrev string_2 : goal.Then-end-string → List ℕ
-string_2 t = t.args.string.now
-
-abbrev at_2 : goal.Then-end-string → ℕ
-at_2 t = t.loop-part.at
-
-abbrev end_2 : goal.Then-end-string → ℕ
-end_2 c = c.part_end-end.result
-
-abbrev part_2 : goal.Then-end-string → List ℕ
-part_2 c = take (end_2 c - at_2 c) (drop (at_2 c) (string_2 c))
-
-part_ends_2 : (c : goal.Then-end-string) → end_2 c ≡ at_2 c + span (within (separates (kind_2 c))) (drop (at_2 c) (string_2 c))
-part_ends_2 c = rw (← c.separator.ensures) c.part_end-end.ensures.0
-
-good : (c : goal.Then-end-string) → is_part (kind_2 c) (part_2 c) ≡ true
-good c = sym c.is_part.ensures ∙ c.if-not-is_part.false
-
-put : (c : goal.Then-end-string) → value c.grow-grown.result.number ≡
-    (value c.loop-part.number * scale_of (kind_2 c) + value_of (base_of (kind_2 c)) (part_2 c)) % 2 ^ 128
-put c =
-    let counts = c.value_of.ensures ∙ ap (λ (base : ℕ). value_of base (part_2 c)) c.base.ensures.0 in
-    c.grow-grown.ensures.kept
-    ∙ ap₂ (λ (by d : ℕ). (value c.loop-part.number * by + d) % 2 ^ 128) c.scale.ensures counts
-
-pub returns-then-end-string : goal.returns-then-end-string
-returns-then-end-string c =
-    let going = c.loop-part.invariant in
-    let size = part_size (kind_2 c) (part_2 c) (good c) in record { grouped = going_last going (end_2 c) (part_ends_2 c) (good c) _ (put c) c.if-end-string.true _ refl refl refl; count_in_bounds = omega (arith, going, size.0, length-take (end_2 c - at_2 c) (drop (at_2 c) (string_2 c)), c.if-end-string.true) }
-
-abbrev kind_3 : goal.Else-end-string → Scheme
-kind_3 t = scheme t.args.kind
-
-abbrev string_3 : goal.Else-end-string → List ℕ
-string_3 t = t.args.string.now
-
-abbrev at_3 : goal.Else-end-string → ℕ
-at_3 t = t.loop-part.at
-
-abbrev end_3 : goal.Else-end-string → ℕ
-end_3 c = c.part_end-end.result
-
-abbrev part_3 : goal.Else-end-string → List ℕ
-part_3 c = take (end_3 c - at_3 c) (drop (at_3 c) (string_3 c))
-
-part_ends_3 : (c : goal.Else-end-string) → end_3 c ≡ at_3 c + span (within (separates (kind_3 c))) (drop (at_3 c) (string_3 c))
-part_ends_3 c = rw (← c.separator.ensures) c.part_end-end.ensures.0
-
-good_2 : (c : goal.Else-end-string) → is_part (kind_3 c) (part_3 c) ≡ true
-good_2 c = sym c.is_part.ensures ∙ c.if-not-is_part.false
-
-put_2 : (c : goal.Else-end-string) → value c.grow-grown.result.number ≡
-    (value c.loop-part.number * scale_of (kind_3 c) + value_of (base_of (kind_3 c)) (part_3 c)) % 2 ^ 128
-put_2 c =
-    let counts = c.value_of.ensures ∙ ap (λ (base : ℕ). value_of base (part_3 c)) c.base.ensures.0 in
-    c.grow-grown.ensures.kept
-    ∙ ap₂ (λ (by d : ℕ). (value c.loop-part.number * by + d) % 2 ^ 128) c.scale.ensures counts
+    let sep = c.separator-separator in
+    let made = c.into_iter-part-iterator.ensures.into_iter_gives in
+    let split = c.split-part-items.ensures in
+    let turn = YieldsList-turn (YieldsList-from_slice_split _ (λ b. eqb b sep.result) c.args.string.now (ap split_rest made ∙ split.rest) (ap split_done made ∙ split.done) (ap split_callee made ∙ split.closure) (λ x b q k. search (rules, tests))) c.loop-part.yielded c.loop-part.part-iterator c.loop-part.yielded_by c.next.result c.next.new.self c.in-Some.part c.in-Some.is c.next.ensures.steps in
+    let whole : slice_split (λ b. eqb b sep.result) c.args.string.now ≡ parts_of (scheme c.args.kind) c.args.string.now =
+    ap (λ (s : ℕ). slice_split (λ b. eqb b s) c.args.string.now) sep.ensures ∙ split_parts (λ b. eqb b (separates (scheme c.args.kind))) c.args.string.now in
+    rw (← whole) (one_bad (scheme c.args.kind) _ (length c.loop-part.yielded) c.in-Some.part.now turn.0 turn.1 (sym c.is_part.ensures ∙ c.if-not-is_part.true))
 
 pub loop-part-preserved : goal.loop-part-preserved
 loop-part-preserved c =
-    going_on c.loop-part.invariant (end_3 c) (part_ends_3 c) (good_2 c) _ (put_2 c) (omega (arith, c.part_end-end.ensures))
+    let k = scheme c.args.kind in
+    let read = map (λ p. p.now) c.loop-part.yielded in
+    let good = sym c.is_part.ensures ∙ c.if-not-is_part.false in
+    let more = read_more k (value c.args.before) read (value c.loop-part.number) c.in-Some.part.now c.loop-part.invariant.1 good c.scale.ensures c.base.ensures.0 c.value_of.ensures c.wrapping_grow-number.ensures in
+    (rw (length_push, c.loop-part.invariant.0) refl, rw map-append more)
+
+pub returns : goal.returns
+returns c =
+    let k = scheme c.args.kind in
+    let sep = c.separator-separator in
+    let made = c.into_iter-part-iterator.ensures.into_iter_gives in
+    let split = c.split-part-items.ensures in
+    let end = YieldsList-end (YieldsList-from_slice_split _ (λ b. eqb b sep.result) c.args.string.now (ap split_rest made ∙ split.rest) (ap split_done made ∙ split.done) (ap split_callee made ∙ split.closure) (λ x b q k. search (rules, tests))) c.loop-part.yielded c.loop-part.part-iterator c.loop-part.yielded_by c.next.result c.next.new.self c.in-None.is c.next.ensures.steps in
+    let whole : slice_split (λ b. eqb b sep.result) c.args.string.now ≡ parts_of k c.args.string.now =
+    ap (λ (s : ℕ). slice_split (λ b. eqb b s) c.args.string.now) sep.ensures ∙ split_parts (λ b. eqb b (separates k)) c.args.string.now in
+    let read = rw (end.0 ∙ whole) at c.loop-part.invariant.1 in
+    let counted : c.loop-part.count ≡ length (parts_of k c.args.string.now) = c.loop-part.invariant.0 ∙ end.1 ∙ ap length whole in
+    record { told = read.0; counted = counted; grown = read.1; few = omega (arith, parts_few k c.args.string.now read.0) }

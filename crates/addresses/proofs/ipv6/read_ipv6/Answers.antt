@@ -1,4 +1,4 @@
--- `addresses::ipv6::read_ipv6` meets its contract: without a gap the string is eight groups (`eight`); with one it is the groups on its two
+-- Without a gap the string is eight groups (`eight`); with one it is the groups on its two
 -- sides with zeros between them, and the gap has two bytes, so that the right side starts within the string (`room`).
 use Prim.Native.Nat.{ℕ, ◌+◌, ◌≤◌}
 use mathlib.Core.Path.{sym, ◌∙◌}
@@ -9,7 +9,7 @@ use lib.ListN.{length}
 use lib.Seq.{length-take-le}
 use Rattle.paper.specs.Addresses.{before_gap}
 use Rattle.addresses.proofs.Strings.{gap_room, gap_inside}
-use Rattle.addresses.proofs.Wholes.{read_as, eight}
+use Rattle.addresses.proofs.Wholes.{eight}
 use Rattle.addresses.proofs.ipv6.read_ipv6.Goals as goal
 
 abbrev string : goal.After-whole → List ℕ
@@ -19,7 +19,7 @@ pub returns-then-gap-string : goal.returns-then-gap-string
 returns-then-gap-string c =
     let s = string c in
     let all = sym c.before_gap-gap.ensures ∙ c.if-gap-string.true in
-    read_as (eight s ∙ sym (rw (eq-eqb (before_gap s) (length s) all))) c.whole.ensures
+    c.whole.ensures ∙ eight s ∙ sym (rw (eq-eqb (before_gap s) (length s) all))
 
 abbrev string_2 : goal.Else-gap-string → List ℕ
 string_2 c = c.args.string.now

@@ -1,15 +1,11 @@
 -- No bytes are no groups (`none_grouped`); any others are read as groups (`some_groups`).
-use mathlib.Core.Path.{◌≡◌, refl}
-use mathlib.Core.List.{[]}
-use native.Mathlib.Omega.{arith}
-use Rattle.paper.specs.Addresses.{ipv6}
+use Rattle.std.proofs.Common.{◌≡◌, length, refl, eqb-true, sym, ◌∙◌, rules}
 use Rattle.number.proofs.Limbs.{value_lt}
 use Rattle.addresses.proofs.Wholes.{none_grouped, no_bytes}
-use borrow.Author.Rules.{rules}
 use Rattle.addresses.proofs.ipv6.side.Goals as goal
 
-pub returns-then-string-eq0 : goal.returns-then-string-eq0
-returns-then-string-eq0 c =
+pub returns-then-is_empty : goal.returns-then-is_empty
+returns-then-is_empty c =
     let s = c.args.string.now in
-    let e : s ≡ [] = no_bytes s c.if-string-eq0.true in
-    rw e (record { grouped = none_grouped ipv6 _ refl refl (value_lt c.args.before (search rules)); count_in_bounds = omega arith })
+    let none : length s ≡ 0 = eqb-true (length s) 0 (sym c.is_empty.ensures ∙ c.if-is_empty.true) in
+    rw (no_bytes s none) (none_grouped _ refl (value_lt c.args.before (search rules)))

@@ -16,13 +16,13 @@ atom-returns-in_default t c =
 
 pub atom-returns-in_default-inner : goal.atom-returns-in_default-inner
 atom-returns-in_default-inner t c =
-    let f = found c.next_in.ensures c.in-Is.is in
+    let f = found c.next_in.ensures c.in-Some.is in
     (pass_up _ _ _ _ _ _ _ _ _ _ _ _ (paren_up _ _ _ _ _ _ f) c.chain-inner.result c.in_default-inner.is
     (started (L.sequence false) _ _ _ c.chain-inner.result c.inside-onward.ensures c.chain-inner.ensures))
 
 pub atom-returns : goal.atom-returns
 atom-returns t c =
-    let f = found c.next_in.ensures c.in-Is.is in
+    let f = found c.next_in.ensures c.in-Some.is in
     let h = took_on (L.sequence false) c.inside-onward.ensures c.chain-inner.ensures c.in-Ok.is in
     paren_close _ _ _ _ _ _ f h c.close.result c.close.ensures
 
@@ -77,14 +77,14 @@ further-returns-in_default t c =
 
 pub further-returns-then-ends_after : goal.further-returns-then-ends_after
 further-returns-then-ends_after t c =
-    let f = found c.operator_at.ensures c.in-Is.is in
+    let f = found c.operator_at.ensures c.in-Some.is in
     λ at b first h.
     let w = c.loop-sign.invariant.going _ _ _ _ (going_start _ (rung_runs c.args.rung _ _) h) in
     going_end w (operating _ _ _ c.args.rung f) (sym c.ends_after.ensures ∙ c.if-ends_after.true)
 
 pub further-returns-in_default-more : goal.further-returns-in_default-more
 further-returns-in_default-more t c =
-    let f = found c.operator_at.ensures c.in-Is.is in
+    let f = found c.operator_at.ensures c.in-Some.is in
     λ at b first h.
     let w = c.loop-sign.invariant.going _ _ _ _ (going_start _ (rung_runs c.args.rung _ _) h) in
     (pass_up _ _ _ _ _ _ _ _ _ _ _ _ (going_next w (operating _ _ _ c.args.rung f) (sym c.ends_after.ensures ∙ c.if-ends_after.false)) c.operand-more.result c.in_default-more.is
@@ -92,7 +92,7 @@ further-returns-in_default-more t c =
 
 pub further-returns-then-at_most_once : goal.further-returns-then-at_most_once
 further-returns-then-at_most_once t c =
-    let f = found c.operator_at.ensures c.in-Is.is in
+    let f = found c.operator_at.ensures c.in-Some.is in
     let k = took_on (L.operand_of c.args.rung) c.moved-onward.ensures c.operand-more.ensures c.in-Ok.is in
     λ at b first h.
     let w = c.loop-sign.invariant.going _ _ _ _ (going_start _ (rung_runs c.args.rung _ _) h) in
@@ -100,7 +100,7 @@ further-returns-then-at_most_once t c =
 
 pub further-loop-sign-preserved : goal.further-loop-sign-preserved
 further-loop-sign-preserved t c =
-    let f = found c.operator_at.ensures c.in-Is.is in
+    let f = found c.operator_at.ensures c.in-Some.is in
     let k = took_on (L.operand_of c.args.rung) c.moved-onward.ensures c.operand-more.ensures c.in-Ok.is in
     turned_on c.loop-sign.invariant (operating _ _ _ c.args.rung f) (sym c.ends_after.ensures ∙ c.if-ends_after.false) (sym c.at_most_once.ensures ∙ c.if-at_most_once.false) k c.put_joined.ensures
 
@@ -119,12 +119,12 @@ prefix-returns-in_default t c =
 
 pub prefix-returns-in_default-operand : goal.prefix-returns-in_default-operand
 prefix-returns-in_default-operand t c =
-    let f = found c.next_in.ensures c.in-Is.is in
+    let f = found c.next_in.ensures c.in-Some.is in
     (pass_up _ _ _ _ _ _ _ _ _ _ _ _ (level_up _ c.if-from-eq0.false _ _ _ f) c.prefix-operand.result c.in_default-operand.is
     (started L.prefix _ _ _ c.prefix-operand.result c.inside-onward.ensures c.prefix-operand.ensures))
 
 pub prefix-returns : goal.prefix-returns
 prefix-returns t c =
-    let f = found c.next_in.ensures c.in-Is.is in
+    let f = found c.next_in.ensures c.in-Some.is in
     let h = took_on L.prefix c.inside-onward.ensures c.prefix-operand.ensures c.in-Ok.is in
     level_took _ c.if-from-eq0.false _ _ _ f h c.put_prefixed.ensures

@@ -1,10 +1,9 @@
 -- `grammar::addressed` meets its contract: a string after the "(", what the address of its scheme is, and a ")" after it.
-use Rattle.std.proofs.Common.{◌+◌, ◌-◌, ◌≡◌, refl, sym, ap, ap₂, ◌∙◌, Bool, arith}
+use Rattle.std.proofs.Common.{◌+◌, ◌-◌, ◌≡◌, refl, sym, ap, ap₂, ◌∙◌, arith}
 use mathlib.Core.Option.{none, some}
-use borrow.Author.Tests.{not-true, not-false}
 use lib.Seq.{sets, slice}
 use Rattle.paper.specs.Tokens.{Literal, literal_in, plain}
-use Rattle.paper.specs.Addresses.{address, only}
+use Rattle.paper.specs.Addresses.{address}
 use Rattle.paper.specs.Grammar as G
 use Rattle.number.specs.Values.{value}
 use Rattle.number.specs.Bases.{base_meant, literal_meant}
@@ -28,16 +27,16 @@ returns-in_default c =
     stuck_as T from.count quote _ c.place_at.result c.place_at.ensures
     (addressed_not T from.count quote address (scheme c.args.scheme) _ (absent _ _ _ _ _ c.next_in.ensures c.in_default.is))
 
-pub returns-then-not-read : goal.returns-then-not-read
-returns-then-not-read c =
+pub returns-in_default-read : goal.returns-in_default-read
+returns-in_default-read c =
     let from = start_of c.args.from.now in
     let T = tape_of c.args.text.now c.args.tape.now in
     let quote = from.token + 2 in
     let kind = scheme c.args.scheme in
-    let f = found c.next_in.ensures c.in-Is.is in
+    let f = found c.next_in.ensures c.in-Some.is in
     let bytes = slice (start_at T.rows quote + 1) (end_at T.rows quote - 1) T.text in
-    let e : address kind bytes ≡ none = ap (address kind) (sym c.string_at.ensures) ∙ sym c.read-read.ensures.says ∙ ap (λ (ok : Bool). only ok (value c.read-read.result.number)) (not-true c.read-read.result.ok c.if-not-read.true) in
-    bad_as T from.count quote _ c.place_at-then-not-read.result c.place_at-then-not-read.ensures f.here
+    let e : address kind bytes ≡ none = ap (address kind) (sym c.string_at.ensures) ∙ sym c.in_default-read.ensures in
+    bad_as T from.count quote _ c.place_at-in_default-read.result c.place_at-in_default-read.ensures f.here
     (addressed_here T from.count quote address kind _ f ∙ rw e)
 
 pub returns : goal.returns
@@ -49,10 +48,10 @@ returns c =
     let free = from.node in
     let quote = at + 2 in
     let kind = scheme c.args.scheme in
-    let f = found c.next_in.ensures c.in-Is.is in
+    let f = found c.next_in.ensures c.in-Some.is in
     let bytes = slice (start_at T.rows quote + 1) (end_at T.rows quote - 1) T.text in
-    let m = c.read-read.result.number in
-    let e : address kind bytes ≡ some (value m) = ap (address kind) (sym c.string_at.ensures) ∙ sym c.read-read.ensures.says ∙ ap (λ (ok : Bool). only ok (value m)) (not-false c.read-read.result.ok c.if-not-read.false) in
+    let m = c.in-Some.number in
+    let e : address kind bytes ≡ some (value m) = ap (address kind) (sym c.string_at.ensures) ∙ sym c.in-Some.ensures in
     -- as a plain number
     let stored : literal_meant c.plain.result ≡ plain (value m) = ap₂ (λ (b : Base) (m : Magnitude). literal_in (base_meant b) (value m)) c.plain.ensures.0 c.plain.ensures.1 in
     same_out T n at free _ _ _ _ (addressed_here T n quote address kind _ f ∙ rw e) c.close.result

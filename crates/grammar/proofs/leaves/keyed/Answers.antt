@@ -11,12 +11,12 @@ use Rattle.grammar.proofs.Atoms.{took_key, past_two, word_is, keyed_colons, keye
 use Rattle.grammar.proofs.leaves.keyed.Goals as goal
 
 -- "::"
-pub returns-in-Is : goal.returns-in-Is
-returns-in-Is c =
+pub returns-in-Some : goal.returns-in-Some
+returns-in-Some c =
     let from = start_of c.args.from.now in
     let T = tape_of c.args.text.now c.args.tape.now in
     same_out _ _ _ _ _ _ _ _
-    (keyed_colons T from.count (from.token + 1) address _ _ (found c.next_in.ensures c.in-Is.is) ∙ ap (named _) (past_two T from.count from.token))
+    (keyed_colons T from.count (from.token + 1) address _ _ (found c.next_in.ensures c.in-Some.is) ∙ ap (named _) (past_two T from.count from.token))
     c.field.result c.field.ensures
 
 -- a key
@@ -41,7 +41,7 @@ returns-in_default-scheme_of c =
     let names = ap scheme_of (c.word_at.ensures ∙ sym (word_is T from.count from.token c.requires.word)) in
     took_as T from.count from.token from.node _ _ _ c.key_node-in_default-scheme_of.result c.key_node-in_default-scheme_of.ensures.0
     (took_key T from.count from.token c.requires.word (in_text_lem leads.ready.sound from.token leads.some) leads.some
-    (keyed_plain T from.count (from.token + 1) address _ _ (found c.next_in-2.ensures c.in-Is-next_in.is)
+    (keyed_plain T from.count (from.token + 1) address _ _ (found c.next_in-2.ensures c.in-Some-next_in.is)
     (sym names ∙ sym c.scheme_of.ensures ∙ ap reads.named c.in_default-scheme_of.is))
     c.key_node-in_default-scheme_of.ensures.1)
 
@@ -50,10 +50,10 @@ pub returns : goal.returns
 returns c =
     let from = start_of c.args.from.now in
     let T = tape_of c.args.text.now c.args.tape.now in
-    let k = reads.scheme c.in-Is-scheme_of.scheme in
+    let k = reads.scheme c.in-Some.scheme in
     let names = ap scheme_of (c.word_at.ensures ∙ sym (word_is T from.count from.token c.requires.word)) in
     same_out _ _ _ _ _ _ _ _
-    (keyed_address T from.count (from.token + 1) address _ _ (found c.next_in-2.ensures c.in-Is-next_in.is) k
-    (sym names ∙ sym c.scheme_of.ensures ∙ ap reads.named c.in-Is-scheme_of.is)
+    (keyed_address T from.count (from.token + 1) address _ _ (found c.next_in-2.ensures c.in-Some-next_in.is) k
+    (sym names ∙ sym c.scheme_of.ensures ∙ ap reads.named c.in-Some.is)
     ∙ ap (addressed address k _) (past_two T from.count from.token))
     c.addressed.result c.addressed.ensures

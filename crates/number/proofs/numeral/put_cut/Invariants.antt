@@ -6,8 +6,5 @@ use Rattle.number.proofs.numeral.put_cut.Given as goal
 
 abbrev pub invariant-loop-i : goal.invariant-loop-i
 invariant-loop-i l =
-    (l.first ≤ l.i) × (l.i ≤ l.end) × (length l.bytes ≡ length l.initial.bytes) × (l.left < l.base ^ (l.i - l.first))
-    × ((high : ℕ) → 0 < high → numeral_with l.base l.i (high * l.base ^ (l.i - l.first) + l.left) l.bytes ≡ numeral_with l.base l.end (high * l.base ^ 7 + l.n) l.initial.bytes)
-
-abbrev pub decreases-loop-i : goal.decreases-loop-i
-decreases-loop-i l = l.i
+    (l.end - 7 ≤ l.i) × (length l.bytes ≡ length l.initial.bytes) × (l.left < l.base ^ (l.i - (l.end - 7)))
+    × ((high : ℕ) → 0 < high → numeral_with l.base l.i (high * l.base ^ (l.i - (l.end - 7)) + l.left) l.bytes ≡ numeral_with l.base l.end (high * l.base ^ 7 + l.n) l.initial.bytes)

@@ -7,4 +7,4 @@ use Rattle.number.proofs.width.clear.Goals as goal
 pub returns : goal.returns
 returns c =
     let a = c.args in
-    ap (λ (k : ℕ). leb k (count_trailing_zeros 32 a.limb)) c.at_most.ensures ∙ zeros_tell 32 a.limb a.k c.ranges.limb.fits
+    ap (λ (k : ℕ). leb k (count_trailing_zeros 32 a.limb)) c.min.ensures ∙ zeros_tell 32 a.limb a.k c.ranges.limb.fits

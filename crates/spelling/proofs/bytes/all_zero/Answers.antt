@@ -1,14 +1,10 @@
--- `spelling::bytes::all_zero` meets its contract. The invariant of its loop: what was gathered is 0 exactly where all bytes passed are zero.
--- A turn gathers one byte more. The measure is how many bytes are left.
-use Prim.Native.Nat.{ℕ}
-use mathlib.Core.List.{List}
-use borrow.Author.Rules.{rules}
-use Rattle.spelling.proofs.Steps.{gathers}
+-- Bytes gathered by "or" are 0 exactly where each of them is (`gathered_zero`).
+use Rattle.std.proofs.Common.{◌≡◌, ap, ◌∙◌, nat_eq, bit_or, rules}
+use Rattle.std.specs.List.{fold}
+use Rattle.spelling.proofs.Steps.{gathered_zero}
 use Rattle.spelling.proofs.bytes.all_zero.Goals as goal
 
-abbrev bytes : goal.After-shared_slice_known-1 → List ℕ
-bytes l = l.args.s.now
-
-pub loop-i-preserved : goal.loop-i-preserved
-loop-i-preserved c =
-    (search rules, gathers (bytes c) c.loop-i.i c.loop-i.any (search rules) c.loop-i.invariant.1)
+pub returns : goal.returns
+returns c =
+    let gathered : c.fold.result ≡ fold bit_or 0 c.args.s.now = search rules in
+    ap (λ n. nat_eq n 0) gathered ∙ gathered_zero c.args.s.now 0

@@ -1,11 +1,7 @@
--- Lists of one length are the same where no index tells them apart (`same_on`, `same_stop`, `same_end`); of two lengths they are not
--- (`other_length`).
-use mathlib.Core.Path.{sym}
-use native.Mathlib.Omega.{arith}
-use Rattle.spelling.proofs.Steps.{other_length}
+-- `==` compares the bytes head by head, and so does the paper (`same_bytes_eq`).
+use Rattle.std.proofs.Common.{◌∙◌}
+use Rattle.spelling.proofs.Steps.{same_bytes_eq}
 use Rattle.spelling.proofs.bytes.same_bytes.Goals as goal
 
-pub returns-then-a-b : goal.returns-then-a-b
-returns-then-a-b c =
-    let a = c.args in
-    sym (other_length a.a.now a.b.now (λ e. c.if-a-b.true (omega arith)))
+pub returns : goal.returns
+returns c = c.eq.ensures ∙ same_bytes_eq c.args.a.now c.args.b.now

@@ -18,9 +18,9 @@ returns c =
     rw (
       c.low.ensures,
       c.low-2.ensures,
-      c.past.ensures,
+      c.saturating_sub.ensures,
       c.low-3.ensures,
-      c.past-2.ensures,
+      c.saturating_sub-2.ensures,
       c.low-4.ensures,
-      c.past-3.ensures,
+      c.saturating_sub-3.ensures,
     ) (mod_limbs a.w a.self (held c))

@@ -5,7 +5,7 @@ ghost use Rattle.paper.specs.Fixing.{fix_buffer};
 ghost use Rattle.answers.specs.Calls.{after_call, written};
 
 use crate::{adler, changes, entries, framing, tables};
-use paper::{Explanation, Summary};
+use paper::Explanation;
 use std::io;
 
 // The calls, by the first byte of a request.
@@ -60,14 +60,11 @@ fn explain(rt: &impl Print, text: &[u8], list: &[u8], entry: &[u8]) -> io::Resul
 fn summarize(rt: &impl Print, text: &[u8], list: &[u8]) -> io::Result<()> {
     let named = valve::summarize(text, list);
     lines::say_summarizing(rt, named)?;
-    if let Ok(Summary {
-keys: keys,
-priority: _,
-}) = named {
-        lines::say(rt, b" ")?;
-        lines::say_number(rt, valve::count_keys(keys) as u64)?
-    }
-    Ok(())
+    let Ok(summary) = named else {
+        return Ok(());
+    };
+    lines::say(rt, b" ")?;
+    lines::say_number(rt, u64::from(valve::count_keys(summary.keys)))
 }
 
 // The entries by what the text says of each, and a number for each of its parts.
@@ -86,10 +83,10 @@ fn reading_call(
     third: &[u8],
 ) -> io::Result<()> {
     match call {
-        READ => lines::say_reading(rt, valve::read(first)),
+        READ => lines::say_done(rt, b"read", valve::read(first)),
         CHECK => lines::say_checking(rt, valve::check(first, second)),
         JUDGE => lines::say_judgement(rt, valve::judge(first, second, third)),
-        LOAD => lines::say_loading(rt, valve::load(first, second)),
+        LOAD => lines::say_done(rt, b"loaded", valve::load(first, second)),
         RUN => lines::say_running(rt, valve::run(first, second, third)),
         EXPLAIN => explain(rt, first, second, third),
         SUMMARIZE => summarize(rt, first, second),
@@ -105,21 +102,21 @@ fn reading_call(
 fn translate(rt: &impl Print, text: &[u8], list: &[u8], buffer: &mut [u8]) -> io::Result<()>
     ensures { buffer.new ≡ translate_buffer text.now list.now buffer.old }
 {
-    lines::say_translation(rt, valve::translate(text, list, buffer))?;
+    lines::say_done(rt, b"translated", valve::translate(text, list, buffer))?;
     say_sum(rt, buffer)
 }
 
 fn print(rt: &impl Print, text: &[u8], buffer: &mut [u8]) -> io::Result<()>
     ensures { buffer.new ≡ print_buffer text.now buffer.old }
 {
-    lines::say_printing(rt, valve::print(text, buffer))?;
+    lines::say_done(rt, b"printed", valve::print(text, buffer))?;
     say_sum(rt, buffer)
 }
 
 fn fix_octal(rt: &impl Print, text: &[u8], buffer: &mut [u8]) -> io::Result<()>
     ensures { buffer.new ≡ fix_buffer text.now buffer.old }
 {
-    lines::say_fixing(rt, valve::fix_octal(text, buffer))?;
+    lines::say_done(rt, b"fixed", valve::fix_octal(text, buffer))?;
     say_sum(rt, buffer)
 }
 

@@ -22,9 +22,9 @@ fn earlier_answer(byte: u8) -> Judgement
         ACCEPTED => Ok(Verdict::Accepted),
         VIOLATED => Ok(Verdict::Violated),
         _ => Err(Refusal {
-number: ENTRY_RULE,
-place: Place::Entry(0),
-}),
+            number: ENTRY_RULE,
+            place: Place::Entry(0),
+        }),
     }
 }
 

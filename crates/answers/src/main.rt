@@ -19,7 +19,7 @@ mod tables;
 
 ghost use Rattle.std.specs.Prelude.{◌<◌, length};
 
-use crate::framing::Received;
+use crate::framing::Untaken;
 use files::read_full;
 use std::io;
 use std::io::Read;
@@ -44,17 +44,11 @@ fn request(
     let a = framing::take_input(input, first);
     let b = framing::take_input(input, second);
     let c = framing::take_input(input, third);
-    if framing::is_cut(c) {
+    if c == Err(Untaken::Cut) {
         lines::say(rt, b"cut\n")?;
         return Ok(false);
     }
-    let Received::Whole(x) = a else {
-        return framing::too_long(rt);
-    };
-    let Received::Whole(y) = b else {
-        return framing::too_long(rt);
-    };
-    let Received::Whole(z) = c else {
+    let (Ok(x), Ok(y), Ok(z)) = (a, b, c) else {
         return framing::too_long(rt);
     };
     calls::answer(

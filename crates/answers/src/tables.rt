@@ -5,7 +5,7 @@ ghost use Rattle.paper.specs.Numbers.{number_at};
 ghost use Rattle.paper.specs.Drafting.{draft_buffer};
 ghost use Rattle.answers.specs.Tables.{drafted_from, after_draft};
 
-use crate::{calls, changes, framing};
+use crate::{calls, changes};
 use std::io;
 
 // What stands before the numbers.
@@ -15,7 +15,7 @@ fn count_of(third: &[u8]) -> usize
     requires { 2 ≤ length third.now }
     ensures { (result ≡ number_at third.now 0 2) × (result < 65536) }
 {
-    framing::wide(third[0]) * 256 + framing::wide(third[1])
+    usize::from(third[0]) * 256 + usize::from(third[1])
 }
 
 fn draft(
@@ -27,7 +27,7 @@ fn draft(
 ) -> io::Result<()>
     ensures { buffer.new ≡ draft_buffer contract.now table.now names.now buffer.old }
 {
-    lines::say_drafting(rt, valve::pact(contract, table, names, buffer))?;
+    lines::say_done(rt, b"drafted", valve::pact(contract, table, names, buffer))?;
     calls::say_sum(rt, buffer)
 }
 
@@ -65,5 +65,5 @@ pub(crate) fn pact(
     }
     let n = lines::kept(count);
     let table = lines::numbers(third, HEAD, n);
-    draft_behind(rt, contract, lines::first(&table, n), names, third, end)
+    draft_behind(rt, contract, lines::start(&table, n), names, third, end)
 }

@@ -23,10 +23,10 @@ fn write_code(rt: &impl Print, code: &[u8], room: &mut [u8]) -> io::Result<()> {
 // For its blocks alone a text is translated without a word, unless it is refused.
 fn say_translation(rt: &impl Print, call: usize, translation: Result<usize, Refusal>) -> io::Result<()> {
     if call == TRANSLATE {
-        return lines::say_translation(rt, translation);
+        return lines::say_done(rt, b"translated", translation);
     }
     if let Err(_) = translation {
-        lines::say_translation(rt, translation)?
+        lines::say_done(rt, b"translated", translation)?
     }
     Ok(())
 }
@@ -43,7 +43,7 @@ fn show(rt: &impl Print, bytes: &[u8]) -> io::Result<()> {
 }
 
 fn say_print(rt: &impl Print, printing: Result<usize, Refusal>, room: &[u8]) -> io::Result<()> {
-    lines::say_printing(rt, printing)?;
+    lines::say_done(rt, b"printed", printing)?;
     if let Ok(n) = printing {
         show(rt, lines::start(room, n))?
     }
@@ -51,7 +51,7 @@ fn say_print(rt: &impl Print, printing: Result<usize, Refusal>, room: &[u8]) -> 
 }
 
 fn say_fixing(rt: &impl Print, fixing: Result<usize, Refusal>, room: &[u8]) -> io::Result<()> {
-    lines::say_fixing(rt, fixing)?;
+    lines::say_done(rt, b"fixed", fixing)?;
     if let Ok(n) = fixing {
         show(rt, lines::start(room, n))?
     }
@@ -59,7 +59,7 @@ fn say_fixing(rt: &impl Print, fixing: Result<usize, Refusal>, room: &[u8]) -> i
 }
 
 fn say_drafting(rt: &impl Print, drafting: Result<usize, Refusal>, room: &[u8]) -> io::Result<()> {
-    lines::say_drafting(rt, drafting)?;
+    lines::say_done(rt, b"drafted", drafting)?;
     if let Ok(n) = drafting {
         show(rt, lines::start(room, n))?
     }
@@ -78,7 +78,7 @@ fn draft(
     let numbers = lines::numbers(table, 0, n);
     say_drafting(
         rt,
-        valve::pact(contract, lines::first(&numbers, n), names, room),
+        valve::pact(contract, lines::start(&numbers, n), names, room),
         room,
     )
 }
@@ -215,14 +215,14 @@ fn answer(
     room: &[u8],
 ) -> io::Result<()> {
     match call {
-        READ => lines::say_reading(rt, valve::read(text)),
+        READ => lines::say_done(rt, b"read", valve::read(text)),
         CHECK => lines::say_checking(rt, valve::check(text, list)),
         JUDGE => lines::say_judgement(rt, valve::judge(text, list, entry)),
         EXPLAIN => explain(rt, text, list, entry),
         SUMMARIZE => summarize(rt, text, list),
         COMPARE => lines::say_agreement(rt, valve::compare(text, list, room)),
         COUNT => count(rt, text, list, entry),
-        LOAD => lines::say_loading(rt, valve::load(list, room)),
+        LOAD => lines::say_done(rt, b"loaded", valve::load(list, room)),
         _ => lines::say_running(rt, valve::run(list, room, entry)),
     }
 }

@@ -25,11 +25,7 @@ pub fn name_too_long() -> Error {
 // Whether there is an argument of this number. One that is longer than what is lent for it is there, too.
 fn is_there(rt: &impl Env, i: usize) -> bool {
     let mut byte = [0u8; 1];
-    match rt.arg(i, &mut byte) {
-        Ok(_) => true,
-        Err(FillError::TooLong) => true,
-        Err(FillError::NotPresent) => false,
-    }
+    !matches!(rt.arg(i, &mut byte), Err(FillError::NotPresent))
 }
 
 // How many arguments there are, the program's own name among them; seven for more of them.
@@ -48,8 +44,5 @@ pub fn argument_count(rt: &impl Env) -> usize
 pub fn argument(rt: &impl Env, i: usize, room: &mut [u8]) -> io::Result<usize>
     ensures { IfOk result (λ n. n ≤ length room.new) }
 {
-    match rt.arg(i, room) {
-        Ok(n) => Ok(n),
-        Err(_) => Err(name_too_long()),
-    }
+    rt.arg(i, room).map_err(|_| name_too_long())
 }

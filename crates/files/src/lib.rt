@@ -10,4 +10,4 @@ mod sizes;
 pub use arguments::{MOST_PATH, TOO_LONG, argument, argument_count, name_too_long};
 pub use reading::{File, at_end, not_at_end, open_read, path_text, read_argument, read_full};
 pub use say::{cannot, cannot_read};
-pub use sizes::{true_offset, whole_entries};
+pub use sizes::whole_entries;

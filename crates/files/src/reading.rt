@@ -1,5 +1,6 @@
 // Files that arguments name.
-ghost use Rattle.std.specs.Prelude.{◌+◌, ◌*◌, ◌≤◌, length};
+ghost use Rattle.std.specs.Prelude.{◌≡◌, ◌≤◌, length, IfOk};
+ghost use Rattle.files.specs.Sizes.{true_offset};
 
 use crate::arguments::{MOST_PATH, TOO_LONG, argument};
 use crate::say::cannot_read;
@@ -8,20 +9,29 @@ use std::io::{Error, ErrorKind, Read};
 use std::rt::Files;
 use std::{fs, io, str};
 
-// Whether a file could be read, how many of its first bytes are held, and how many it has.
+// The first bytes of a file, as many as are held of it, and how many it has.
 #[derive(Clone, Copy)]
-pub struct File {
-    pub read: bool,
-    pub held: usize,
+pub struct File<'a> {
+    pub bytes: &'a [u8],
     pub size: usize,
+}
+
+impl File<'_> {
+    // An offset in the file, of one in the bytes that are held of it: their end stands for the file's.
+    pub fn true_offset(&self, at: usize) -> usize
+        ensures { result ≡ true_offset (length self.now.bytes.now) self.now.size at }
+    {
+        if at == self.bytes.len() {
+            self.size
+        } else {
+            at
+        }
+    }
 }
 
 // The library names a file by text alone, so a path that is no text is refused as a name that no file has.
 pub fn path_text(path: &[u8]) -> io::Result<&str> {
-    match str::from_utf8(path) {
-        Ok(text) => Ok(text),
-        Err(_) => Err(Error::from(ErrorKind::InvalidFilename)),
-    }
+    str::from_utf8(path).map_err(|_| Error::from(ErrorKind::InvalidFilename))
 }
 
 // Opens a file for reading.
@@ -43,20 +53,20 @@ pub fn read_full(input: &mut impl Read, room: &mut [u8]) -> usize
     done
 }
 
+// So many reads of 65,536 bytes.
+const TURNS: usize = 1 << 47;
+
 // Reads a file to its end and counts on from what is held of it. A file has fewer than 2^63 bytes, so the turns are enough.
 fn size_from(file: &mut impl Read, held: usize) -> usize
     requires { held ≤ 65536 }
 {
     let mut buffer = [0u8; 65536];
     let mut size = held;
-    let mut turns: usize = 1 << 47;
-    while 0 < turns {
+    for _turn in 0..TURNS {
         let got = read_full(file, &mut buffer);
         size += got;
-        if got < 65536 {
-            turns = 0;
-        } else {
-            turns -= 1;
+        if got < buffer.len() {
+            break;
         }
     }
     size
@@ -77,45 +87,53 @@ pub fn not_at_end(file: &mut impl Read) -> Option<Error> {
     }
 }
 
-fn unread(rt: &(impl Print + Eprint), path: &[u8], reason: Error) -> io::Result<File> {
-    cannot_read(rt, path, reason)?;
-    Ok(File {
-        read: false,
-        held: 0,
-        size: 0,
-    })
-}
-
-fn read_file(rt: &(impl Files + Print + Eprint), path: &[u8], room: &mut [u8]) -> io::Result<File>
+// Puts the start of a file into a room, as far as this goes, and answers how many bytes these are and how many the file has.
+fn fill(rt: &impl Files, path: &[u8], room: &mut [u8]) -> io::Result<(usize, usize)>
     requires { length room.old ≤ 65536 }
+    ensures { IfOk result (λ sizes. sizes.0 ≤ length room.new) }
 {
-    let mut file = match open_read(rt, path) {
-        Ok(file) => file,
-        Err(reason) => return unread(rt, path, reason),
-    };
+    let mut file = open_read(rt, path)?;
     let held = read_full(&mut file, room);
     let size = size_from(&mut file, held);
     match not_at_end(&mut file) {
-        Some(reason) => unread(rt, path, reason),
-        None => Ok(File {
-            read: true,
-            held: held,
-            size: size,
-        }),
+        Some(reason) => Err(reason),
+        None => Ok((held, size)),
+    }
+}
+
+fn read_file<'a>(
+    rt: &(impl Files + Print + Eprint),
+    path: &[u8],
+    room: &'a mut [u8],
+) -> io::Result<Option<File<'a>>>
+    requires { length room.old ≤ 65536 }
+{
+    match fill(rt, path, room) {
+        Ok((held, size)) => Ok(Some(File {
+            bytes: &room[..held],
+            size,
+        })),
+        Err(reason) => {
+            cannot_read(rt, path, reason)?;
+            Ok(None)
+        }
     }
 }
 
 // Reads the start of the file that an argument names, as far as the room goes, and tells its size; or says why it cannot.
-pub fn read_argument(
+pub fn read_argument<'a>(
     rt: &(impl Files + Env + Print + Eprint),
     i: usize,
-    room: &mut [u8],
-) -> io::Result<File>
+    room: &'a mut [u8],
+) -> io::Result<Option<File<'a>>>
     requires { length room.old ≤ 65536 }
 {
     let mut path = [0u8; MOST_PATH];
     match argument(rt, i, &mut path) {
         Ok(n) => read_file(rt, &path[..n], room),
-        Err(reason) => unread(rt, TOO_LONG, reason),
+        Err(reason) => {
+            cannot_read(rt, TOO_LONG, reason)?;
+            Ok(None)
+        }
     }
 }

@@ -11,11 +11,14 @@
 
 mod tables;
 
-ghost use Rattle.std.specs.Prelude.{◌≡◌, ◌-◌, ◌<◌, take};
+ghost use Rattle.std.specs.Prelude.{◌≡◌, take};
 
-use paper::{Agreement, Counted, Ended, Explanation, Judgement, Place, RanAll, Rechecking, Refusal, Summary, Verdict};
+use paper::{
+    Agreement, Counted, Ended, Explanation, Judgement, Place, RanAll, Rechecking, Refusal, Summary,
+    Verdict,
+};
 use std::io;
-pub use tables::{KEPT, NUMBER, first, kept, numbers};
+pub use tables::{KEPT, NUMBER, kept, numbers};
 
 // Writes bytes as they are.
 pub fn say(rt: &impl Print, s: &[u8]) -> io::Result<()> {
@@ -27,16 +30,9 @@ pub fn say_number(rt: &impl Print, n: u64) -> io::Result<()> {
     rt.print(n)
 }
 
-fn hex_digit(n: u8) -> u8
-    requires { n < 16 }
-{
-    if n < 10 { b'0' + n } else { b'a' + (n - 10) }
-}
-
 // Writes a byte as two hexadecimal digits.
 pub fn say_hex(rt: &impl Print, byte: u8) -> io::Result<()> {
-    let digits = [hex_digit(byte / 16), hex_digit(byte % 16)];
-    say(rt, &digits)
+    print!(rt; "{byte:02x}")
 }
 
 fn say_count(rt: &impl Print, what: &[u8], n: usize) -> io::Result<()> {
@@ -44,10 +40,10 @@ fn say_count(rt: &impl Print, what: &[u8], n: usize) -> io::Result<()> {
     say_number(rt, n as u64)
 }
 
-fn say_refused(rt: &impl Print, number: u8, place: Place) -> io::Result<()> {
+fn say_refused(rt: &impl Print, refusal: Refusal) -> io::Result<()> {
     say(rt, b"refused ")?;
-    say_number(rt, number as u64)?;
-    match place {
+    say_number(rt, u64::from(refusal.number))?;
+    match refusal.place {
         Place::Text(at) => say_count(rt, b" text ", at),
         Place::List(at) => say_count(rt, b" list ", at),
         Place::Entry(at) => say_count(rt, b" entry ", at),
@@ -58,11 +54,14 @@ fn say_refused(rt: &impl Print, number: u8, place: Place) -> io::Result<()> {
     }
 }
 
-// Writes what `read` answered.
-pub fn say_reading(rt: &impl Print, reading: Result<usize, Refusal>) -> io::Result<()> {
-    match reading {
-        Ok(n) => say_count(rt, b"read ", n),
-        Err(refusal) => say_refused(rt, number, place),
+// Writes what a call answered that counts: what it did, `read`, `translated`, `loaded`, `printed`, `fixed` or `drafted`, and how many.
+pub fn say_done(rt: &impl Print, what: &[u8], counted: Result<usize, Refusal>) -> io::Result<()> {
+    match counted {
+        Ok(n) => {
+            say(rt, what)?;
+            say_count(rt, b" ", n)
+        }
+        Err(refusal) => say_refused(rt, refusal),
     }
 }
 
@@ -70,86 +69,45 @@ pub fn say_reading(rt: &impl Print, reading: Result<usize, Refusal>) -> io::Resu
 pub fn say_checking(rt: &impl Print, checking: Result<(), Refusal>) -> io::Result<()> {
     match checking {
         Ok(()) => say(rt, b"passed"),
-        Err(refusal) => say_refused(rt, number, place),
+        Err(refusal) => say_refused(rt, refusal),
+    }
+}
+
+fn say_verdict(rt: &impl Print, verdict: Verdict) -> io::Result<()> {
+    match verdict {
+        Verdict::Accepted => say(rt, b"accepted"),
+        Verdict::Violated => say(rt, b"violated"),
     }
 }
 
 // Writes what `judge` answered.
 pub fn say_judgement(rt: &impl Print, judgement: Judgement) -> io::Result<()> {
     match judgement {
-        Ok(Verdict::Accepted) => say(rt, b"accepted"),
-        Ok(Verdict::Violated) => say(rt, b"violated"),
-        Err(refusal) => say_refused(rt, number, place),
-    }
-}
-
-// Writes what `translate` answered.
-pub fn say_translation(rt: &impl Print, translation: Result<usize, Refusal>) -> io::Result<()> {
-    match translation {
-        Ok(n) => say_count(rt, b"translated ", n),
-        Err(refusal) => say_refused(rt, number, place),
-    }
-}
-
-// Writes what `load` answered.
-pub fn say_loading(rt: &impl Print, loading: Result<usize, Refusal>) -> io::Result<()> {
-    match loading {
-        Ok(n) => say_count(rt, b"loaded ", n),
-        Err(refusal) => say_refused(rt, number, place),
+        Ok(verdict) => say_verdict(rt, verdict),
+        Err(refusal) => say_refused(rt, refusal),
     }
 }
 
 // Writes what `run` answered, with the steps that it took.
 pub fn say_running(rt: &impl Print, running: Result<Ended, Refusal>) -> io::Result<()> {
     match running {
-        Ok(Ended {
-verdict: Verdict::Accepted,
-steps: steps,
-}) => say_count(rt, b"accepted ", steps),
-        Ok(Ended {
-verdict: Verdict::Violated,
-steps: steps,
-}) => say_count(rt, b"violated ", steps),
-        Err(refusal) => say_refused(rt, number, place),
+        Ok(ended) => {
+            say_verdict(rt, ended.verdict)?;
+            say_count(rt, b" ", ended.steps)
+        }
+        Err(refusal) => say_refused(rt, refusal),
     }
 }
 
 // Writes what `run_all` answered: how many entries there are, and the steps of all of them.
 pub fn say_running_all(rt: &impl Print, running: Result<RanAll, Refusal>) -> io::Result<()> {
     match running {
-        Ok(RanAll {
-entries: entries,
-steps: steps,
-}) => {
-            say_count(rt, b"ran ", entries)?;
+        Ok(ran) => {
+            say_count(rt, b"ran ", ran.entries)?;
             say(rt, b" ")?;
-            say_number(rt, steps)
+            say_number(rt, ran.steps)
         }
-        Err(refusal) => say_refused(rt, number, place),
-    }
-}
-
-// Writes what `print` answered.
-pub fn say_printing(rt: &impl Print, printing: Result<usize, Refusal>) -> io::Result<()> {
-    match printing {
-        Ok(n) => say_count(rt, b"printed ", n),
-        Err(refusal) => say_refused(rt, number, place),
-    }
-}
-
-// Writes what `fix_octal` answered.
-pub fn say_fixing(rt: &impl Print, fixing: Result<usize, Refusal>) -> io::Result<()> {
-    match fixing {
-        Ok(n) => say_count(rt, b"fixed ", n),
-        Err(refusal) => say_refused(rt, number, place),
-    }
-}
-
-// Writes what `pact` answered.
-pub fn say_drafting(rt: &impl Print, drafting: Result<usize, Refusal>) -> io::Result<()> {
-    match drafting {
-        Ok(n) => say_count(rt, b"drafted ", n),
-        Err(refusal) => say_refused(rt, number, place),
+        Err(refusal) => say_refused(rt, refusal),
     }
 }
 
@@ -158,22 +116,13 @@ pub fn say_agreement(rt: &impl Print, agreement: Result<Agreement, Refusal>) -> 
     match agreement {
         Ok(Agreement::Agrees) => say(rt, b"agrees"),
         Ok(Agreement::Differs) => say(rt, b"differs"),
-        Err(refusal) => say_refused(rt, number, place),
+        Err(refusal) => say_refused(rt, refusal),
     }
-}
-
-// How many bytes stand from one offset up to another.
-fn length_of(from: usize, to: usize) -> usize
-    ensures { result ≡ to - from }
-{
-    if from < to { to - from } else { 0 }
 }
 
 // Where something stands, and the start and length of its stretch.
 fn say_stretch(rt: &impl Print, place: usize, from: usize, to: usize) -> io::Result<()> {
-    say_count(rt, b" at ", place)?;
-    say_count(rt, b" ", from)?;
-    say_count(rt, b" ", length_of(from, to))
+    print!(rt; " at {place} {from} {}", to.saturating_sub(from))
 }
 
 // Writes what `reason` answered: a part of the text, a key of the list, or nothing and the judgement.
@@ -195,25 +144,18 @@ pub fn say_explanation(rt: &impl Print, why: Explanation) -> io::Result<()> {
 }
 
 fn say_mark(rt: &impl Print, marked: bool) -> io::Result<()> {
-    if marked {
-        say(rt, b" 1")
-    } else {
-        say(rt, b" 0")
-    }
+    print!(rt; " {}", u8::from(marked))
 }
 
 // Writes what `summarize` answered: the set of the keys that are named as a number, and 1 where ::priority is, else 0.
 pub fn say_summarizing(rt: &impl Print, summarizing: Result<Summary, Refusal>) -> io::Result<()> {
     match summarizing {
-        Ok(Summary {
-keys: keys,
-priority: priority,
-}) => {
+        Ok(summary) => {
             say(rt, b"summary ")?;
-            say_number(rt, keys as u64)?;
-            say_mark(rt, priority)
+            say_number(rt, u64::from(summary.keys))?;
+            say_mark(rt, summary.priority)
         }
-        Err(refusal) => say_refused(rt, number, place),
+        Err(refusal) => say_refused(rt, refusal),
     }
 }
 
@@ -234,8 +176,7 @@ pub fn say_rechecking(rt: &impl Print, rechecking: Rechecking) -> io::Result<()>
 // Writes numbers, each after a blank.
 fn say_each(rt: &impl Print, numbers: &[u64]) -> io::Result<()> {
     for n in numbers {
-        say(rt, b" ")?;
-        say_number(rt, *n)?;
+        print!(rt; " {n}")?;
     }
     Ok(())
 }
@@ -247,25 +188,24 @@ pub fn say_counting(
     numbers: &[u64; parts::MOST_PARTS],
 ) -> io::Result<()> {
     match counting {
-        Ok(Counted {
-parts: n,
-accepted: accepted,
-violated: violated,
-refused: refused,
-cut: cut,
-}) => {
-            let totals = [accepted, violated, refused, cut as u64];
+        Ok(counted) => {
+            let totals = [
+                counted.accepted,
+                counted.violated,
+                counted.refused,
+                counted.cut as u64,
+            ];
             say(rt, b"counted")?;
             say_each(rt, &totals)?;
-            say_each(rt, first(numbers, n))
+            say_each(rt, start(numbers, counted.parts))
         }
-        Err(refusal) => say_refused(rt, number, place),
+        Err(refusal) => say_refused(rt, refusal),
     }
 }
 
-// The first n bytes of a room, as far as there are any.
-pub fn start(room: &[u8], n: usize) -> &[u8]
+// The first n bytes of a room, or numbers of a table, as far as there are any.
+pub fn start<T>(room: &[T], n: usize) -> &[T]
     ensures { result.now ≡ take n room.now }
 {
-    if n <= room.len() { &room[..n] } else { room }
+    room.get(..n).unwrap_or(room)
 }

@@ -13,7 +13,7 @@ pub const KEPT: usize = 17;
 pub fn kept(count: usize) -> usize
     ensures { (result ≡ kept_of count) × (result ≤ count) × (result ≤ 17) }
 {
-    if count < KEPT { count } else { KEPT }
+    count.min(KEPT)
 }
 
 // The number that eight bytes from an offset on are.
@@ -21,8 +21,8 @@ fn number_at(s: &[u8], at: usize) -> u64
     requires { at + 8 ≤ length s.now }
     ensures { result ≡ number_at s.now at 8 }
 {
-    let high = number::word(s, at) as u64;
-    let low = number::word(s, at + 4) as u64;
+    let high = u64::from(number::word(s, at));
+    let low = u64::from(number::word(s, at + 4));
     high * 0x1_0000_0000 + low
 }
 
@@ -32,17 +32,8 @@ pub fn numbers(s: &[u8], at: usize, n: usize) -> [u64; 17]
     ensures { take n result ≡ numbers_from s.now at n }
 {
     let mut table = [0u64; KEPT];
-    let mut i = 0;
-    while i < n {
+    for i in 0..n {
         table[i] = number_at(s, at + NUMBER * i);
-        i += 1;
     }
     table
-}
-
-// The first n numbers of a table, as far as there are any.
-pub fn first(table: &[u64], n: usize) -> &[u64]
-    ensures { result.now ≡ take n table.now }
-{
-    if n <= table.len() { &table[..n] } else { table }
 }

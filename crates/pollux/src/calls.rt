@@ -12,7 +12,7 @@ use streaming::{Way, judge_file, recheck_files};
 use wording::named::say_summary;
 use wording::octal;
 use wording::refusals::refused;
-use wording::say::{say_argument, say_count};
+use wording::say::{Things, say_argument};
 
 // Where a call finds its files among the arguments.
 const FIRST: usize = 2;
@@ -98,13 +98,9 @@ fn translated(
 ) -> io::Result<()> {
     let blocks = Block::needed(instructions);
     if write_argument(rt, OUT, sizes::first_blocks(buffer, blocks))? {
-        say_count(
-            rt,
-            b"translated # instruction into ",
-            b"translated # instructions into ",
-            instructions,
-        )?;
-        say_count(rt, b"# block: ", b"# blocks: ", blocks)?;
+        let instructions = Things(instructions, "instruction", "instructions");
+        let blocks = Things(blocks, "block", "blocks");
+        print!(rt; "translated {instructions} into {blocks}: ")?;
         say_argument(rt, OUT)?;
         say(rt, b"\n")?
     }
@@ -150,11 +146,10 @@ fn compare(
     list_size: usize,
 ) -> io::Result<()> {
     let mut room = [0u8; 65536];
-    let file = read_argument(rt, BLOCKS, &mut room)?;
-    if !file.read {
+    let Some(file) = read_argument(rt, BLOCKS, &mut room)? else {
         return Ok(());
-    }
-    let blocks = start(&room, file.held);
+    };
+    let blocks = file.bytes;
     match valve::compare(text, list, blocks) {
         Ok(Agreement::Agrees) => agrees(rt),
         Ok(Agreement::Differs) => differs(rt),
@@ -176,12 +171,8 @@ fn loaded(
     if let Call::Run = call {
         judge_file(rt, Way::Run, blocks, list, ENTRIES)
     } else {
-        say_count(
-            rt,
-            b"loaded # instruction\n",
-            b"loaded # instructions\n",
-            instructions,
-        )
+        let instructions = Things(instructions, "instruction", "instructions");
+        println!(rt; "loaded {instructions}")
     }
 }
 
@@ -225,21 +216,13 @@ fn answer_on(
 pub(crate) fn answer(rt: &(impl Files + Env + Print + Eprint), call: Call) -> io::Result<()> {
     let mut first = [0u8; 4097];
     let mut second = [0u8; 65536];
-    let a = read_argument(rt, FIRST, &mut first)?;
-    if a.read {
-        let b = read_argument(rt, SECOND, &mut second)?;
-        if b.read {
-            answer_on(
-                rt,
-                call,
-                start(&first, a.held),
-                start(&second, b.held),
-                a.size,
-                b.size,
-            )?
-        }
-    }
-    Ok(())
+    let Some(a) = read_argument(rt, FIRST, &mut first)? else {
+        return Ok(());
+    };
+    let Some(b) = read_argument(rt, SECOND, &mut second)? else {
+        return Ok(());
+    };
+    answer_on(rt, call, a.bytes, b.bytes, a.size, b.size)
 }
 
 // The longest print.
@@ -250,7 +233,7 @@ fn print_text(rt: &impl Print, text: &[u8], size: usize) -> io::Result<()> {
     let mut buffer = [0u8; MOST_PRINT];
     match valve::print(text, &mut buffer) {
         Ok(n) => {
-            say_count(rt, b"printed # byte:\n", b"printed # bytes:\n", n)?;
+            println!(rt; "printed {}:", Things(n, "byte", "bytes"))?;
             say(rt, start(&buffer, n))?;
             say(rt, b"\n")
         }
@@ -261,11 +244,10 @@ fn print_text(rt: &impl Print, text: &[u8], size: usize) -> io::Result<()> {
 // Reads TEXT, and shows it in house style.
 pub(crate) fn print(rt: &(impl Files + Env + Print + Eprint)) -> io::Result<()> {
     let mut room = [0u8; 4097];
-    let file = read_argument(rt, FIRST, &mut room)?;
-    if file.read {
-        print_text(rt, start(&room, file.held), file.size)?
+    match read_argument(rt, FIRST, &mut room)? {
+        Some(file) => print_text(rt, file.bytes, file.size),
+        None => Ok(()),
     }
-    Ok(())
 }
 
 // What the pass made of a text, into the file that argument 3 names.
@@ -291,9 +273,8 @@ fn fix_text(rt: &(impl Files + Env + Print + Eprint), text: &[u8], size: usize) 
 // Reads TEXT, and writes it to OUT with its octal numerals in hex; OUT may be TEXT itself.
 pub(crate) fn fix_octal(rt: &(impl Files + Env + Print + Eprint)) -> io::Result<()> {
     let mut room = [0u8; 4097];
-    let file = read_argument(rt, FIRST, &mut room)?;
-    if file.read {
-        fix_text(rt, start(&room, file.held), file.size)?
+    match read_argument(rt, FIRST, &mut room)? {
+        Some(file) => fix_text(rt, file.bytes, file.size),
+        None => Ok(()),
     }
-    Ok(())
 }

@@ -18,7 +18,6 @@ mod writing;
 use calls::{Call, answer, fix_octal, print};
 use files::{argument, argument_count};
 use pacts::pact;
-use spelling::bytes::same_bytes;
 use std::env::Env;
 use std::io;
 use std::io::IsTerminal;
@@ -51,76 +50,38 @@ fn usage(rt: &impl Print) -> io::Result<()> {
     )
 }
 
-// A call of one file.
-fn with_one(rt: &(impl Files + Env + Print + Eprint), call: &[u8]) -> io::Result<()> {
-    if same_bytes(call, b"print") {
-        print(rt)
-    } else {
-        usage(rt)
-    }
-}
-
-// A call of two files.
-fn with_two(rt: &(impl Files + Env + Print + Eprint), call: &[u8]) -> io::Result<()> {
-    if same_bytes(call, b"check") {
-        answer(rt, Call::Check)
-    } else if same_bytes(call, b"summary") {
-        answer(rt, Call::Summary)
-    } else if same_bytes(call, b"fix-octal") {
-        fix_octal(rt)
-    } else if same_bytes(call, b"load") {
-        answer(rt, Call::Load)
-    } else {
-        usage(rt)
-    }
-}
-
-// A call of three. A long count shows how far it has come where somebody watches.
-fn with_three(
+// A call by its name and how many files it takes. A long count shows how far it has come where somebody watches.
+fn call(
     rt: &(impl Files + Env + Print + Eprint),
     watched: bool,
-    call: &[u8],
+    name: &[u8],
+    files: usize,
 ) -> io::Result<()> {
-    if same_bytes(call, b"translate") {
-        answer(rt, Call::Translate)
-    } else if same_bytes(call, b"compare") {
-        answer(rt, Call::Compare)
-    } else if same_bytes(call, b"judge") {
-        answer(rt, Call::Judge)
-    } else if same_bytes(call, b"explain") {
-        answer(rt, Call::Explain)
-    } else if same_bytes(call, b"run") {
-        answer(rt, Call::Run)
-    } else if same_bytes(call, b"count") {
-        report::count_files(rt, watched, FIRST, SECOND, THIRD)
-    } else {
-        usage(rt)
-    }
-}
-
-// A call of four.
-fn with_four(rt: &(impl Files + Env + Print + Eprint), call: &[u8]) -> io::Result<()> {
-    if same_bytes(call, b"recheck") {
-        answer(rt, Call::Recheck)
-    } else if same_bytes(call, b"pact") {
-        pact(rt)
-    } else {
-        usage(rt)
+    match (name, files) {
+        (b"print", 1) => print(rt),
+        (b"check", 2) => answer(rt, Call::Check),
+        (b"summary", 2) => answer(rt, Call::Summary),
+        (b"fix-octal", 2) => fix_octal(rt),
+        (b"load", 2) => answer(rt, Call::Load),
+        (b"translate", 3) => answer(rt, Call::Translate),
+        (b"compare", 3) => answer(rt, Call::Compare),
+        (b"judge", 3) => answer(rt, Call::Judge),
+        (b"explain", 3) => answer(rt, Call::Explain),
+        (b"run", 3) => answer(rt, Call::Run),
+        (b"count", 3) => report::count_files(rt, watched, FIRST, SECOND, THIRD),
+        (b"recheck", 4) => answer(rt, Call::Recheck),
+        (b"pact", 4) => pact(rt),
+        _ => usage(rt),
     }
 }
 
 fn main(rt: HostRuntime) -> io::Result<()> {
     let mut room = [0u8; 16];
     // No call has a longer name.
-    let call = match argument(&rt, 1, &mut room) {
+    let name = match argument(&rt, 1, &mut room) {
         Ok(n) => &room[..n],
         Err(_) => b"",
     };
-    match argument_count(&rt) {
-        3 => with_one(&rt, call),
-        4 => with_two(&rt, call),
-        5 => with_three(&rt, rt.stderr().is_terminal(), call),
-        6 => with_four(&rt, call),
-        _ => usage(&rt),
-    }
+    let files = argument_count(&rt).saturating_sub(2);
+    call(&rt, rt.stderr().is_terminal(), name, files)
 }

@@ -1,7 +1,7 @@
 // A Pact contract into a text: CONTRACT is bytes, TABLE decimal numbers, a line each, KEYS names the contract's inputs, and OUT is the text.
-use crate::tables::{Found, read_table};
+use crate::tables::read_table;
 use crate::writing::write_argument;
-use files::{read_argument, true_offset};
+use files::{File, read_argument};
 use keys::KeyRecord;
 use lines::{say, start};
 use paper::{Place, refused};
@@ -11,7 +11,7 @@ use std::rt::Files;
 use wording::caret;
 use wording::contracts::say_why;
 use wording::reasons::say_reason;
-use wording::say::{say_argument, say_count, say_two};
+use wording::say::{Things, say_argument};
 
 // Where the call finds its files among the arguments.
 const CONTRACT: usize = 2;
@@ -24,25 +24,17 @@ const OUT: usize = 5;
 
 fn drafted(rt: &(impl Files + Env + Print + Eprint), text: &[u8]) -> io::Result<()> {
     if write_argument(rt, OUT, text)? {
-        say_count(rt, b"drafted # byte: ", b"drafted # bytes: ", text.len())?;
+        print!(rt; "drafted {}: ", Things(text.len(), "byte", "bytes"))?;
         say_argument(rt, OUT)?;
         say(rt, b"\n")?
     }
     Ok(())
 }
 
-fn refused_names(
-    rt: &impl Print,
-    number: u8,
-    at: usize,
-    held: usize,
-    size: usize,
-) -> io::Result<()> {
-    say_two(
-        rt,
-        b"refused #: key list, byte #: ",
-        number as usize,
-        true_offset(at, held, size),
+fn refused_names(rt: &impl Print, number: u8, at: usize, names: File) -> io::Result<()> {
+    print!(rt;
+        "refused {number}: key list, byte {}: ",
+        names.true_offset(at)
     )?;
     if number == refused::KEY_LAYOUT {
         say(
@@ -55,34 +47,38 @@ fn refused_names(
 }
 
 fn refused_text(rt: &impl Print, number: u8, at: usize) -> io::Result<()> {
-    say_two(rt, b"refused #: text, byte #: ", number as usize, at)?;
+    print!(rt; "refused {number}: text, byte {at}: ")?;
     say(
         rt,
         b"the text has more than 4,096 bytes, 1,024 tokens or 64 levels\n",
     )
 }
 
-// `size` is that of the file of names, of which the first bytes are held.
 fn draft(
     rt: &(impl Files + Env + Print + Eprint),
     contract: &[u8],
     table: &[u64],
-    names: &[u8],
-    size: usize,
+    names: File,
 ) -> io::Result<()> {
     let mut buffer = [0u8; 4096];
-    match valve::pact(contract, table, names, &mut buffer) {
+    match valve::pact(contract, table, names.bytes, &mut buffer) {
         Ok(n) => drafted(rt, start(&buffer, n)),
         Err(refusal) => match place {
             Place::Contract(at) => {
-                say_two(rt, b"refused #: contract, byte #: ", number as usize, at)?;
-                say_why(rt, contract, at, names.len() / KeyRecord::SIZE, table.len())
+                print!(rt; "refused {number}: contract, byte {at}: ")?;
+                say_why(
+                    rt,
+                    contract,
+                    at,
+                    names.bytes.len() / KeyRecord::SIZE,
+                    table.len(),
+                )
             }
             Place::Table(at) => {
-                say_two(rt, b"refused #: table, number #: ", number as usize, at)?;
+                print!(rt; "refused {number}: table, number {at}: ")?;
                 say(rt, b"a 17th user number, and a table has at most 16\n")
             }
-            Place::List(at) => refused_names(rt, number, at, names.len(), size),
+            Place::List(at) => refused_names(rt, number, at, names),
             Place::Buffer(at) => refused_text(rt, number, at),
             _ => Ok(()),
         },
@@ -109,11 +105,10 @@ fn with_names(
     table: &[u64],
 ) -> io::Result<()> {
     let mut room = [0u8; 65536];
-    let names = read_argument(rt, NAMES, &mut room)?;
-    if names.read {
-        draft(rt, contract, table, start(&room, names.held), names.size)?
+    match read_argument(rt, NAMES, &mut room)? {
+        Some(names) => draft(rt, contract, table, names),
+        None => Ok(()),
     }
-    Ok(())
 }
 
 fn with_table(
@@ -123,8 +118,8 @@ fn with_table(
 ) -> io::Result<()> {
     let mut table = [0u64; lines::KEPT];
     match read_table(text, &mut table) {
-        Found::Numbers(n) => with_names(rt, contract, lines::first(&table, n)),
-        Found::Wrong(at) => wrong_line(rt, text, at),
+        Ok(n) => with_names(rt, contract, lines::start(&table, n)),
+        Err(at) => wrong_line(rt, text, at),
     }
 }
 
@@ -132,19 +127,17 @@ fn with_table(
 pub(crate) fn pact(rt: &(impl Files + Env + Print + Eprint)) -> io::Result<()> {
     let mut first = [0u8; 65536];
     let mut second = [0u8; 65536];
-    let contract = read_argument(rt, CONTRACT, &mut first)?;
-    if !contract.read {
+    let Some(contract) = read_argument(rt, CONTRACT, &mut first)? else {
         return Ok(());
-    }
-    if contract.held < contract.size {
+    };
+    if contract.bytes.len() < contract.size {
         return too_long(rt, CONTRACT);
     }
-    let table = read_argument(rt, TABLE, &mut second)?;
-    if !table.read {
+    let Some(table) = read_argument(rt, TABLE, &mut second)? else {
         return Ok(());
-    }
-    if table.held < table.size {
+    };
+    if table.bytes.len() < table.size {
         return too_long(rt, TABLE);
     }
-    with_table(rt, start(&first, contract.held), start(&second, table.held))
+    with_table(rt, contract.bytes, table.bytes)
 }

@@ -9,22 +9,20 @@ use std::rt::Files;
 use std::{fs, io};
 use wording::say::{cannot_write, cannot_write_by};
 
-// The longest path that leaves room for ".part" and for C's 0 after it.
-const LONGEST: usize = MOST_PATH - 6;
+// What stands behind a path in that of the file beside it.
+const PART: &[u8] = b".part";
+
+// The longest path that leaves room for this and for C's 0 after it.
+const LONGEST: usize = MOST_PATH - PART.len() - 1;
 
 fn is_link(rt: &impl Files, path: &str) -> bool {
-    match fs::symlink_metadata(rt, path) {
-        Ok(found) => found.is_symlink(),
-        Err(_) => false,
-    }
+    fs::symlink_metadata(rt, path).is_ok_and(|found| found.is_symlink())
 }
 
 // Only a regular file can be cut to a length, here to the one that it has.
 fn is_regular(file: &mut (impl Seek + OpenFile)) -> bool {
-    match file.seek(SeekFrom::End(0)) {
-        Ok(end) => file.set_len(end).is_ok(),
-        Err(_) => false,
-    }
+    file.seek(SeekFrom::End(0))
+        .is_ok_and(|end| file.set_len(end).is_ok())
 }
 
 fn unwritten(rt: &(impl Print + Eprint), path: &[u8], reason: Error) -> io::Result<bool> {
@@ -177,10 +175,7 @@ pub(crate) fn write_argument(
     if LONGEST < n {
         return unwritten(rt, TOO_LONG, name_too_long());
     }
-    path[n] = b'.';
-    path[n + 1] = b'p';
-    path[n + 2] = b'a';
-    path[n + 3] = b'r';
-    path[n + 4] = b't';
-    write_file(rt, start(&path, n), start(&path, n + 5), bytes)
+    let end = n + PART.len();
+    path[n..end].copy_from_slice(PART);
+    write_file(rt, start(&path, n), start(&path, end), bytes)
 }

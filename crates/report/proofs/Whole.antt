@@ -2,6 +2,7 @@
 -- (`reaches_more`), from none on (`reaches_none`); at the end they are the answer to a call with all of it (`answered`), which is 25 where there
 -- are too many (`too_many`).
 use Prim.Native.Nat.{ℕ, ◌+◌, ◌*◌, ◌≤◌, ◌<◌}
+use Rattle.std.specs.Prelude.{Ok}
 use native.Mathlib.Nat.{zero-div, zero-mod}
 use native.Mathlib.Omega.{arith}
 use mathlib.Core.Path.{◌≡◌, refl, sym, ap, ◌∙◌}
@@ -165,7 +166,7 @@ module _ (text list nodes rows : List ℕ) (n : ℕ) (p : PassedParts text list 
 
     -- the file's end
     pub answered : (file after : List ℕ) (course : Course) → Reaches rule base file course after → course.whole ≤ most_entries
-        → Reports text list file (C.Counted n course.totals.accepted course.totals.violated course.totals.refused course.cut) entry after
+        → Reports text list file (Ok (record { parts = n; accepted = course.totals.accepted; violated = course.totals.violated; refused = course.totals.refused; cut = course.cut })) entry after
     unfolding count_answer count_numbers
     answered file after course r few =
         let is = counted_there text list file _ p.rooted.passed rule.parts p.parted.are (omega (arith, r.whole, few)) in

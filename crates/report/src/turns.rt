@@ -5,7 +5,7 @@ ghost use Rattle.keys.specs.Says.{keys_in};
 ghost use Rattle.reading.specs.Parted.{PassedParts};
 ghost use Rattle.report.specs.Reports.{Reports};
 
-use crate::course::{Course, add_held};
+use crate::course::{Course, Parted, add_held};
 use crate::progress;
 use files::read_full;
 use lines::start;
@@ -21,21 +21,19 @@ const MOST_ENTRIES: usize = 1_000_000;
 pub(crate) fn count_turns(
     rt: &impl Eprint,
     watched: bool,
-    list: &[u8],
-    nodes: &[u32],
-    rows: &[u32],
-    n: usize,
+    parted: Parted,
     file: &mut impl Read,
     part: &mut [u8],
     counts: &mut [u64],
 ) -> Result<Counted, Refusal>
-    requires by_index { (text : List ℕ) × PassedParts text list.now nodes.now rows.now n }
-    requires part_value { cut_in (keys_in list.now) part.old ≡ 0 }
-    requires n_in_bounds { n ≤ length counts.old }
-    ensures { (file : List ℕ) × ((text : List ℕ) → PassedParts text list.now nodes.now rows.now n
-        → Reports text list.now file result counts.old counts.new) }
+    requires by_index { (text : List ℕ) × PassedParts text parted.list.now parted.nodes.now parted.rows.now parted.n }
+    requires part_value { cut_in (keys_in parted.list.now) part.old ≡ 0 }
+    requires n_in_bounds { parted.n ≤ length counts.old }
+    ensures { (file : List ℕ) × ((text : List ℕ) → PassedParts text parted.entry.list.now parted.entry.nodes.now parted.entry.rows.now parted.entry.n
+        → Reports text parted.entry.list.now file result counts.old counts.new) }
 {
-    let size = keys::entry_size(list);
+    let n = parted.n;
+    let size = keys::entry_size(parted.list);
     counting::clear(counts, n);
     let mut course = Course::none();
     let mut turns: usize = MOST_ENTRIES + 1;
@@ -43,12 +41,12 @@ pub(crate) fn count_turns(
         let got = read_full(file, part);
         if MOST_ENTRIES - course.whole < got / size {
             return Err(Refusal {
-number: ENTRIES_MANY,
-place: Place::Entry(MOST_ENTRIES * size),
-});
+                number: ENTRIES_MANY,
+                place: Place::Entry(MOST_ENTRIES * size),
+            });
         }
         let before = course.whole;
-        course = add_held(list, nodes, rows, n, start(part, got), counts, course);
+        course = add_held(parted, start(part, got), counts, course);
         progress::show(rt, watched, before, course.whole);
         if got == part.len() {
             turns -= 1;
@@ -58,10 +56,10 @@ place: Place::Entry(MOST_ENTRIES * size),
     }
     let totals = course.totals;
     Ok(Counted {
-parts: n,
-accepted: totals.accepted,
-violated: totals.violated,
-refused: totals.refused,
-cut: course.cut,
-})
+        parts: n,
+        accepted: totals.accepted,
+        violated: totals.violated,
+        refused: totals.refused,
+        cut: course.cut,
+    })
 }

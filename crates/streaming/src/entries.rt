@@ -3,7 +3,7 @@ ghost use Rattle.std.specs.Prelude.{◌≡◌, ◌+◌, ◌<◌, ◌≤◌, leng
 ghost use Rattle.streaming.specs.Tallies.{total, most_counted};
 
 use crate::ran::run_held;
-use crate::sizes::entry_end;
+use crate::sizes::TURNS;
 use crate::tally::{Tally, Totals, say_ran, say_tally};
 use files::{
     MOST_PATH, TOO_LONG, argument, cannot_read, not_at_end, open_read, read_full, whole_entries,
@@ -45,15 +45,11 @@ fn judge_held(
     requires { total before + length entries.now < most_counted }
     ensures { IfOk result (λ t. total t ≤ total before + length entries.now) }
 {
-    let size = entry_size(list);
     let mut tally = before;
-    let mut at = 0;
-    while at < entries.len() {
-        let to = entry_end(at, size, entries.len());
-        let why = told(explains, text, list, &entries[at..to]);
+    for entry in entries.chunks(entry_size(list)) {
+        let why = told(explains, text, list, entry);
         tally = tally.count(judged_as(why));
         say_judged(rt, tally.entries(), why, text, list)?;
-        at = to;
     }
     Ok(tally)
 }
@@ -70,18 +66,15 @@ fn judge_part(
     requires { total before.tally + length entries.now < most_counted }
     ensures { IfOk result (λ t. total t.tally ≤ total before.tally + length entries.now) }
 {
-    let tally = before.tally;
-    match way {
-        Way::Judge => Ok(Totals {
-            tally: judge_held(rt, false, rule, list, entries, tally)?,
-            steps: 0,
-        }),
-        Way::Explain => Ok(Totals {
-            tally: judge_held(rt, true, rule, list, entries, tally)?,
-            steps: 0,
-        }),
-        Way::Run => run_held(rt, list, rule, entries, before),
-    }
+    let explains = match way {
+        Way::Judge => false,
+        Way::Explain => true,
+        Way::Run => return run_held(rt, list, rule, entries, before),
+    };
+    Ok(Totals {
+        tally: judge_held(rt, explains, rule, list, entries, before.tally)?,
+        steps: 0,
+    })
 }
 
 // Judges what a file has left, as much at a time as the part holds. A file has fewer than 2^63 bytes, so the turns are enough.
@@ -98,14 +91,11 @@ fn judge_turns(
     ensures kept { length part.new ≡ length part.old }
 {
     let mut totals = Totals::none();
-    let mut turns: usize = 1 << 47;
-    while 0 < turns {
+    for _turn in 0..TURNS {
         let got = read_full(file, part);
         totals = judge_part(rt, way, rule, list, start(part, got), totals)?;
-        if (0 < got) & (got == part.len()) {
-            turns -= 1;
-        } else {
-            turns = 0;
+        if got == 0 || got < part.len() {
+            break;
         }
     }
     Ok(totals)

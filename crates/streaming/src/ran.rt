@@ -8,7 +8,7 @@ ghost use Rattle.paper.specs.Calls.{run_answer};
 ghost use Rattle.paper.specs.RunAll.{running_all_says};
 ghost use Rattle.streaming.specs.Tallies.{total, most_counted, verdict_by, steps_of, StepsAdded};
 
-use crate::sizes::{entry_end, whole_of};
+use crate::sizes::whole_of;
 use crate::tally::{Tally, Totals};
 use keys::entry_size;
 use machine::{ACCEPTED, VIOLATED};
@@ -37,7 +37,7 @@ steps: _,
 fn byte_of(answers: &[u8], k: usize) -> u8
     ensures { result ≡ byte_at answers.now k }
 {
-    if k < answers.len() { answers[k] } else { 0 }
+    answers.get(k).copied().unwrap_or(0)
 }
 
 // An entry by its byte. A byte has no place, so one that tells no verdict is that of an entry which is run alone.
@@ -63,17 +63,11 @@ fn tell_each(
     requires { total before + length entries.now < most_counted }
     ensures { IfOk result (λ t. total t ≤ total before + length entries.now) }
 {
-    let size = entry_size(list);
     let mut tally = before;
-    let mut at = 0;
-    let mut k = 0;
-    while at < entries.len() {
-        let to = entry_end(at, size, entries.len());
-        let judgement = judgement_of(list, blocks, &entries[at..to], byte_of(answers, k));
+    for (k, entry) in entries.chunks(entry_size(list)).enumerate() {
+        let judgement = judgement_of(list, blocks, entry, byte_of(answers, k));
         tally = tally.count(judgement);
         say_judgement(rt, tally.entries(), b"", judgement)?;
-        at = to;
-        k += 1;
     }
     Ok(tally)
 }

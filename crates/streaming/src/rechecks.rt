@@ -3,20 +3,19 @@
 ghost use Rattle.std.specs.Prelude.{◌≡◌, ◌+◌, ◌<◌, ◌≤◌, length, IfOk};
 ghost use Rattle.streaming.specs.Tallies.{total, most_counted, answer_in, reused_by};
 
-use crate::sizes::entry_end;
+use crate::sizes::TURNS;
 use crate::tally::{Tally, say_tally};
 use files::{
     MOST_PATH, TOO_LONG, argument, cannot_read, not_at_end, open_read, read_full, whole_entries,
 };
 use keys::entry_size;
-use lines::say;
+use lines::{say, start};
 use paper::{Judgement, Rechecking};
 use std::env::Env;
 use std::io;
 use std::io::Read;
 use std::rt::Files;
 use wording::broken::say_judgement;
-use wording::say::say_two;
 
 // Both files, open.
 #[derive(Drop)]
@@ -70,38 +69,30 @@ fn recheck_one(text: &[u8], list: &[u8], old: &[u8], new: &[u8]) -> Rechecking {
     valve::recheck(text, list, old, earlier, new)
 }
 
-// An entry has at least one byte, so there are no more entries than bytes.
+// As many entries of each as there are of both. An entry has at least one byte, so there are no more entries than bytes.
 fn recheck_held(
     rt: &impl Print,
     text: &[u8],
     list: &[u8],
     old: &[u8],
     new: &[u8],
-    got: usize,
     before: Counts,
 ) -> io::Result<Counts>
-    requires got_in_bounds { (got ≤ length old.now) × (got ≤ length new.now) }
-    requires got_bound { total before.tally + got < most_counted }
+    requires new_bound { total before.tally + length new.now < most_counted }
     requires reused_bound { before.reused ≤ total before.tally }
-    ensures tally_bound { IfOk result (λ c. total c.tally ≤ total before.tally + got) }
+    ensures tally_bound { IfOk result (λ c. total c.tally ≤ total before.tally + length new.now) }
     ensures reused_bound_2 { IfOk result (λ c. c.reused ≤ total c.tally) }
 {
     let size = entry_size(list);
     let mut tally = before.tally;
     let mut reused = before.reused;
-    let mut at = 0;
-    while at < got {
-        let to = entry_end(at, size, got);
-        let rechecked = recheck_one(text, list, &old[at..to], &new[at..to]);
+    for (new_entry, old_entry) in new.chunks(size).zip(old.chunks(size)) {
+        let rechecked = recheck_one(text, list, old_entry, new_entry);
         tally = tally.count(answer_in(rechecked));
         reused += reused_by(rechecked);
         say_rechecked(rt, tally.entries(), rechecked)?;
-        at = to;
     }
-    Ok(Counts {
-        tally: tally,
-        reused: reused,
-    })
+    Ok(Counts { tally, reused })
 }
 
 // Rechecks what both files have left, as much at a time as the parts hold, which are of one length. A file has fewer than 2^63 bytes, so
@@ -125,19 +116,15 @@ fn recheck_turns<F: Read>(
     };
     let mut a = 0;
     let mut b = 0;
-    let mut turns: usize = 1 << 47;
-    while 0 < turns {
+    for _turn in 0..TURNS {
         a = read_full(&mut files.old, old);
         b = read_full(&mut files.new, new);
-        if a == b {
-            counts = recheck_held(rt, text, list, old, new, b, counts)?;
-            if (0 < b) & (b == new.len()) {
-                turns -= 1;
-            } else {
-                turns = 0;
-            }
-        } else {
-            turns = 0;
+        if a != b {
+            break;
+        }
+        counts = recheck_held(rt, text, list, start(old, a), start(new, b), counts)?;
+        if b == 0 || b < new.len() {
+            break;
         }
     }
     Ok(Course {
@@ -153,12 +140,8 @@ fn say_counts(rt: &impl Print, counts: Counts) -> io::Result<()>
 {
     let tally = counts.tally;
     say_tally(rt, tally)?;
-    say_two(
-        rt,
-        b"# reused, # judged\n",
-        counts.reused,
-        tally.entries() - counts.reused,
-    )
+    let judged = tally.entries() - counts.reused;
+    println!(rt; "{} reused, {judged} judged", counts.reused)
 }
 
 // Entries of the longer file have none at their place in the other.

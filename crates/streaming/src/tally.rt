@@ -5,7 +5,7 @@ ghost use Rattle.streaming.specs.Tallies.{total, counted, most_counted};
 use lines::say;
 use paper::{Judgement, Verdict};
 use std::io;
-use wording::say::{say_count, say_three};
+use wording::say::Things;
 
 // How many entries were accepted, violated and refused.
 #[derive(Clone, Copy)]
@@ -72,14 +72,13 @@ impl Totals {
 fn say_totals(rt: &impl Print, tally: Tally) -> io::Result<()>
     requires { total tally ≤ most_counted }
 {
-    say_count(rt, b"# entry: ", b"# entries: ", tally.entries())?;
-    say_three(
-        rt,
-        b"# accepted, # violated, # refused",
-        tally.accepted,
-        tally.violated,
-        tally.refused,
-    )
+    let Tally {
+        accepted,
+        violated,
+        refused,
+    } = tally;
+    let entries = Things(tally.entries(), "entry", "entries");
+    print!(rt; "{entries}: {accepted} accepted, {violated} violated, {refused} refused")
 }
 
 // The last line of a file: how many entries there are, and how many were given each answer.
@@ -95,10 +94,5 @@ pub(crate) fn say_ran(rt: &impl Print, totals: Totals) -> io::Result<()>
     requires { total totals.tally ≤ most_counted }
 {
     say_totals(rt, totals.tally)?;
-    say_count(
-        rt,
-        b", in # step\n",
-        b", in # steps\n",
-        totals.steps as usize,
-    )
+    println!(rt; ", in {}", Things(totals.steps as usize, "step", "steps"))
 }

@@ -8,11 +8,11 @@ use native.Mathlib.Omega.{arith}
 use lib.Dec.{eqb}
 use lib.ListN.{length, get_or, take, drop, length-drop}
 use lib.Seq.{drop-cons, drop-drop, get_or-drop}
-use borrow.Author.Tests.{eqb-true, not-false, le-ltb}
+use borrow.Author.Tests.{eqb-true, not-false}
 use Rattle.paper.specs.Tokens.{span}
 use Rattle.spelling.specs.Runs.{in_run, EndsAt}
 use Rattle.spelling.specs.declared.runs.Run.TheVariants.{Line}
-use Rattle.wording.specs.Lines.{breaks_at, breaks, seen_at}
+use Rattle.wording.specs.Lines.{breaks_at, breaks}
 
 breaks_on : (s : List ℕ) (i : ℕ) → i < length s → breaks (drop i s) ≡ breaks_at (get_or s i 0) + breaks (drop (i + 1) s)
 unfolding breaks
@@ -25,10 +25,6 @@ unfolding breaks
 breaks_split zero s = zero-add (breaks s)
 breaks_split (suc n) [] = refl
 breaks_split (suc n) (b ∷ s) = omega (arith, breaks_split n s)
-
-pub nothing_seen : (s : List ℕ) (at : ℕ) → length s ≡ 0 → length s ≡ seen_at s at
-nothing_seen [] at h = rw (le-ltb at 0 (omega arith))
-nothing_seen (b ∷ s) at h = absurd (omega arith)
 
 -- a run that does not reach the end is closed by a byte that is not of its sort
 span_stops : (p : ℕ → Bool) (s : List ℕ) → span p s < length s → p (get_or s (span p s) 0) ≡ false

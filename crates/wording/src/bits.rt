@@ -3,13 +3,12 @@
 // The text is read again, and its tree says which comparison has the refused operand, and what stands on the other side: a key or one of its
 // fields, under minus signs or none, since nothing else has a width. The key list has the width. The nodes are looked at by number, and one past
 // the room is taken for none.
-ghost use Rattle.std.specs.Prelude.{◌≤◌, length};
+ghost use Rattle.std.specs.Prelude.{◌≤◌, length, IfSome};
 
-use crate::say::say_count;
+use crate::say::Things;
 use keys::{Found, KeyRecord};
 use lines::{say, start};
 use number::Magnitude;
-
 use printing::Rung;
 use std::io;
 use trees::{Leaf, Node};
@@ -19,7 +18,6 @@ const MOST_NODES: usize = reading::MOST_NODES;
 // The operand that is refused and the one beside it, by their nodes.
 #[derive(Clone, Copy)]
 struct Sides {
-    found: bool,
     number: usize,
     beside: usize,
 }
@@ -43,69 +41,58 @@ fn is_at(nodes: &[u32], i: usize, place: usize) -> bool
 }
 
 // Of an operator, by the nodes of its operands.
-fn sides_of(nodes: &[u32], left: usize, right: usize, place: usize) -> Sides
+fn sides_of(nodes: &[u32], left: usize, right: usize, place: usize) -> Option<Sides>
     requires { 8192 ≤ length nodes.now }
 {
     if is_at(nodes, left, place) {
-        return Sides {
-            found: true,
+        return Some(Sides {
             number: left,
             beside: right,
-        };
+        });
     }
-    Sides {
-        found: is_at(nodes, right, place),
-        number: right,
-        beside: left,
+    if is_at(nodes, right, place) {
+        return Some(Sides {
+            number: right,
+            beside: left,
+        });
     }
+    None
 }
 
 // Of the node after one, if it is an operator between two operands.
-fn sides_after(nodes: &[u32], right: usize, place: usize) -> Sides
+fn sides_after(nodes: &[u32], right: usize, place: usize) -> Option<Sides>
     requires in_bounds { 8192 ≤ length nodes.now }
     requires right_bound { right ≤ 1024 }
 {
     match node(nodes, right + 1) {
         Node::Between(_, left) => sides_of(nodes, left, right, place),
-        _ => Sides {
-            found: false,
-            number: right,
-            beside: right,
-        },
+        _ => None,
     }
 }
 
 // The operator that has an operand at a place. No two nodes stand at one, so it is the comparison that is refused.
-fn find_sides(nodes: &[u32], place: usize) -> Sides
+fn find_sides(nodes: &[u32], place: usize) -> Option<Sides>
     requires { 8192 ≤ length nodes.now }
 {
-    let mut right = 0;
-    while right < MOST_NODES {
+    for right in 0..MOST_NODES {
         let sides = sides_after(nodes, right, place);
-        if sides.found {
+        if sides.is_some() {
             return sides;
         }
-        right += 1;
     }
-    Sides {
-        found: false,
-        number: 0,
-        beside: 0,
-    }
+    None
 }
 
 // The node under the minus signs of an operand.
 fn under_signs(nodes: &[u32], i: usize) -> usize
     requires { 8192 ≤ length nodes.now }
 {
-    let mut at = i;
-    while 0 < at {
+    for at in (1..=i).rev() {
         let Node::Before(_) = node(nodes, at) else {
             return at;
         };
-        at -= 1;
     }
-    at
+    0
 }
 
 fn leaf(nodes: &[u32], i: usize) -> Leaf
@@ -117,26 +104,28 @@ fn leaf(nodes: &[u32], i: usize) -> Leaf
     Leaf::Truth(false)
 }
 
-// The width of the key of a name; 0 where there is none.
-fn width_of_key(list: &[u8], name: &[u8]) -> u32 {
+// The width of the key of a name, if it has one.
+fn width_of_key(list: &[u8], name: &[u8]) -> Option<u32>
+    ensures { IfSome result (λ w. 1 ≤ w) }
+{
     let Found::At(k) = keys::find_key(list, name) else {
-        return 0;
+        return None;
     };
     if k < list.len() / KeyRecord::SIZE {
         let key = KeyRecord::read(list, k);
-        return key.width as u32;
+        return Some(u32::from(key.width)).filter(|w| 0 < *w);
     }
-    0
+    None
 }
 
-// The width that a number meets beside an operand; 0 where it meets none.
-fn width_beside(text: &[u8], list: &[u8], nodes: &[u32], i: usize) -> u32
+// The width that a number meets beside an operand, if it meets one.
+fn width_beside(text: &[u8], list: &[u8], nodes: &[u32], i: usize) -> Option<u32>
     requires { 8192 ≤ length nodes.now }
+    ensures { IfSome result (λ w. 1 ≤ w) }
 {
     match leaf(nodes, under_signs(nodes, i)) {
-        Leaf::Key(key) => width_of_key(list, trees::spelled(text, key)),
-        Leaf::Field(key, _) => width_of_key(list, trees::spelled(text, key)),
-        _ => 0,
+        Leaf::Key(key) | Leaf::Field(key, _) => width_of_key(list, trees::spelled(text, key)),
+        _ => None,
     }
 }
 
@@ -154,9 +143,9 @@ fn say_decimal(rt: &impl Print, n: Magnitude) -> io::Result<()> {
 fn say_range(rt: &impl Print, w: u32) -> io::Result<()>
     requires { 1 ≤ w }
 {
-    let half = Magnitude::ones(w - 1).wrapping_grow(1, 1);
+    let half = Magnitude::ones(w - 1).grow(1, 1);
     say(rt, b"-")?;
-    say_decimal(rt, half)?;
+    say_decimal(rt, half.number)?;
     say(rt, b" to ")?;
     say_decimal(rt, Magnitude::ones(w))
 }
@@ -183,21 +172,14 @@ fn say_sides(
 ) -> io::Result<bool>
     requires { 8192 ≤ length nodes.now }
 {
-    let sides = find_sides(nodes, place);
-    if !sides.found {
+    let Some(sides) = find_sides(nodes, place) else {
         return Ok(false);
-    }
-    let w = width_beside(text, list, nodes, sides.beside);
-    if w == 0 {
+    };
+    let Some(w) = width_beside(text, list, nodes, sides.beside) else {
         return Ok(false);
-    }
+    };
     say_operand(rt, text, nodes, sides.number)?;
-    say_count(
-        rt,
-        b" does not fit # bit: ",
-        b" does not fit # bits: ",
-        w as usize,
-    )?;
+    print!(rt; " does not fit {}: ", Things(w as usize, "bit", "bits"))?;
     say_range(rt, w)?;
     say(rt, b"\n")?;
     Ok(true)

@@ -6,7 +6,6 @@ ghost use Rattle.paper.specs.ExplainedRight.{judgement_of};
 
 use crate::caret;
 use crate::refusals::entry_refused;
-use crate::say::{say_number, say_three};
 use lines::say;
 use paper::refused::ENTRY_RULE;
 use paper::{Explanation, Judgement, Place, Refusal, Verdict};
@@ -19,9 +18,9 @@ pub fn judged_as(why: Explanation) -> Judgement
     match why {
         Explanation::Part(_, _, _, _) => Ok(Verdict::Violated),
         Explanation::Key(place, _, _) => Err(Refusal {
-number: ENTRY_RULE,
-place: Place::Entry(place),
-}),
+            number: ENTRY_RULE,
+            place: Place::Entry(place),
+        }),
         Explanation::Nothing(judgement) => judgement,
     }
 }
@@ -35,16 +34,16 @@ pub fn say_judgement(
 ) -> io::Result<()> {
     match judgement {
         Ok(Verdict::Accepted) => {
-            say_number(rt, b"accepted entry #", n)?;
+            print!(rt; "accepted entry {n}")?;
             say(rt, how)?;
             say(rt, b"\n")
         }
         Ok(Verdict::Violated) => {
-            say_number(rt, b"violated entry #", n)?;
+            print!(rt; "violated entry {n}")?;
             say(rt, how)?;
             say(rt, b"\n")
         }
-        Err(refusal) => entry_refused(rt, n, how, number, place),
+        Err(refusal) => entry_refused(rt, n, how, refusal),
     }
 }
 
@@ -58,12 +57,8 @@ pub fn say_judged(
 ) -> io::Result<()> {
     match why {
         Explanation::Part(number, place, from, to) => {
-            say_three(
-                rt,
-                b"violated entry #: part # is false (its root is at byte #)\n",
-                n,
-                number,
-                place,
+            println!(rt;
+                "violated entry {n}: part {number} is false (its root is at byte {place})"
             )?;
             caret::show(rt, text, from, to)
         }

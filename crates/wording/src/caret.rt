@@ -1,8 +1,7 @@
 // The line that a place or a stretch of a text stands in, with carets under it.
-ghost use Rattle.std.specs.Prelude.{◌+◌, ◌≤◌, min, ◌≡◌, length};
+ghost use Rattle.std.specs.Prelude.{◌+◌, ◌≤◌, ◌≡◌, length};
 ghost use Rattle.wording.specs.Lines.{seen_at, LineOf, Window, shown_as, carets};
 
-use crate::say::{say_number, say_two};
 use lines::{say, start};
 use spelling::runs::{Run, run_end};
 use std::io;
@@ -30,10 +29,10 @@ fn seen_at(text: &[u8], at: usize) -> usize
     if at < n {
         return at;
     }
-    if n == 0 {
-        return n;
+    match text {
+        [.., b'\n'] => n - 1,
+        _ => n,
     }
-    if text[n - 1] == b'\n' { n - 1 } else { n }
 }
 
 fn line_of(text: &[u8], at: usize) -> Line
@@ -48,11 +47,7 @@ fn line_of(text: &[u8], at: usize) -> Line
         from = to + 1;
         to = run_end(text, from, Run::Line);
     }
-    Line {
-        number: number,
-        from: from,
-        to: to,
-    }
+    Line { number, from, to }
 }
 
 // How much of a long line is shown, and how much of it before the place.
@@ -81,13 +76,10 @@ fn window(line: Line, at: usize) -> Stretch
 {
     let from = window_start(line, at);
     if line.to - from <= COLUMNS {
-        return Stretch {
-            from: from,
-            to: line.to,
-        };
+        return Stretch { from, to: line.to };
     }
     Stretch {
-        from: from,
+        from,
         to: from + COLUMNS,
     }
 }
@@ -96,36 +88,29 @@ fn window(line: Line, at: usize) -> Stretch
 fn shown_as(byte: u8) -> u8
     ensures { result ≡ shown_as byte }
 {
-    if byte == b'\t' {
-        return b' ';
+    match byte {
+        b'\t' => b' ',
+        b' '..=b'~' => byte,
+        _ => b'?',
     }
-    if byte < b' ' {
-        return b'?';
-    }
-    if byte <= b'~' { byte } else { b'?' }
 }
 
-fn say_bytes(rt: &impl Print, text: &[u8], from: usize, to: usize) -> io::Result<()>
-    requires { to ≤ length text.now }
-{
-    let mut i = from;
-    while i < to {
-        let column = [shown_as(text[i])];
-        say(rt, &column)?;
-        i += 1;
+fn say_bytes(rt: &impl Print, bytes: &[u8]) -> io::Result<()> {
+    for byte in bytes {
+        say(rt, &[shown_as(*byte)])?;
     }
     Ok(())
 }
 
 fn say_line(rt: &impl Print, text: &[u8], line: Line, shown: Stretch) -> io::Result<()>
-    requires { shown.to ≤ length text.now }
+    requires { (shown.from ≤ shown.to) × (shown.to ≤ length text.now) }
 {
     if line.from < shown.from {
         say(rt, b"... ")?
     } else {
         say(rt, b"    ")?
     }
-    say_bytes(rt, text, shown.from, shown.to)?;
+    say_bytes(rt, &text[shown.from..shown.to])?;
     if shown.to < line.to {
         say(rt, b" ...\n")
     } else {
@@ -133,26 +118,19 @@ fn say_line(rt: &impl Print, text: &[u8], line: Line, shown: Stretch) -> io::Res
     }
 }
 
-fn earlier(one: usize, other: usize) -> usize
-    ensures { result ≡ min one other }
-{
-    if one < other { one } else { other }
-}
-
 // How many columns are marked from an offset up to another, on a line that is shown up to its `end`; a place has one.
 fn carets_under(from: usize, to: usize, end: usize) -> usize
     ensures { result ≡ carets from to end }
 {
-    let past = earlier(to, end);
-    if from < past { past - from } else { 1 }
+    to.min(end).saturating_sub(from).max(1)
 }
 
 // Which lines a stretch stands in.
 fn say_lines(rt: &impl Print, first: usize, last: usize) -> io::Result<()> {
     if first == last {
-        say_number(rt, b"line #:\n", first)
+        println!(rt; "line {first}:")
     } else {
-        say_two(rt, b"lines # to #, the first:\n", first, last)
+        println!(rt; "lines {first} to {last}, the first:")
     }
 }
 

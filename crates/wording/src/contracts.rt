@@ -1,12 +1,11 @@
 // Why a contract is refused with 24 at a byte, in words. All before that byte is good.
-use crate::say::{say_count, say_number};
+use crate::say::Things;
 use lines::say;
 use std::io;
 
-// What stands before a byte.
+// What a byte may end.
 #[derive(Clone, Copy)]
-enum Before {
-    Nothing,
+enum Piece {
     Assertion,
     Conjunction,
     // An opcode that waits for its index.
@@ -23,53 +22,48 @@ const IN: u8 = 3;
 // The first operation number that no conjunction has.
 const CONJUNCTIONS: u8 = 3;
 
-fn after_opcode(opcode: u8) -> Before {
+fn piece_of(opcode: u8) -> Piece {
     if opcode < CONJUNCTION {
-        Before::Comparator(opcode)
+        Piece::Comparator(opcode)
     } else {
-        Before::Conjunction
+        Piece::Conjunction
     }
 }
 
-fn after(before: Before, byte: u8) -> Before {
+// What a byte ends, after what stands before it.
+fn after(before: Option<Piece>, byte: u8) -> Piece {
     match before {
-        Before::Comparator(_) => Before::Assertion,
-        Before::Nothing => after_opcode(byte),
-        Before::Assertion => after_opcode(byte),
-        Before::Conjunction => after_opcode(byte),
+        Some(Piece::Comparator(_)) => Piece::Assertion,
+        _ => piece_of(byte),
     }
 }
 
-fn before_all(contract: &[u8]) -> Before {
-    let mut before = Before::Nothing;
-    let mut i = 0;
-    while i < contract.len() {
-        before = after(before, contract[i]);
-        i += 1;
-    }
-    before
+// What stands at the end of some bytes, if there are any.
+fn last_piece(bytes: &[u8]) -> Option<Piece> {
+    bytes
+        .iter()
+        .fold(None, |before, byte| Some(after(before, *byte)))
 }
 
-fn unused(rt: &impl Print, what: &[u8], operation: u8) -> io::Result<()> {
-    say(rt, what)?;
-    say_number(rt, b"no operation has number #\n", operation as usize)
+fn unused(rt: &impl Print, what: &str, operation: u8) -> io::Result<()> {
+    println!(rt; " is no {what}: no operation has number {operation}")
 }
 
 fn wrong_comparator(rt: &impl Print, operation: u8) -> io::Result<()> {
     if operation == IN {
         say(rt, b" is IN, which no text can say\n")
     } else {
-        unused(rt, b" is no comparator: ", operation)
+        unused(rt, "comparator", operation)
     }
 }
 
 // A conjunction that is one stands where it may not.
-fn wrong_conjunction(rt: &impl Print, operation: u8, before: Before) -> io::Result<()> {
+fn wrong_conjunction(rt: &impl Print, operation: u8, before: Option<Piece>) -> io::Result<()> {
     if CONJUNCTIONS <= operation {
-        return unused(rt, b" is no conjunction: ", operation);
+        return unused(rt, "conjunction", operation);
     }
     match before {
-        Before::Conjunction => say(rt, b" is a conjunction, and another stands before it\n"),
+        Some(Piece::Conjunction) => say(rt, b" is a conjunction, and another stands before it\n"),
         _ => say(
             rt,
             b" is a conjunction, and no assertion stands before it\n",
@@ -77,9 +71,8 @@ fn wrong_conjunction(rt: &impl Print, operation: u8, before: Before) -> io::Resu
     }
 }
 
-fn wrong_opcode(rt: &impl Print, opcode: u8, before: Before) -> io::Result<()> {
-    say(rt, b"0x")?;
-    lines::say_hex(rt, opcode)?;
+fn wrong_opcode(rt: &impl Print, opcode: u8, before: Option<Piece>) -> io::Result<()> {
+    print!(rt; "0x{opcode:02x}")?;
     if opcode % 4 != 0 {
         say(rt, b" has a reserved bit\n")
     } else if opcode < CONJUNCTION {
@@ -89,14 +82,10 @@ fn wrong_opcode(rt: &impl Print, opcode: u8, before: Before) -> io::Result<()> {
     }
 }
 
-fn no_name(rt: &impl Print, index: u8, names: usize) -> io::Result<()> {
-    say_number(rt, b"index #, but there ", index as usize)?;
-    say_count(rt, b"is # name\n", b"are # names\n", names)
-}
-
-fn no_number(rt: &impl Print, index: u8, numbers: usize) -> io::Result<()> {
-    say_number(rt, b"index #, but there ", index as usize)?;
-    say_count(rt, b"is # user number\n", b"are # user numbers\n", numbers)
+// An index of one of so many things, by the word for one and the word for more.
+fn none_there(rt: &impl Print, index: u8, there: Things) -> io::Result<()> {
+    let verb = if there.0 == 1 { "is" } else { "are" };
+    println!(rt; "index {index}, but there {verb} {there}")
 }
 
 // The left index is looked at first.
@@ -109,33 +98,32 @@ fn wrong_index(
 ) -> io::Result<()> {
     let left = byte / 16;
     let right = byte % 16;
-    if names <= left as usize {
-        no_name(rt, left, names)
+    let names_there = Things(names, "name", "names");
+    if names <= usize::from(left) {
+        none_there(rt, left, names_there)
     } else if opcode / LOADS_INPUT % 2 == 1 {
-        no_name(rt, right, names)
+        none_there(rt, right, names_there)
     } else {
-        no_number(rt, right, numbers)
+        none_there(rt, right, Things(numbers, "user number", "user numbers"))
     }
 }
 
 fn wrong_byte(
     rt: &impl Print,
-    before: Before,
+    before: Option<Piece>,
     byte: u8,
     names: usize,
     numbers: usize,
 ) -> io::Result<()> {
     match before {
-        Before::Comparator(opcode) => wrong_index(rt, opcode, byte, names, numbers),
-        Before::Nothing => wrong_opcode(rt, byte, before),
-        Before::Assertion => wrong_opcode(rt, byte, before),
-        Before::Conjunction => wrong_opcode(rt, byte, before),
+        Some(Piece::Comparator(opcode)) => wrong_index(rt, opcode, byte, names, numbers),
+        _ => wrong_opcode(rt, byte, before),
     }
 }
 
-fn cut(rt: &impl Print, before: Before) -> io::Result<()> {
+fn cut(rt: &impl Print, before: Option<Piece>) -> io::Result<()> {
     match before {
-        Before::Conjunction => say(rt, b"the contract ends in a conjunction\n"),
+        Some(Piece::Conjunction) => say(rt, b"the contract ends in a conjunction\n"),
         _ => say(rt, b"the contract ends in an opcode, before its index\n"),
     }
 }
@@ -148,10 +136,9 @@ pub fn say_why(
     names: usize,
     numbers: usize,
 ) -> io::Result<()> {
-    let before = before_all(lines::start(contract, at));
-    if at < contract.len() {
-        wrong_byte(rt, before, contract[at], names, numbers)
-    } else {
-        cut(rt, before)
+    let before = last_piece(lines::start(contract, at));
+    match contract.get(at) {
+        Some(byte) => wrong_byte(rt, before, *byte, names, numbers),
+        None => cut(rt, before),
     }
 }

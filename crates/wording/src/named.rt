@@ -2,7 +2,7 @@
 ghost use Rattle.std.specs.Prelude.{◌≤◌, ◌/◌, length};
 ghost use Rattle.paper.specs.Keys.{record_size};
 
-use crate::say::say_count;
+use crate::say::Things;
 use keys::KeyRecord;
 use lines::say;
 use std::io;
@@ -12,27 +12,21 @@ fn say_keys(rt: &impl Print, list: &[u8], set: u32, n: usize) -> io::Result<()>
     requires { n ≤ length list.now / record_size }
 {
     let mut rest = set;
-    let mut k = 0;
-    while k < n {
+    for k in 0..n {
         if rest % 2 == 1 {
             say(rt, b"    ")?;
             say(rt, KeyRecord::name(list, k))?;
             say(rt, b"\n")?;
         }
-        rest = rest / 2;
-        k += 1;
+        rest /= 2;
     }
     Ok(())
 }
 
 // A summary of a text against a list: how many keys are named, their names, and whether ::priority is named.
 pub fn say_summary(rt: &impl Print, list: &[u8], set: u32, priority: bool) -> io::Result<()> {
-    say_count(
-        rt,
-        b"named # key\n",
-        b"named # keys\n",
-        valve::count_keys(set) as usize,
-    )?;
+    let named = Things(valve::count_keys(set) as usize, "key", "keys");
+    println!(rt; "named {named}")?;
     say_keys(rt, list, set, list.len() / KeyRecord::SIZE)?;
     if priority {
         say(rt, b"::priority is named\n")

@@ -1,6 +1,6 @@
 // Which numerals the pass over octal changed, seen by the text and what was made of it, side by side. A numeral keeps its first byte, and differs in
 // its second, `0x` for `0o`; after it both are the same again.
-use crate::say::{say_count, say_number};
+use crate::say::Things;
 use lines::say;
 use spelling::runs::{Run, run_end};
 use std::io;
@@ -13,7 +13,7 @@ fn say_change(
     made: &[u8],
 ) -> io::Result<()> {
     if telling {
-        say_number(rt, b"    byte #: ", at)?;
+        print!(rt; "    byte {at}: ")?;
         say(rt, numeral)?;
         say(rt, b" is ")?;
         say(rt, made)?;
@@ -49,7 +49,7 @@ fn changes(rt: &impl Print, text: &[u8], made: &[u8], telling: bool) -> io::Resu
 // How many numerals were changed, as the first words of a line.
 pub fn say_fixed(rt: &impl Print, text: &[u8], made: &[u8]) -> io::Result<()> {
     let count = changes(rt, text, made, false)?;
-    say_count(rt, b"fixed # numeral: ", b"fixed # numerals: ", count)
+    print!(rt; "fixed {}: ", Things(count, "numeral", "numerals"))
 }
 
 // A line for each numeral that was changed: where it stands in the text, how it was written there, and how it is now.

@@ -25,4 +25,4 @@ whole_part list buffer want size within is of_size =
 pub count_turns-counted-requires-clause-part_value :
     goal.count_turns-counted-requires-clause-part_value
 count_turns-counted-requires-clause-part_value g c =
-    whole_part c.args.list.now _ c.whole_entries-want.result c.entry_size.result (search rules) c.whole_entries-want.ensures.0 c.entry_size.ensures
+    whole_part c.args.parted.list.now _ c.whole_entries-want.result c.entry_size.result (search rules) c.whole_entries-want.ensures.0 c.entry_size.ensures

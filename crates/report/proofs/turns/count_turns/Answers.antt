@@ -33,16 +33,16 @@ loop-turns-init g c =
       few = omega (arith, c.none-course.ensures.0);
       one = record {
         start = [];
-        whole = λ h. zero-mod (entry_size (keys_in a.list.now));
+        whole = λ h. zero-mod (entry_size (keys_in a.parted.list.now));
         reaches = λ text p.
-            reaches_none text a.list.now a.nodes.now a.rows.now a.n p a.counts.now c.clear.new.counts c.clear.ensures c.none-course.result c.none-course.ensures c.requires.n_in_bounds;
+            reaches_none text a.parted.list.now a.parted.nodes.now a.parted.rows.now a.parted.n p a.counts.now c.clear.new.counts c.clear.ensures c.none-course.result c.none-course.ensures c.requires.n_in_bounds;
       };
     }
 
 pub overflow_mul-result : goal.overflow_mul-result
 overflow_mul-result g c =
     let a = c.args in
-    let small = size_small a.list.now c.entry_size-size.result c.entry_size-size.ensures (most_bytes a.list.now c.requires.by_index.1.rooted.listed) in
+    let small = size_small a.parted.list.now c.entry_size-size.result c.entry_size-size.ensures (most_bytes a.parted.list.now c.requires.by_index.1.rooted.listed) in
     omega (arith, small)
 
 pub returns-then-course-got : goal.returns-then-course-got
@@ -55,9 +55,9 @@ returns-then-course-got g c =
     let whole = one.whole c.loop-turns-test.true in (
       one.start ++ held,
       λ text p.
-          let both = whole_both text a.list.now a.nodes.now a.rows.now a.n p one.start held whole in
-          let told = held_whole a.list.now r.new.room r.result c.entry_size-size.result r.ensures c.entry_size-size.ensures in
-          too_many text a.list.now a.nodes.now a.rows.now a.n p (one.start ++ held) a.counts.now l.counts c.entry_size-size.result c.entry_size-size.ensures
+          let both = whole_both text a.parted.list.now a.parted.nodes.now a.parted.rows.now a.parted.n p one.start held whole in
+          let told = held_whole a.parted.list.now r.new.room r.result c.entry_size-size.result r.ensures c.entry_size-size.ensures in
+          too_many text a.parted.list.now a.parted.nodes.now a.parted.rows.now a.parted.n p (one.start ++ held) a.counts.now l.counts c.entry_size-size.result c.entry_size-size.ensures
           (omega (arith, both, (one.reaches text p).whole, told, c.if-course-got.true)),
     )
 
@@ -74,7 +74,7 @@ returns g c =
     let one = l.invariant.one in (
       one.start,
       λ text p.
-          answered text a.list.now a.nodes.now a.rows.now a.n p a.counts.now c.clear.new.counts c.clear.ensures one.start l.counts l.course (one.reaches text p) l.invariant.few,
+          answered text a.parted.list.now a.parted.nodes.now a.parted.rows.now a.parted.n p a.counts.now c.clear.new.counts c.clear.ensures one.start l.counts l.course (one.reaches text p) l.invariant.few,
     )
 
 -- what a turn leaves, where no turn comes after it
@@ -85,8 +85,8 @@ loop-turns-preserved g c =
     let x = c.add_held-course in
     let held = c.start.result.now in
     let whole = one.whole c.loop-turns-test.true in
-    let same = ap (λ (h : List ℕ). whole_in (keys_in c.args.list.now) h) c.start.ensures in
-    let told = held_whole c.args.list.now c.read_full-got.new.room c.read_full-got.result c.entry_size-size.result c.read_full-got.ensures c.entry_size-size.ensures in
+    let same = ap (λ (h : List ℕ). whole_in (keys_in c.args.parted.list.now) h) c.start.ensures in
+    let told = held_whole c.args.parted.list.now c.read_full-got.new.room c.read_full-got.result c.entry_size-size.result c.read_full-got.ensures c.entry_size-size.ensures in
     record {
       long = omega (arith, c.read_full-got.auto.room, l.invariant.long);
       many = omega (arith, x.auto.counts, l.invariant.many);

@@ -19,7 +19,7 @@ invariant-loop-turns g l = record {
   long : length l.part ≡ length l.initial.part;
   many : length l.counts ≡ length l.initial.counts;
   few : l.course.whole ≤ most_entries;
-  one : OneFile l.list l.nodes l.rows l.n l.initial.counts l.course l.counts l.turns;
+  one : OneFile l.parted.list.now l.parted.nodes.now l.parted.rows.now l.parted.n l.initial.counts l.course l.counts l.turns;
 }
 
 abbrev pub decreases-loop-turns : goal.decreases-loop-turns

@@ -1,10 +1,9 @@
--- Each entry takes at least a byte, so there are no more of them than bytes, and the offset ends the loop.
-use Rattle.std.proofs.Common.{◌+◌, ◌-◌, ◌≤◌, length}
+-- Each entry takes at least a byte of those that are left, so there are no more of them than bytes.
+use Rattle.std.proofs.Common.{◌+◌, ◌<◌, ◌≤◌, length}
+use Rattle.std.specs.Slice.Iter.{chunks_rest, chunks_size}
 use Rattle.streaming.specs.Tallies.{total}
 use Rattle.streaming.proofs.entries.judge_held.Given as goal
 
-abbrev pub invariant-loop-at : goal.invariant-loop-at
-invariant-loop-at g l = (l.at ≤ length l.entries) × (total l.tally ≤ total l.initial.tally + l.at)
-
-abbrev pub decreases-loop-at : goal.decreases-loop-at
-decreases-loop-at g l = length l.entries - l.at
+abbrev pub invariant-loop-entry : goal.invariant-loop-entry
+invariant-loop-entry g l =
+    (0 < chunks_size l.entry-iterator) × (total l.tally + length (chunks_rest l.entry-iterator) ≤ total l.initial.tally + length l.entries)

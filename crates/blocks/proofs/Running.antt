@@ -3,11 +3,11 @@ use Prim.Native.Nat.{ℕ, ◌+◌, ◌*◌, ◌-◌, ◌/◌, ◌%◌, ◌≤◌
 use native.Mathlib.Nat.{add-mul-mod_self_left}
 use native.Mathlib.Omega.{arith}
 use mathlib.Core.Path.{◌≡◌, refl, sym, ◌∙◌, ap, ap₂, subst}
-use mathlib.Core.List.{List, [], ◌∷◌}
+use mathlib.Core.List.{List, [], ◌∷◌, ◌++◌}
 use lib.ListN.{length, get_or, drop, length-drop}
 use Rattle.paper.specs.Blocks.{Sums, sums_from, sums_of}
 use Rattle.blocks.specs.Sealed.{TurnedWord, Added}
-use Rattle.blocks.proofs.Steps.{two_off}
+use Rattle.blocks.proofs.Steps.{two_off, passed, room_for, word_in}
 
 -- a word may be added turned round, and to sums that are not reduced
 added : (x y : ℕ) (s : List ℕ) (a b : ℕ) → let c = a + (x + y * 256) in
@@ -56,3 +56,13 @@ module _ {s : List ℕ} {i first second : ℕ} (so_far : Added s i first second)
   pub said : {i' first' second' : ℕ} → i ≡ i' → first ≡ first' → second ≡ second' → Added s i' first' second'
   said {i'} {first'} {second'} e f g =
       subst (λ n. Added s n first' second') e (subst (λ n. Added s i n second') f (subst (λ n. Added s i first n) g so_far))
+
+-- a part of one word is taken off what is left
+module _ (s rest part after : List ℕ) (left : rest ≡ drop (length s - length rest) s) (off : rest ≡ part ++ after) (two : length part ≡ 2) where
+  pub added_next : {first second : ℕ} → Added s (length s - length rest) first second → length s ≤ 508 → (w : ℕ) → TurnedWord part 0 w
+      → Added s (length s - length after) (first + w) (second + (first + w))
+  added_next so_far few w at-w =
+      let i = length s - length rest in
+      let on : length s - length after ≡ i + 2 = passed s rest part after left off ∙ omega (arith, two) in
+      rw on
+      (added_on so_far w few (omega (arith, room_for s rest part after left off, two)) (word_in s rest part after left off 0 i w (omega arith) (omega arith) at-w))

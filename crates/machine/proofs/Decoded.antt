@@ -8,6 +8,9 @@ use Rattle.paper.specs.Meaning.{both, either, if_then}
 use Rattle.paper.specs.Code.{Instruction, push_bool, push_int, push_key, push_field, push_priority, invert, negate, convert, compare, connects, skip, first_byte, field_of, comparison_of, Parts, parts_of, instruction_named, same_parts, in_range, decode}
 use Rattle.number.specs.Values.{value}
 use Rattle.number.specs.declared.magnitude.Magnitude.{Magnitude}
+use Rattle.machine.specs.declared.instruction.Instruction as C
+use Rattle.machine.specs.Decoded.{instruction_meant, read_meant}
+use Rattle.std.specs.Bool.{then_some}
 use Rattle.paper.proofs.ByNumber.{bit_spelled, first_spelled, kind_spelled, field_spelled, comparison_spelled}
 use Rattle.paper.proofs.InstructionsRoundTrip.{read_test, parts_again}
 
@@ -39,6 +42,11 @@ pub first_byte_lem : (m : Magnitude) {b : Bool} → b ≡ eqb (value m) (value (
     → b ≡ eqb (value m) first_byte
 unfolding value
 first_byte_lem m e = e
+
+-- an instruction that is read where a test holds
+pub meant_when : (right : Bool) (i : C.Instruction) → read_meant (then_some right i) ≡ when right (instruction_meant i)
+meant_when true i = refl
+meant_when false i = refl
 
 -- by the detail, the operand and the constant, where `zero` says whether the constant is zero, and so many instructions are left
 module _ (left d n c : ℕ) (zero : Bool) (told : zero ≡ eqb c 0) where
@@ -120,6 +128,15 @@ named_so left p i e = go (instruction_named p) e
     go : (o : Option Instruction) → and_then o (λ j. when (in_range left j && same_parts p (parts_of j)) j) ≡ some i → o ≡ some i
     go none h = absurd (none-ne-some i h)
     go (some j) h = kept (in_range left j && same_parts p (parts_of j)) j h
+
+-- the last operation is that of a skip
+pub named_skip : (left : ℕ) (p : Parts) (i : Instruction) → decode left p ≡ some i → (1 ≤ p.operation → 13 ≤ p.operation)
+    → skip (record { on = eqb p.detail 1; to = eqb p.constant first_byte; over = p.operand }) ≡ i
+named_skip left p i e last =
+    let known = rw (parts_again left p i e) at (operation_known i) in
+    let thirteen : p.operation ≡ 13 = omega (arith, known.1, last known.0) in
+    let named = rw thirteen at (named_so left p i e) in
+    cc
 
 -- and its width is in one byte
 pub width_so : (left : ℕ) (p : Parts) (k : Kind) (w : ℕ) → decode left p ≡ some (convert k w) → min (w % 256) 128 ≡ w

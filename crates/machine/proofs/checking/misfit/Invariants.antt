@@ -7,6 +7,3 @@ use Rattle.machine.proofs.checking.misfit.Given as goal
 
 abbrev pub invariant-loop-i : goal.invariant-loop-i
 invariant-loop-i l = Compared l.blocks l.n l.marks l.upto l.i
-
-abbrev pub decreases-loop-i : goal.decreases-loop-i
-decreases-loop-i l = l.upto - l.i

@@ -11,6 +11,3 @@ use Rattle.machine.proofs.following.follow.Given as goal
 abbrev pub invariant-loop-i : goal.invariant-loop-i
 invariant-loop-i l =
     Point (types_at (keys_in l.list) l.blocks l.n) l.n (length l.initial.marks) l.marks l.stack l.height l.i
-
-abbrev pub decreases-loop-i : goal.decreases-loop-i
-decreases-loop-i l = l.n - l.i

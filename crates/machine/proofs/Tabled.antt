@@ -1,5 +1,5 @@
 -- Entries run one after the other: after k of them the answers have the byte of each of these, in its place, and the steps of all of them are summed.
-use Rattle.std.proofs.Common.{◌≡◌, ℕ, ◌+◌, ◌*◌, ◌%◌, ◌^◌, ◌<◌, Bool, true, false, cond, List, [], ◌∷◌, ◌++◌, map, length, take, drop, set, sym, refl, ap, ◌∙◌, ap₂, true≢false, arith}
+use Rattle.std.proofs.Common.{◌≡◌, ℕ, ◌+◌, ◌*◌, ◌%◌, ◌^◌, ◌<◌, Bool, true, false, List, [], ◌∷◌, ◌++◌, map, length, take, drop, set, sym, refl, ap, ◌∙◌, ap₂, true≢false, arith}
 use native.Mathlib.Nat.{mod-add-mod}
 use mathlib.Core.List.{map-append}
 use lib.ListN.{length-map}
@@ -55,9 +55,6 @@ module _ (ks : List Key) (blocks : List ℕ) where
     pub steps : total ≡ sum (map steps_in (laid_out size k entries)) % 2 ^ 64
 
   module _ (size : ℕ) (entries before : List ℕ) where
-    pub tabled_none : Tabled size entries before 0 before 0
-    tabled_none = record { bytes = refl; steps = refl }
-
     -- one entry more
     pub tabled_next : {k : ℕ} {answers : List ℕ} {total : ℕ} → Tabled size entries before k answers total → k < length before
         → {entry : List ℕ} → entry ≡ take size (drop (k * size) entries) → {byte steps sum : ℕ} → TellsOf ks blocks entry byte steps

@@ -67,11 +67,10 @@ struct Ran {
 }
 
 // The run of n loaded instructions on an entry that conforms. It reads no place of the array that it did not store in.
-fn run(list: &[u8], blocks: &[u8], entry: &[u8], n: usize, stack: &mut [Cell]) -> Ran
+fn run(list: &[u8], blocks: &[u8], entry: &[u8], n: usize, stack: &mut [Cell; MOST_HELD]) -> Ran
     requires list_value { keys list.now ≡ ok (keys_in list.now) }
     requires blocks_value { loaded (keys_in list.now) blocks.now ≡ ok n }
     requires entry_value { conforms (keys_in list.now) entry.now ≡ ok tt }
-    requires room { length stack.old ≡ most_held }
     ensures left { result.left ≡ left_true (run_along (keys_in list.now) (entry_in list.now entry.now) (program blocks.now)) }
     ensures steps { result.steps ≡ steps_taken (run_along (keys_in list.now) (entry_in list.now entry.now) (program blocks.now)) }
 {
@@ -130,10 +129,9 @@ struct Told {
     steps: u64,
 }
 
-fn tell(list: &[u8], blocks: &[u8], entry: &[u8], n: usize, stack: &mut [Cell]) -> Told
+fn tell(list: &[u8], blocks: &[u8], entry: &[u8], n: usize, stack: &mut [Cell; MOST_HELD]) -> Told
     requires list_value { keys list.now ≡ ok (keys_in list.now) }
     requires blocks_value { loaded (keys_in list.now) blocks.now ≡ ok n }
-    requires room { length stack.old ≡ most_held }
     ensures { TellsOf (keys_in list.now) blocks.now entry.now result.byte result.steps }
 {
     if !enters(list, entry) {

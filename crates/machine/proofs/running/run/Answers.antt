@@ -2,7 +2,7 @@
 -- end on every entry that conforms (`loaded_ends`), so no turn misses an operand, a place or a value (`able`), what stands there is an
 -- instruction (`read`), each arm of the match stores what its instruction leaves and tells what it passes over (`turned`), and each turn goes on
 -- where the next begins (`going_next`).
-use Rattle.std.proofs.Common.{◌≡◌, ℕ, ◌+◌, ◌-◌, ◌<◌, ◌≤◌, Bool, true, false, cond, List, length, get_or, set, sym, refl, ap, ◌∙◌, subst, arith}
+use Rattle.std.proofs.Common.{◌≡◌, ℕ, ◌+◌, ◌-◌, ◌<◌, ◌≤◌, Bool, true, false, cond, List, get_or, set, sym, ap, ◌∙◌, subst, arith, rules}
 use mathlib.Core.Bool.{beq}
 use mathlib.Core.Option.{Option, some}
 use lib.Seq.{set-get_or}
@@ -71,9 +71,6 @@ able c = going_acts (keys_of c) (lent c) c.args.blocks.now c.args.n (goes c) c.l
 -- the array has the place of the lowest operand
 base_fits : (c : After-takes) → c.loop-i.height - c.takes.result < most_held
 base_fits c = omega (arith, takes_so c, (able c).room)
-
-base_there : (c : After-takes) → c.loop-i.height - c.takes.result < length c.loop-i.stack
-base_there c = omega (arith, base_fits c, c.loop-i.invariant.full)
 
 -- the entry conforms, so that its parts can be read
 conforming_here : (c : After-takes) → Conforming c.args.list.now c.args.entry.now
@@ -193,7 +190,7 @@ loop-i-init c =
     let blocks = c.args.blocks.now in
     let enters = conforming_there _ _ c.requires.list_value c.requires.entry_value in
     let ends = loaded_ends ks blocks c.args.n c.requires.blocks_value lent (conforming ks entry lent enters.entered) in
-    going_first ks lent blocks c.args.n c.args.stack.now c.requires.room ends
+    going_first ks lent blocks c.args.n c.args.stack.now (search rules) ends
 
 pub loaded_at-instruction-requires : goal.loaded_at-instruction-requires
 loaded_at-instruction-requires c =
@@ -216,55 +213,55 @@ pub field_cell-requires : goal.field_cell-requires
 field_cell-requires c = conforming_here (goal.at.field_cell-requires c).After-takes
 
 pub bounds-stack-base : goal.bounds-stack-base
-bounds-stack-base c = base_there (goal.at.bounds-stack-base c).After-takes
+bounds-stack-base c = base_fits (goal.at.bounds-stack-base c).After-takes
 
 pub bounds-stack-base-in-PushInt : goal.bounds-stack-base-in-PushInt
-bounds-stack-base-in-PushInt c = base_there (goal.at.bounds-stack-base-in-PushInt c).After-takes
+bounds-stack-base-in-PushInt c = base_fits (goal.at.bounds-stack-base-in-PushInt c).After-takes
 
 pub bounds-stack-base-in-PushKey : goal.bounds-stack-base-in-PushKey
-bounds-stack-base-in-PushKey c = base_there (goal.at.bounds-stack-base-in-PushKey c).After-takes
+bounds-stack-base-in-PushKey c = base_fits (goal.at.bounds-stack-base-in-PushKey c).After-takes
 
 pub bounds-stack-base-in-PushField : goal.bounds-stack-base-in-PushField
-bounds-stack-base-in-PushField c = base_there (goal.at.bounds-stack-base-in-PushField c).After-takes
+bounds-stack-base-in-PushField c = base_fits (goal.at.bounds-stack-base-in-PushField c).After-takes
 
 pub bounds-stack-base-in-PushPriority : goal.bounds-stack-base-in-PushPriority
-bounds-stack-base-in-PushPriority c = base_there (goal.at.bounds-stack-base-in-PushPriority c).After-takes
+bounds-stack-base-in-PushPriority c = base_fits (goal.at.bounds-stack-base-in-PushPriority c).After-takes
 
-pub slice_copy_out-inverted : goal.slice_copy_out-inverted
-slice_copy_out-inverted c = base_there (goal.at.slice_copy_out-inverted c).After-takes
+pub bounds-stack-base-in-Not-2 : goal.bounds-stack-base-in-Not-2
+bounds-stack-base-in-Not-2 c = base_fits (goal.at.bounds-stack-base-in-Not-2 c).After-takes
 
 pub bounds-stack-base-in-Not : goal.bounds-stack-base-in-Not
-bounds-stack-base-in-Not c = base_there (goal.at.bounds-stack-base-in-Not c).After-takes
+bounds-stack-base-in-Not c = base_fits (goal.at.bounds-stack-base-in-Not c).After-takes
 
-pub slice_copy_out-negated : goal.slice_copy_out-negated
-slice_copy_out-negated c = base_there (goal.at.slice_copy_out-negated c).After-takes
+pub bounds-stack-base-in-Negate-2 : goal.bounds-stack-base-in-Negate-2
+bounds-stack-base-in-Negate-2 c = base_fits (goal.at.bounds-stack-base-in-Negate-2 c).After-takes
 
 pub bounds-stack-base-in-Negate : goal.bounds-stack-base-in-Negate
-bounds-stack-base-in-Negate c = base_there (goal.at.bounds-stack-base-in-Negate c).After-takes
+bounds-stack-base-in-Negate c = base_fits (goal.at.bounds-stack-base-in-Negate c).After-takes
 
-pub slice_copy_out-converted : goal.slice_copy_out-converted
-slice_copy_out-converted c = base_there (goal.at.slice_copy_out-converted c).After-takes
+pub bounds-stack-base-in-Convert-2 : goal.bounds-stack-base-in-Convert-2
+bounds-stack-base-in-Convert-2 c = base_fits (goal.at.bounds-stack-base-in-Convert-2 c).After-takes
 
 pub bounds-stack-base-in-Convert : goal.bounds-stack-base-in-Convert
-bounds-stack-base-in-Convert c = base_there (goal.at.bounds-stack-base-in-Convert c).After-takes
+bounds-stack-base-in-Convert c = base_fits (goal.at.bounds-stack-base-in-Convert c).After-takes
 
-pub slice_copy_out-holds : goal.slice_copy_out-holds
-slice_copy_out-holds c = base_there (goal.at.slice_copy_out-holds c).After-takes
+pub bounds-stack-base-in-Compare-2 : goal.bounds-stack-base-in-Compare-2
+bounds-stack-base-in-Compare-2 c = base_fits (goal.at.bounds-stack-base-in-Compare-2 c).After-takes
 
 pub bounds-stack-base-in-Compare : goal.bounds-stack-base-in-Compare
-bounds-stack-base-in-Compare c = base_there (goal.at.bounds-stack-base-in-Compare c).After-takes
+bounds-stack-base-in-Compare c = base_fits (goal.at.bounds-stack-base-in-Compare c).After-takes
 
-pub slice_copy_out-connected : goal.slice_copy_out-connected
-slice_copy_out-connected c = base_there (goal.at.slice_copy_out-connected c).After-takes
+pub bounds-stack-base-in-Connect-2 : goal.bounds-stack-base-in-Connect-2
+bounds-stack-base-in-Connect-2 c = base_fits (goal.at.bounds-stack-base-in-Connect-2 c).After-takes
 
 pub bounds-stack-base-in-Connect : goal.bounds-stack-base-in-Connect
-bounds-stack-base-in-Connect c = base_there (goal.at.bounds-stack-base-in-Connect c).After-takes
+bounds-stack-base-in-Connect c = base_fits (goal.at.bounds-stack-base-in-Connect c).After-takes
 
-pub slice_copy_out-is_true : goal.slice_copy_out-is_true
-slice_copy_out-is_true c = base_there (goal.at.slice_copy_out-is_true c).After-takes
+pub bounds-stack-base-in-Skip : goal.bounds-stack-base-in-Skip
+bounds-stack-base-in-Skip c = base_fits (goal.at.bounds-stack-base-in-Skip c).After-takes
 
 pub bounds-stack-base-then-is_true-on : goal.bounds-stack-base-then-is_true-on
-bounds-stack-base-then-is_true-on c = base_there (goal.at.bounds-stack-base-then-is_true-on c).After-takes
+bounds-stack-base-then-is_true-on c = base_fits (goal.at.bounds-stack-base-then-is_true-on c).After-takes
 
 pub overflow_add-i : goal.overflow_add-i
 overflow_add-i c =

@@ -1,6 +1,6 @@
 -- Why each entry gets the byte of its run, and all of them the sum of their steps: what is told of an entry has its place among the answers
 -- (`tabled_next`), and after the last one all is told (`tabled_all`).
-use Rattle.std.proofs.Common.{◌≡◌, ℕ, ◌/◌, ◌<◌, length, refl, sym, ap, ◌∙◌, subst, arith, rules, length-set}
+use Rattle.std.proofs.Common.{◌≡◌, ℕ, ◌/◌, ◌<◌, length, refl, ap, ◌∙◌, subst, arith, rules}
 use Rattle.paper.specs.Counting.{whole_in}
 use Rattle.keys.specs.Says.{keys_in}
 use Rattle.machine.proofs.Tabled.{tabled_next, tabled_all}

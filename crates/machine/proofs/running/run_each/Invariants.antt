@@ -1,5 +1,5 @@
 -- The first k entries are told of (`Tabled`), and the array has a place for each value, whatever stands there.
-use Rattle.std.proofs.Common.{◌≡◌, List, length}
+use Rattle.std.proofs.Common.{◌≡◌, length}
 use Rattle.paper.specs.Code.{most_held}
 use Rattle.keys.specs.Says.{keys_in}
 use Rattle.machine.proofs.Tabled.{Tabled}

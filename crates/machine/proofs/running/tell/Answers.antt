@@ -1,5 +1,5 @@
 -- What is told of an entry: what its run left, in its steps (`tells_run`), or that it is refused (`tells_none`).
-use Rattle.std.proofs.Common.{◌≡◌, sym, ap, refl, subst, ◌∙◌, false}
+use Rattle.std.proofs.Common.{sym, refl, subst, ◌∙◌, false}
 use Rattle.keys.specs.Says.{keys_in, conforms}
 use Rattle.machine.specs.Running.{TellsOf}
 use Rattle.machine.proofs.Tabled.{passing, tells_run, tells_none}

@@ -1,5 +1,5 @@
 -- The arm of a skip answers what the parts are read as, since its test is that they spell it.
-use Rattle.std.proofs.Common.{sym, refl, ap, ◌∙◌}
+use Rattle.std.proofs.Common.{sym, ap, ◌∙◌}
 use Rattle.number.specs.Values.{value}
 use Rattle.machine.specs.Decoded.{read_meant}
 use Rattle.machine.proofs.Decoded.{reads_skip, first_byte_lem, meant_when}

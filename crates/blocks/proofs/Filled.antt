@@ -1,23 +1,14 @@
 -- The stores that fill a block, one after another, leave the block of the code.
 use Prim.Native.Nat.{ℕ, ◌/◌, ◌≤◌}
 use native.Mathlib.Omega.{arith}
-use mathlib.Core.Path.{◌≡◌, refl, sym, ◌∙◌, ap}
-use mathlib.Core.List.{List, ◌++◌, append-nil}
-use lib.ListN.{length, take, drop_of_length-le}
+use mathlib.Core.Path.{◌≡◌, refl, ◌∙◌, ap}
+use mathlib.Core.List.{List, ◌++◌}
+use lib.ListN.{length, take}
 use lib.Seq.{sets, length-sets}
 use Rattle.paper.specs.Numbers.{big_endian}
-use Rattle.paper.specs.Blocks.{check_of, sealed}
-use Rattle.blocks.specs.Sealed.{sealed_at}
+use Rattle.paper.specs.Blocks.{sealed}
 use Rattle.blocks.specs.Written.{padded, coded_block}
-use Rattle.blocks.proofs.Layouts.{check_due}
-use Rattle.blocks.proofs.Stores.{padded_length, stored, stored_after}
-
-seal_last : (b : List ℕ) → length b ≡ 512 → sealed_at b ≡ sealed (take 508 b)
-seal_last b size =
-    let front = take 508 b in
-    let past : length b ≤ 512 = omega arith in
-    sym (ap (sets b 508) (check_due front)) ∙ stored b 508 4 (check_of front) refl (omega arith)
-    ∙ ap (λ (r : List ℕ). sealed front ++ r) (drop_of_length-le b past) ∙ append-nil (sealed front)
+use Rattle.blocks.proofs.Stores.{padded_length, stored_after}
 
 module _ (b code : List ℕ) (k total keys : ℕ) (size : length b ≡ 512) (few : length code ≤ 500) where
   abbrev count : ℕ
@@ -50,9 +41,6 @@ module _ (b code : List ℕ) (k total keys : ℕ) (size : length b ≡ 512) (few
   totalled_size : length totalled ≡ 512
   totalled_size = length-sets coded 504 (big_endian 2 total) ∙ coded_size
 
-  filled_size : length filled ≡ 512
-  filled_size = length-sets totalled 506 (big_endian 2 keys) ∙ totalled_size
-
   filled_front : take 508 filled ≡ big_endian 2 k ++ big_endian 2 count ++ padded code ++ big_endian 2 total ++ big_endian 2 keys
   filled_front =
       stored_after totalled 506 2 (big_endian 2 keys) refl (omega (arith, totalled_size)) _
@@ -61,5 +49,5 @@ module _ (b code : List ℕ) (k total keys : ℕ) (size : length b ≡ 512) (few
       (stored_after numbered 2 2 (big_endian 2 count) refl (omega (arith, numbered_size)) _
       (stored_after b 0 2 (big_endian 2 k) refl (omega arith) _ refl))))
 
-  pub filled_sealed : sealed_at filled ≡ coded_block total keys k code
-  filled_sealed = seal_last filled filled_size ∙ ap sealed filled_front
+  pub filled_sealed : sealed (take 508 filled) ≡ coded_block total keys k code
+  filled_sealed = ap sealed filled_front

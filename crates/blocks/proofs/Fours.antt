@@ -1,11 +1,12 @@
 -- The check's sums four words at a time. Each of the four words has a pair of sums of its own, and a turn of these pairs is four turns of
 -- the one pair that they come to.
-use Prim.Native.Nat.{ℕ, ◌+◌, ◌*◌, ◌-◌, ◌/◌, ◌%◌, ◌≤◌, ◌<◌}
+use Prim.Native.Nat.{ℕ, ◌+◌, ◌*◌, ◌-◌, ◌%◌, ◌≤◌}
 use native.Mathlib.Omega.{arith}
-use mathlib.Core.Path.{◌≡◌, refl}
-use mathlib.Core.List.{List}
-use lib.ListN.{length}
+use mathlib.Core.Path.{◌≡◌, refl, ◌∙◌}
+use mathlib.Core.List.{List, ◌++◌}
+use lib.ListN.{length, drop}
 use Rattle.blocks.specs.Sealed.{TurnedWord, Added}
+use Rattle.blocks.proofs.Steps.{passed, room_for, word_in}
 use Rattle.blocks.proofs.Running.{added_none, added_on, said}
 
 -- a pair of sums of one word of each four before byte i, of which there are at most 63
@@ -66,5 +67,16 @@ module _ {s : List ℕ} {i a b c d a' b' c' d' : ℕ} (so_far : Fours s i a b c 
             (second_turn a b c d a' b' c' d' v w x y so_far.pair_b.below so_far.pair_c.below so_far.pair_d.below);
       }
 
-  pub fours_all : length s - i < 8 → Added s (length s / 8 * 8) (a + b + c + d) (second_of b c d (a' + b' + c' + d'))
-  fours_all over = said so_far.sums (omega (arith, so_far.whole, so_far.sums.inside)) refl refl
+-- a part of four words is taken off what is left
+module _ (s rest part after : List ℕ) (left : rest ≡ drop (length s - length rest) s) (off : rest ≡ part ++ after) (eight : length part ≡ 8) where
+  pub fours_next : {a b c d a' b' c' d' : ℕ} → Fours s (length s - length rest) a b c d a' b' c' d' → length s ≤ 508 → (v w x y : ℕ)
+      → TurnedWord part 0 v → TurnedWord part 2 w → TurnedWord part 4 x → TurnedWord part 6 y
+      → Fours s (length s - length after) (a + v) (b + w) (c + x) (d + y) (a' + (a + v)) (b' + (b + w)) (c' + (c + x)) (d' + (d + y))
+  fours_next so_far few v w x y at-v at-w at_x at_y =
+      let in_s = word_in s rest part after left off in
+      let i = length s - length rest in
+      let on : length s - length after ≡ i + 8 = passed s rest part after left off ∙ omega (arith, eight) in
+      rw on
+      (fours_on so_far v w x y few (omega (arith, room_for s rest part after left off, eight))
+      (in_s 0 i v (omega arith) (omega arith) at-v) (in_s 2 (i + 2) w (omega arith) (omega arith) at-w)
+      (in_s 4 (i + 4) x (omega arith) (omega arith) at_x) (in_s 6 (i + 6) y (omega arith) (omega arith) at_y))

@@ -10,7 +10,6 @@ use lib.Seq.{drop-nil, drop-drop, drop-append-add, take-nil, take_at, take-appen
 use Rattle.paper.specs.Numbers.{bytes_at, big_endian}
 use Rattle.paper.specs.Code.{Instruction, encode}
 use Rattle.paper.specs.Blocks.{encode_all, sealed, block_of, blocks_from, blocks_needed, blocks_of}
-use Rattle.paper.specs.Calls.{over}
 use Rattle.paper.proofs.InstructionsRoundTrip.{row_length}
 use Rattle.blocks.specs.Written.{held, coded_block, block_at, in_row, coded_blocks}
 use Rattle.blocks.proofs.Stores.{stored}
@@ -57,9 +56,6 @@ module _ (block : ℕ → List ℕ) where
           ∙ ap₂ (λ (a b : List ℕ). a ++ block k ++ b) (take_at done rest (k * 512) size) later
           ∙ ap (λ (a : List ℕ). a ++ drop ((k + 1) * 512) old)
           (ap (λ (j : ℕ). done ++ block j) (sym (zero-add k)) ∙ sym (in_row_more k 0) ∙ ap (in_row block 0) (sym (add-one k)))
-
-      pub row_through : (n : ℕ) → in_row block 0 n ++ drop (n * 512) old ≡ over (in_row block 0 n) old
-      row_through n = ap (λ (m : ℕ). in_row block 0 n ++ drop m old) (sym (in_row_length n 0))
 
 -- instructions in a row, cut after 25
 

@@ -1,13 +1,12 @@
 -- The check's sums along a slice: each word is added, turned round, to sums that are not reduced.
-use Prim.Native.Nat.{ℕ, ◌+◌, ◌*◌, ◌-◌, ◌/◌, ◌%◌, ◌≤◌, ◌<◌}
-use native.Mathlib.Nat.{add-mul-mod_self_left}
+use Prim.Native.Nat.{ℕ, ◌+◌, ◌*◌, ◌-◌, ◌%◌, ◌≤◌}
 use native.Mathlib.Omega.{arith}
-use mathlib.Core.Path.{◌≡◌, refl, sym, ◌∙◌, ap, ap₂, subst}
-use mathlib.Core.List.{List, [], ◌∷◌}
-use lib.ListN.{length, get_or, drop, length-drop}
+use mathlib.Core.Path.{◌≡◌, refl, sym, ◌∙◌, ap, subst}
+use mathlib.Core.List.{List, ◌∷◌, ◌++◌}
+use lib.ListN.{length, get_or, drop}
 use Rattle.paper.specs.Blocks.{Sums, sums_from, sums_of}
 use Rattle.blocks.specs.Sealed.{TurnedWord, Added}
-use Rattle.blocks.proofs.Steps.{two_off}
+use Rattle.blocks.proofs.Steps.{two_off, passed, room_for, word_in}
 
 -- a word may be added turned round, and to sums that are not reduced
 added : (x y : ℕ) (s : List ℕ) (a b : ℕ) → let c = a + (x + y * 256) in
@@ -18,21 +17,9 @@ added x y s a b =
     let together : (256 * b % 65535 + 256 * c % 65535) % 65535 ≡ 256 * (b + c) % 65535 = omega arith in
     ap (λ (n : ℕ). sums_from n ((256 * b % 65535 + n) % 65535) s) turned ∙ ap (λ (n : ℕ). sums_from (256 * c % 65535) n s) together
 
--- a single byte is no word
-no_word : (s : List ℕ) (a b : ℕ) → length s < 2 → sums_from a b s ≡ record { first = a; second = b }
-no_word [] a b h = refl
-no_word (x ∷ []) a b h = refl
-no_word (x ∷ y ∷ s) a b h = absurd (omega arith)
-
 pub added_none : (s : List ℕ) → Added s 0 0 0
 unfolding sums_of
 added_none s = record { inside = omega arith; first_small = omega arith; second_small = omega arith; rest = refl }
-
--- sums may be reduced before they are turned back
-reduced : (n : ℕ) → 256 * n % 65535 ≡ n % 65535 * 256 % 65535
-reduced n =
-    let whole : 256 * n ≡ n % 65535 * 256 + 65535 * (256 * (n / 65535)) = omega arith in
-    ap (λ (k : ℕ). k % 65535) whole ∙ add-mul-mod_self_left (n % 65535 * 256) 65535 (256 * (n / 65535))
 
 module _ {s : List ℕ} {i first second : ℕ} (so_far : Added s i first second) where
   pub added_on : (w : ℕ) → length s ≤ 508 → 2 ≤ length s - i → TurnedWord s i w → Added s (i + 2) (first + w) (second + (first + w))
@@ -47,12 +34,17 @@ module _ {s : List ℕ} {i first second : ℕ} (so_far : Added s i first second)
             ∙ sym (ap (sums_from (256 * first % 65535) (256 * second % 65535)) (two_off s i more)) ∙ so_far.rest;
       }
 
-  pub added_all : length s - i < 2 → sums_of s ≡ record { first = first % 65535 * 256 % 65535; second = second % 65535 * 256 % 65535 }
-  added_all over =
-      sym so_far.rest ∙ no_word (drop i s) (256 * first % 65535) (256 * second % 65535) (omega (arith, length-drop i s))
-      ∙ ap₂ (λ (a b : ℕ). record { first = a; second = b }) (reduced first) (reduced second)
-
   -- the same, said in other words
   pub said : {i' first' second' : ℕ} → i ≡ i' → first ≡ first' → second ≡ second' → Added s i' first' second'
   said {i'} {first'} {second'} e f g =
       subst (λ n. Added s n first' second') e (subst (λ n. Added s i n second') f (subst (λ n. Added s i first n) g so_far))
+
+-- a part of one word is taken off what is left
+module _ (s rest part after : List ℕ) (left : rest ≡ drop (length s - length rest) s) (off : rest ≡ part ++ after) (two : length part ≡ 2) where
+  pub added_next : {first second : ℕ} → Added s (length s - length rest) first second → length s ≤ 508 → (w : ℕ) → TurnedWord part 0 w
+      → Added s (length s - length after) (first + w) (second + (first + w))
+  added_next so_far few w at-w =
+      let i = length s - length rest in
+      let on : length s - length after ≡ i + 2 = passed s rest part after left off ∙ omega (arith, two) in
+      rw on
+      (added_on so_far w few (omega (arith, room_for s rest part after left off, two)) (word_in s rest part after left off 0 i w (omega arith) (omega arith) at-w))

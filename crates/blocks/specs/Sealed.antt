@@ -1,5 +1,5 @@
 -- The check as the code holds it, and a block after which it is stored.
-use Rattle.std.specs.Prelude.{ℕ, ◌+◌, ◌*◌, ◌/◌, ◌%◌, ◌≤◌, ◌≡◌, List, length, get_or, take, drop, set}
+use Rattle.std.specs.Prelude.{ℕ, ◌+◌, ◌*◌, ◌/◌, ◌%◌, ◌≤◌, ◌≡◌, List, [], ◌∷◌, length, get_or, drop}
 use Rattle.paper.specs.Blocks as P
 use Rattle.paper.specs.Blocks.{sums_from, sums_of}
 use Rattle.blocks.specs.declared.sums.Sums.{Sums}
@@ -19,7 +19,6 @@ pub record Added (s : List ℕ) (i first second : ℕ) : Type 0 where
   pub second_small : 2 * second ≤ 254 * 65535 * i
   pub rest : sums_from (256 * first % 65535) (256 * second % 65535) (drop i s) ≡ sums_of s
 
-abbrev pub sealed_at : List ℕ → List ℕ
-sealed_at b =
-    let c = sums_of (take 508 b) in
-    set (set (set (set b 508 (c.second / 256 % 256)) 509 (c.second % 256)) 510 (c.first / 256 % 256)) 511 (c.first % 256)
+-- the check's bytes
+abbrev pub check_spelled : Sums → List ℕ
+check_spelled c = (c.second / 256 % 256) ∷ (c.second % 256) ∷ (c.first / 256 % 256) ∷ (c.first % 256) ∷ []

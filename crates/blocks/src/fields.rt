@@ -1,5 +1,5 @@
 // The numbers of a block.
-ghost use Rattle.std.specs.Prelude.{◌≡◌, ◌+◌, ◌≤◌, ◌<◌, length};
+ghost use Rattle.std.specs.Prelude.{◌≡◌, ◌+◌, ◌≤◌, ◌<◌, ◌&&◌, eqb, length};
 ghost use Rattle.paper.specs.Numbers.{number_at};
 ghost use Rattle.paper.specs.Blocks.{blocks_needed};
 ghost use Rattle.blocks.specs.Fields.{BlockOf};
@@ -13,18 +13,12 @@ pub struct Block {
     pub keys: usize,
 }
 
-fn wide(x: u8) -> usize
-    ensures { (result ≡ x) × (result < 256) }
-{
-    x as usize
-}
-
 // The number that two bytes from an offset on are, big-endian.
 pub fn two_bytes(s: &[u8], at: usize) -> usize
     requires { at + 2 ≤ length s.now }
     ensures { (result ≡ number_at s.now at 2) × (result < 65536) }
 {
-    wide(s[at]) * 256 + wide(s[at + 1])
+    usize::from(s[at]) * 256 + usize::from(s[at + 1])
 }
 
 impl Block {
@@ -42,10 +36,8 @@ impl Block {
 
     pub const KEYS: usize = 506;
 
-    // Where the check sums stand: first the second sum, then the first one.
+    // Where the check stands: first the second sum, then the first one.
     pub const CHECK: usize = 508;
-
-    pub const CHECK_FIRST: usize = 510;
 
     pub const MOST: usize = 123;
 
@@ -62,13 +54,17 @@ impl Block {
         }
     }
 
+    // Whether a block says this number, total count and number of keys of itself.
+    pub(crate) fn names(self, number: usize, total: usize, keys: usize) -> bool
+        ensures { result ≡ (eqb self.number number && eqb self.total total && eqb self.keys keys) }
+    {
+        self.number == number && self.total == total && self.keys == keys
+    }
+
     // How many blocks hold n instructions.
     pub fn needed(n: usize) -> usize
         ensures { result ≡ blocks_needed n }
     {
-        if n % Block::INSTRUCTIONS == 0 {
-            return n / Block::INSTRUCTIONS;
-        }
-        n / Block::INSTRUCTIONS + 1
+        n.div_ceil(Block::INSTRUCTIONS)
     }
 }

@@ -1,8 +1,9 @@
 // Refusals 16 and 17: whether blocks are laid out as they must be.
-ghost use Rattle.std.specs.Prelude.{◌≡◌, ◌&&◌, ◌+◌, ◌*◌, ◌/◌, ◌%◌, ◌≤◌, ◌<◌, eqb, length, get_or, take};
+ghost use Rattle.std.specs.Prelude.{◌≡◌, ◌&&◌, ◌+◌, ◌*◌, ◌/◌, ◌%◌, ◌-◌, ◌≤◌, ◌<◌, eqb, length, get_or, take};
 ghost use Rattle.paper.specs.Answers.{says};
 ghost use Rattle.paper.specs.Numbers.{bytes_at};
 ghost use Rattle.paper.specs.Tokens.{same_bytes};
+ghost use Rattle.paper.specs.Keys.{all_zero};
 ghost use Rattle.paper.specs.Blocks.{most_blocks, count_ok, counts_from, check_of};
 ghost use Rattle.blocks.specs.Layout.{laid_out, block_right};
 
@@ -16,31 +17,27 @@ fn count_right(later: usize, count: usize) -> bool
     ensures { result ≡ count_ok later count }
 {
     if later == 0 {
-        return (1 <= count) & (count <= Block::INSTRUCTIONS);
+        (1..=Block::INSTRUCTIONS).contains(&count)
+    } else {
+        count == Block::INSTRUCTIONS
     }
-    count == Block::INSTRUCTIONS
-}
-
-fn wide(x: u8) -> u32
-    ensures { result ≡ x }
-{
-    x as u32
-}
-
-// Whether two bytes from an offset on spell a sum, the high one first.
-fn spells(block: &[u8], at: usize, sum: u32) -> bool
-    requires { (at + 2 ≤ length block.now) × (at < 65536) }
-    ensures { result ≡ (eqb (get_or block.now at 0) (sum / 256 % 256) && eqb (get_or block.now (at + 1) 0) (sum % 256)) }
-{
-    (wide(block[at]) == sum / 256 % 256) & (wide(block[at + 1]) == sum % 256)
 }
 
 fn check_right(block: &[u8]) -> bool
     requires { length block.now ≡ 512 }
     ensures { result ≡ same_bytes (bytes_at block.now 508 4) (check_of (take 508 block.now)) }
 {
-    let sums = sums_of(&block[..Block::CHECK]);
-    spells(block, Block::CHECK, sums.second) & spells(block, Block::CHECK_FIRST, sums.first)
+    let check = sums_of(&block[..Block::CHECK]).bytes();
+    block[Block::CHECK..] == check[..]
+}
+
+// Whether a block's count is right where so many stand after it, and zeros are all that follows the code.
+fn code_right(block: &[u8], later: usize, count: usize) -> bool
+    requires { length block.now ≡ 512 }
+    ensures { result ≡ (count_ok later count && all_zero (bytes_at block.now (4 + 20 * count) (500 - 20 * count))) }
+{
+    count_right(later, count)
+        && bytes::all_zero(&block[Block::HEAD + Block::INSTRUCTION * count..Block::TAIL])
 }
 
 // Block k, after which so many stand, in blocks of a total count for a number of keys.
@@ -49,24 +46,7 @@ fn block_right(block: &[u8], k: usize, later: usize, total: usize, keys: usize) 
     ensures { result ≡ block_right keys total k later block.now }
 {
     let b = Block::read(block);
-    if b.number != k {
-        return false;
-    }
-    let count = b.count;
-    if !count_right(later, count) {
-        return false;
-    }
-    let from = Block::HEAD + Block::INSTRUCTION * count;
-    if !bytes::all_zero(&block[from..Block::TAIL]) {
-        return false;
-    }
-    if b.total != total {
-        return false;
-    }
-    if b.keys != keys {
-        return false;
-    }
-    check_right(block)
+    b.names(k, total, keys) && code_right(block, later, b.count) && check_right(block)
 }
 
 // The counts of n blocks, added up as they stand.
@@ -75,10 +55,8 @@ fn total_of(blocks: &[u8], n: usize) -> usize
     ensures { result ≡ counts_from blocks.now 0 n }
 {
     let mut sum = 0;
-    let mut k = 0;
-    while k < n {
+    for k in 0..n {
         sum += two_bytes(blocks, k * Block::SIZE + 2);
-        k += 1;
     }
     sum
 }
@@ -108,8 +86,7 @@ pub fn layout(blocks: &[u8], keys: usize) -> Result<usize, Refusal>
     }
     let n = size / Block::SIZE;
     let total = total_of(blocks, n);
-    let mut k = 0;
-    while k < n {
+    for k in 0..n {
         let from = k * Block::SIZE;
         if !block_right(
             &blocks[from..from + Block::SIZE],
@@ -123,7 +100,6 @@ pub fn layout(blocks: &[u8], keys: usize) -> Result<usize, Refusal>
                 place: Place::Blocks(from),
             });
         }
-        k += 1;
     }
     Ok(total)
 }

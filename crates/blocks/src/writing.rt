@@ -24,11 +24,7 @@ fn put_code(code: &[u8], block: &mut [u8])
     ensures { block.new ≡ sets block.old 4 (padded code.now) }
 {
     bytes::copy(code, Block::HEAD, block);
-    let mut i = code.len();
-    while i < Block::CODE {
-        block[Block::HEAD + i] = 0;
-        i += 1;
-    }
+    block[Block::HEAD + code.len()..Block::TAIL].fill(0);
 }
 
 // Block k of a total count of instructions for a number of keys: all its 512 bytes.
@@ -40,7 +36,7 @@ fn write_block(code: &[u8], k: usize, total: usize, keys: usize, block: &mut [u8
     put_two_bytes(block, 2, code.len() / Block::INSTRUCTION);
     put_code(code, block);
     put_two_bytes(block, Block::TAIL, total);
-    put_two_bytes(block, 506, keys);
+    put_two_bytes(block, Block::KEYS, keys);
     seal(block);
 }
 
@@ -50,10 +46,7 @@ fn code_of(code: &[u8], k: usize) -> &[u8]
     ensures { result.now ≡ bytes_at code.now (k * 500) 500 }
 {
     let from = k * Block::CODE;
-    if code.len() - from < Block::CODE {
-        return &code[from..];
-    }
-    &code[from..from + Block::CODE]
+    &code[from..code.len().min(from + Block::CODE)]
 }
 
 // Block k, at its place among the blocks.
@@ -78,9 +71,7 @@ pub fn write_blocks(code: &[u8], keys: usize, buffer: &mut [u8])
 {
     let total = code.len() / Block::INSTRUCTION;
     let n = Block::needed(total);
-    let mut k = 0;
-    while k < n {
+    for k in 0..n {
         put_block(code, k, total, keys, buffer);
-        k += 1;
     }
 }

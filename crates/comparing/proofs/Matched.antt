@@ -73,7 +73,7 @@ module _ (c : List Instruction) where
 
 -- a part that stands between two numbers
 
-module _ (code starts used : List ℕ) (k : ℕ) (c : List Instruction) (stood : Stood code starts k c) (blocks : List ℕ) (left from to : ℕ)
+module _ (code starts : List ℕ) (used : List Bool) (k : ℕ) (c : List Instruction) (stood : Stood code starts k c) (blocks : List ℕ) (left from to : ℕ)
     (first : from ≡ start_at starts k) (next : to ≡ start_at starts (k + 1))
   where
     size_is : to - from ≡ length (as_joined c)

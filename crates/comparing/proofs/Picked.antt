@@ -183,31 +183,31 @@ one_left test cs k (suc n) h = go (test k) refl h (one_left test cs (suc k) n)
         let s = later (rw e at h) in
         record { there = rw e (omega (arith, s.there)); only = rw e s.only }
 
--- bytes that tell which parts are used
+-- which parts are used
 
-module _ (used : List ℕ) where
-  pub all_free : (size : ℕ) → used ≡ replicate size 0 → (j : ℕ) → j < size → is_free used j ≡ true
-  all_free size e j h = rw (e, get_or-replicate {A = ℕ} size j 0 0 h)
+module _ (used : List Bool) where
+  pub all_free : (size : ℕ) → used ≡ replicate size false → (j : ℕ) → j < size → is_free used j ≡ true
+  all_free size e j h = rw (e, get_or-replicate {A = Bool} size j false false h)
 
-  pub used_now : (r : ℕ) → r < length used → Without (is_free used) (is_free (set used r 1)) r
+  pub used_now : (r : ℕ) → r < length used → Without (is_free used) (is_free (set used r true)) r
   used_now r h =
       record {
-        off = rw (get_or-set_same used r 1 0 h);
-        others = λ j d. rw (get_or-set_other used r j 1 0 d);
+        off = rw (get_or-set_same used r true false h);
+        others = λ j d. rw (get_or-set_other used r j true false d);
       }
 
 -- a round of the search: so many parts are still to be taken off, and so much code is left
-pub record Round (blocks : List ℕ) (total n : ℕ) (cs : ℕ → List Instruction) (used : List ℕ) (left more : ℕ) : Type 0 where
+pub record Round (blocks : List ℕ) (total n : ℕ) (cs : ℕ → List Instruction) (used : List Bool) (left more : ℕ) : Type 0 where
   pub many : length (passing (is_free used) cs 0 n) ≡ suc more
   pub same : fits more (passing (is_free used) cs 0 n) (records_from blocks 0 left) ≡ fits (n - 1) (each cs 0 n) (records_from blocks 0 total)
 
-pub first_round : (blocks : List ℕ) (total n size : ℕ) (cs : ℕ → List Instruction) (used : List ℕ) → used ≡ replicate size 0 → 1 ≤ n → n ≤ size
+pub first_round : (blocks : List ℕ) (total n size : ℕ) (cs : ℕ → List Instruction) (used : List Bool) → used ≡ replicate size false → 1 ≤ n → n ≤ size
     → Round blocks total n cs used total (n - 1)
 first_round blocks total n size cs used e some few =
     let all = passing_all (is_free used) cs 0 n (λ j h. all_free used size e j (omega arith)) in
     record { many = ap length all ∙ each_length cs 0 n ∙ omega arith; same = rw all }
 
-module _ {blocks : List ℕ} {total n : ℕ} {cs : ℕ → List Instruction} {used : List ℕ} {left more : ℕ} (round : Round blocks total n cs used left more) where
+module _ {blocks : List ℕ} {total n : ℕ} {cs : ℕ → List Instruction} {used : List Bool} {left more : ℕ} (round : Round blocks total n cs used left more) where
   abbrev found : ℕ
   found = first_from (comes_last used cs (records_from blocks 0 left)) 0 n
 
@@ -258,19 +258,19 @@ module _ {blocks : List ℕ} {total n : ℕ} {cs : ℕ → List Instruction} {us
         ∙ ap (λ (m : ℕ). take (left - size) (records_from blocks 0 m)) all
         ∙ blocks_take blocks 0 (left - size) size
 
-    taken_off : 0 < more → Round blocks total n cs (set used r 1) (left - size) (more - 1)
+    taken_off : 0 < more → Round blocks total n cs (set used r true) (left - size) (more - 1)
     unfolding fits
     taken_off some =
         let again : more ≡ suc (more - 1) = omega arith in
         let w = used_now used r (omega arith) in
-        let fewer = one_fewer (is_free used) (is_free (set used r 1)) r w cs 0 n (omega arith) (omega arith) is_free_lem in
-        let one = one_picked (is_free used) (is_free (set used r 1)) cs (records_from blocks 0 left) r w 0 n e (omega arith) in
+        let fewer = one_fewer (is_free used) (is_free (set used r true)) r w cs 0 n (omega arith) (omega arith) is_free_lem in
+        let one = one_picked (is_free used) (is_free (set used r true)) cs (records_from blocks 0 left) r w 0 n e (omega arith) in
         record {
           many = omega (arith, fewer, round.many);
           same = rw (← cut_is) (rw (again, one) at round.same);
         }
 
-    pub next_round : (m : ℕ) → m ≡ size → 0 < more → Round blocks total n cs (set used r 1) (left - m) (more - 1)
+    pub next_round : (m : ℕ) → m ≡ size → 0 < more → Round blocks total n cs (set used r true) (left - m) (more - 1)
     next_round m same some = rw same (taken_off some)
 
   -- the last round

@@ -18,18 +18,17 @@ pub fn agrees(blocks: &[u8], total: usize, code: &[u8], starts: &[u32], n: usize
     ensures { (cs : (ℕ → List Instruction)) → Stand code.now starts.now n cs
         → result ≡ fits (n - 1) (each cs 0 n) (records_from blocks.now 0 total) }
 {
-    let mut used = [0u8; parts::MOST_PARTS];
+    let mut used = [false; parts::MOST_PARTS];
     let mut left = total;
-    let mut more = n - 1;
-    while 0 < more {
-        let k = pick(blocks, left, code, starts, &used, n);
-        if k == n {
+    for _round in 1..n {
+        let Some(k) = pick(blocks, left, code, starts, &used, n) else {
             return false;
-        }
-        used[k] = 1;
+        };
+        used[k] = true;
         left -= start_at(starts, k + 1) - start_at(starts, k);
-        more -= 1;
     }
-    let k = first_free(&used, n);
+    let Some(k) = first_free(&used, n) else {
+        return false;
+    };
     is_all(blocks, left, code, starts, k)
 }

@@ -4,7 +4,7 @@ ghost use Rattle.paper.specs.Code.{Instruction};
 ghost use Rattle.paper.specs.Blocks.{in_block, blocks_in};
 ghost use Rattle.paper.specs.Comparing.{records_from, written, same_records};
 ghost use Rattle.comparing.specs.Scratch.{Stood, Stand};
-ghost use Rattle.comparing.specs.Picking.{first_from, is_free, last_free, comes_last};
+ghost use Rattle.comparing.specs.Picking.{first_from, IsFirst, is_free, last_free, comes_last};
 
 use crate::records::same_records;
 use crate::scratch::start_at;
@@ -15,7 +15,7 @@ fn comes_last(
     left: usize,
     code: &[u8],
     starts: &[u32],
-    used: &[u8],
+    used: &[bool],
     k: usize,
 ) -> bool
     requires left_bound { (left ≤ in_block * blocks_in blocks.now) × (k + 1 < length starts.now) × (k < length used.now) }
@@ -23,7 +23,7 @@ fn comes_last(
     ensures { (c : List Instruction) → Stood code.now starts.now k c
         → result ≡ last_free used.now k c (records_from blocks.now 0 left) }
 {
-    if used[k] != 0 {
+    if used[k] {
         return false;
     }
     let from = start_at(starts, k);
@@ -34,43 +34,39 @@ fn comes_last(
     same_records(blocks, left - size, code, from, size)
 }
 
-// The first of n parts that does, or n.
+// The first of n parts that does.
 pub(crate) fn pick(
     blocks: &[u8],
     left: usize,
     code: &[u8],
     starts: &[u32],
-    used: &[u8],
+    used: &[bool],
     n: usize,
-) -> usize
+) -> Option<usize>
     requires left_bound { (left ≤ in_block * blocks_in blocks.now) × (n < length starts.now) × (n ≤ length used.now) }
     requires by_index { (cs : (ℕ → List Instruction)) × Stand code.now starts.now n cs }
     ensures { (cs : (ℕ → List Instruction)) → Stand code.now starts.now n cs
-        → result ≡ first_from (comes_last used.now cs (records_from blocks.now 0 left)) 0 n }
+        → IsFirst n (first_from (comes_last used.now cs (records_from blocks.now 0 left)) 0 n) result }
 {
-    let mut k = 0;
-    while k < n {
+    for k in 0..n {
         if comes_last(blocks, left, code, starts, used, k) {
-            return k;
+            return Some(k);
         }
-        k += 1;
     }
-    n
+    None
 }
 
-// The first of n parts that is not yet used, or n.
-pub(crate) fn first_free(used: &[u8], n: usize) -> usize
+// The first of n parts that is not yet used.
+pub(crate) fn first_free(used: &[bool], n: usize) -> Option<usize>
     requires { n ≤ length used.now }
-    ensures { result ≡ first_from (is_free used.now) 0 n }
+    ensures { IsFirst n (first_from (is_free used.now) 0 n) result }
 {
-    let mut k = 0;
-    while k < n {
-        if used[k] == 0 {
-            return k;
+    for k in 0..n {
+        if !used[k] {
+            return Some(k);
         }
-        k += 1;
     }
-    n
+    None
 }
 
 // Whether the first `left` instructions are part k alone: its code without the skip before it and the join after it.

@@ -16,8 +16,7 @@ fn record_from(s: &[u8], at: usize) -> &[u8]
     requires { at + instruction_size ≤ length s.now }
     ensures { result.now ≡ bytes_at s.now at instruction_size }
 {
-    let to = at + Block::INSTRUCTION;
-    &s[at..to]
+    &s[at..at + Block::INSTRUCTION]
 }
 
 // Whether instruction i of blocks has the bytes of instruction j of a scratch.
@@ -35,12 +34,10 @@ pub(crate) fn same_records(blocks: &[u8], i: usize, code: &[u8], j: usize, n: us
     requires { (i + n ≤ in_block * blocks_in blocks.now) × (instruction_size * (j + n) ≤ length code.now) }
     ensures { result ≡ same_records (records_from blocks.now i n) (code_from code.now j n) }
 {
-    let mut k = 0;
-    while k < n {
+    for k in 0..n {
         if !same_record(blocks, i + k, code, j + k) {
             return false;
         }
-        k += 1;
     }
     true
 }

@@ -5,18 +5,12 @@ ghost use Rattle.comparing.specs.Scratch.{start_at, Stand, code_at, Roomy};
 
 use parts::rows as part_rows;
 
-fn wide(x: u32) -> usize
-    ensures { result ≡ x }
-{
-    x as usize
-}
-
 // The number of the first instruction of part k; of the last part's number plus one, that after all.
 pub(crate) fn start_at(starts: &[u32], k: usize) -> usize
     requires { k < length starts.now }
     ensures { result ≡ start_at starts.now k }
 {
-    wide(starts[k])
+    starts[k] as usize
 }
 
 // Writes the codes of n parts.
@@ -35,12 +29,10 @@ pub fn write_parts(
         → Stand code.new starts.new n (code_at text list.now nodes.now rows.now) }
 {
     let mut at = 0;
-    let mut k = 0;
     starts[0] = 0;
-    while k < n {
+    for k in 0..n {
         let root = part_rows::root_at(rows, k);
         at = translating::write_joined(list, nodes, root, at, code);
-        k += 1;
-        starts[k] = at as u32;
+        starts[k + 1] = at as u32;
     }
 }

@@ -1,15 +1,14 @@
 -- Landings, by the marks of what was followed. The load check goes along the instructions with the types that were followed, and at each
 -- skip compares: a landing up to where the types were followed has a mark, which is that after the skip exactly where the types are the
 -- same (`marks_agree`, `marks_differ`); a landing past it is not compared (`past`).
-use Rattle.std.proofs.Common.{◌≡◌, ℕ, suc, ◌+◌, ◌-◌, ◌<◌, ◌≤◌, Bool, true, false, cond, eqb, List, [], ◌∷◌, map, length, get_or, take, sym, refl, ap, ◌∙◌, subst, add-zero, arith, ne_eqb}
+use Rattle.std.proofs.Common.{◌≡◌, ℕ, suc, ◌+◌, ◌-◌, ◌<◌, ◌≤◌, Bool, true, false, cond, List, [], ◌∷◌, map, length, get_or, take, sym, refl, ap, ◌∙◌, subst, add-zero, arith}
 use mathlib.Core.Option.{Option, none, some, none-ne-some}
-use Rattle.paper.specs.Answers.{ok, refused, in_blocks}
 use Rattle.paper.specs.Keys.{Key}
 use Rattle.paper.specs.Types.{Ty, bool, int, of}
 use Rattle.paper.specs.Code.{Skip, Instruction, skip, parts_at, Action, most_held, act, Walk, fails, ends, go_on, walk, type_action, action_of, skip_of}
-use Rattle.paper.specs.Loading.{instruction_at, instructions_from, same_types, same_at, lands_well, check_from, types_along, end_ok, load_check}
+use Rattle.paper.specs.Loading.{instruction_at, instructions_from, same_types, same_at, lands_well, check_from, types_along}
 use Rattle.paper.proofs.Landings.{same_held, held_same, ends_same}
-use Rattle.machine.specs.Following.{floors, floor, mark, over_of, Followed, Fitted}
+use Rattle.machine.specs.Following.{floor, mark, over_of, Followed, Fitted}
 use Rattle.machine.proofs.Along.{along, read_at, action_at, of_blocks, along_part, late, along_acts, along_stops}
 use Rattle.machine.proofs.Types.{types_at, types_after_lem}
 use Rattle.machine.proofs.Marked.{floor_most, MarkedAlong}
@@ -19,14 +18,6 @@ use Rattle.machine.proofs.Skips.{is_skip, over_within}
 -- a mark tells the height and the floor
 mark_tells : (s t : List Ty) → length s ≤ most_held → length t ≤ most_held → mark s ≡ mark t → (length s ≡ length t) × (floor s ≡ floor t)
 mark_tells s t a b e = (omega (arith, floor_most s, floor_most t), omega (arith, floor_most s, floor_most t))
-
--- and whether one bool is left
-end_marks : (size : ℕ) (held : List Ty) → end_ok size held ≡ cond (eqb (mark held) floors) (ok tt) (refused 18 in_blocks size)
-end_marks size [] = refl
-end_marks size (bool ∷ []) = refl
-end_marks size (int ∷ []) = refl
-end_marks size (of k w ∷ []) = refl
-end_marks size (a ∷ b ∷ held) = rw (ne_eqb (mark (a ∷ b ∷ held)) floors (λ e. omega arith))
 
 -- where a walk begins to count does not matter to what it is compared with
 same_anywhere : (held : List Ty) (xs : List (Action Ty)) (i j : ℕ) (s : List Ty) → same_at held (walk i xs s) ≡ same_at held (walk j xs s)
@@ -276,15 +267,3 @@ module _ (ks : List Key) (blocks : List ℕ) (n : ℕ) where
 pub record Compared (blocks : List ℕ) (n : ℕ) (marks : List ℕ) (upto i : ℕ) : Type 0 where
   pub within : i ≤ upto
   pub fits : (ks : List Key) → Followed ks blocks n marks upto → Fits ks blocks n i
-
--- what that tells of the load check
-
-module _ (ks : List Key) (blocks : List ℕ) (n : ℕ) (marks : List ℕ) (r size : ℕ) (fitted : Fitted ks blocks n marks r) where
-  pub fitted_fails : r < n → refused 18 in_blocks (instruction_at r) ≡ load_check size (types_along ks (instructions_from blocks 0 n))
-  fitted_fails l = ap (load_check size) (sym (fitted.stops l))
-
-  pub fitted_ends : n ≤ r
-      → cond (eqb (get_or marks n 0) floors) (ok tt) (refused 18 in_blocks size) ≡ load_check size (types_along ks (instructions_from blocks 0 n))
-  fitted_ends l =
-      let (held, there, told) = fitted.passes (omega (arith, fitted.within)) in
-      ap (λ m. cond (eqb m floors) (ok tt) (refused 18 in_blocks size)) told ∙ sym (end_marks size held) ∙ ap (load_check size) (sym there)

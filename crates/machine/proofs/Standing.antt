@@ -1,7 +1,7 @@
 -- A point on the way, with what is held there in an array up to a height.
 use Rattle.std.proofs.Common.{◌≡◌, ℕ, ◌+◌, ◌-◌, ◌<◌, ◌≤◌, List, [], length, get_or, set, refl, ◌∙◌, arith, length-set}
 use mathlib.Core.Option.{Option, none, some}
-use Rattle.paper.specs.Code.{Action, act, most_held, fails, ends, walk}
+use Rattle.paper.specs.Code.{Action, leaves, act, most_held, fails, ends, walk}
 use Rattle.machine.specs.Acting.{takes_of, gives}
 use Rattle.machine.proofs.Along.{along, along_next, along_fails}
 use Rattle.machine.proofs.Stack.{down, too_few, no_room, nothing_given, one_left}
@@ -16,6 +16,12 @@ pub standing_first : {A B : Type 0} (g : A → B) (d : A) (x : ℕ → Action B)
     → Standing g d x n cells 0 0
 unfolding walk
 standing_first g d x n cells e = record { few = omega arith; full = e; upto = omega arith; there = refl }
+
+-- what stands there is no instruction
+pub no_action : {A B : Type 0} {g : A → B} {d : A} {x : ℕ → Action B} {n : ℕ} {cells : List A} {height i : ℕ}
+    → Standing g d x n cells height i → i < n → x i ≡ leaves none → along x 0 n [] ≡ fails i
+no_action {g = g} {d = d} {x = x} {n = n} {cells = cells} {height = height} {i = i} at more e =
+    along_fails x i (down g d cells height) at.there n more (rw e)
 
 -- and there is an instruction more, which takes t operands
 pub record Turn {A B : Type 0} (g : A → B) (d : A) (x : ℕ → Action B) (n : ℕ) (cells : List A) (height i t : ℕ) : Type 0 where

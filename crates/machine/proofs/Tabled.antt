@@ -1,5 +1,5 @@
 -- Entries run one after the other: after k of them the answers have the byte of each of these, in its place, and the steps of all of them are summed.
-use Rattle.std.proofs.Common.{◌≡◌, ℕ, ◌+◌, ◌*◌, ◌%◌, ◌^◌, ◌<◌, Bool, true, false, cond, List, [], ◌∷◌, ◌++◌, map, length, take, drop, set, sym, refl, ap, ◌∙◌, ap₂, true≢false, arith}
+use Rattle.std.proofs.Common.{◌≡◌, ℕ, ◌+◌, ◌*◌, ◌%◌, ◌^◌, ◌<◌, Bool, true, false, List, [], ◌∷◌, ◌++◌, map, length, take, drop, set, sym, refl, ap, ◌∙◌, ap₂, true≢false, arith}
 use native.Mathlib.Nat.{mod-add-mod}
 use mathlib.Core.List.{map-append}
 use lib.ListN.{length-map}
@@ -15,17 +15,12 @@ use Rattle.paper.proofs.Overwritten.{over_next}
 use Rattle.paper.proofs.RunAllRight.{sum_append}
 use Rattle.keys.specs.Says.{conforms}
 use Rattle.keys.proofs.Conforming.{entry_in, entered, not_entered}
-use Rattle.machine.specs.Running.{passes, byte_of}
+use Rattle.machine.specs.Running.{passes, byte_of, TellsOf}
 
 -- what passes
 pub passing : (a : Answer (Unit {0})) → passes a ≡ true → a ≡ ok tt
 passing (ok t) e = refl
 passing (refused n i at) e = absurd (true≢false (sym e))
-
--- what is left to do on an entry, where there is something: it conforms, and there is an instruction more
-pub inside : (enters : Bool) (n i : ℕ) → i < cond enters n 0 → (enters ≡ true) × (i < n)
-inside true n i h = (refl, h)
-inside false n i h = absurd (omega (arith, h))
 
 module _ (ks : List Key) (blocks : List ℕ) where
   abbrev byte_in : List ℕ → ℕ
@@ -34,16 +29,11 @@ module _ (ks : List Key) (blocks : List ℕ) where
   abbrev steps_in : List ℕ → ℕ
   steps_in e = steps_on (ran_on ks blocks e)
 
-  -- what is told of one entry
-  pub record TellsOf (entry : List ℕ) (byte steps : ℕ) : Type 0 where
-    pub byte_so : byte ≡ byte_in entry
-    pub steps_so : steps ≡ steps_in entry
-
   module _ (entry : List ℕ) where
     -- of one that conforms, what its run comes to
     pub tells_run : conforms ks entry ≡ ok tt → (left : Bool) (steps : ℕ)
         → let run = run_along ks (entry_in ks entry) (program blocks) in
-        left ≡ left_true run → steps ≡ steps_taken run → TellsOf entry (byte_of true left) steps
+        left ≡ left_true run → steps ≡ steps_taken run → TellsOf ks blocks entry (byte_of true left) steps
     unfolding ran_on
     tells_run e left steps left_so steps_so =
         let there = ap (λ (x : Answer Entry). x >>= λ m. ok (ran_to (run_along ks m (program blocks)))) (entered ks entry e) in
@@ -53,7 +43,7 @@ module _ (ks : List Key) (blocks : List ℕ) where
         }
 
     -- of one that does not, that it is refused, and no step
-    pub tells_none : (a : Answer (Unit {0})) → conforms ks entry ≡ a → passes a ≡ false → (left : Bool) → TellsOf entry (byte_of false left) 0
+    pub tells_none : (a : Answer (Unit {0})) → conforms ks entry ≡ a → passes a ≡ false → (left : Bool) → TellsOf ks blocks entry (byte_of false left) 0
     unfolding ran_on
     tells_none (ok t) e f left = absurd (true≢false f)
     tells_none (refused n i at) e f left =
@@ -65,12 +55,9 @@ module _ (ks : List Key) (blocks : List ℕ) where
     pub steps : total ≡ sum (map steps_in (laid_out size k entries)) % 2 ^ 64
 
   module _ (size : ℕ) (entries before : List ℕ) where
-    pub tabled_none : Tabled size entries before 0 before 0
-    tabled_none = record { bytes = refl; steps = refl }
-
     -- one entry more
     pub tabled_next : {k : ℕ} {answers : List ℕ} {total : ℕ} → Tabled size entries before k answers total → k < length before
-        → {entry : List ℕ} → entry ≡ take size (drop (k * size) entries) → {byte steps sum : ℕ} → TellsOf entry byte steps
+        → {entry : List ℕ} → entry ≡ take size (drop (k * size) entries) → {byte steps sum : ℕ} → TellsOf ks blocks entry byte steps
         → sum ≡ (total + steps) % 2 ^ 64 → Tabled size entries before (k + 1) (set answers k byte) sum
     tabled_next {k} {answers} {total} t more {entry} e {byte} {steps} {sum = total'} told added =
         let es = laid_out size k entries in

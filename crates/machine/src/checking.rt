@@ -35,15 +35,11 @@ fn misfit(blocks: &[u8], n: usize, upto: usize, marks: &[u32]) -> usize
     requires upto_le_n { (upto ≤ n) × (upto < length marks.now) }
     ensures { (ks : List Key) → Followed ks blocks.now n marks.now upto → Fitted ks blocks.now n marks.now result }
 {
-    let mut i = 0;
-    while i < upto {
+    for i in 0..upto {
         let landing = i + 1 + over_at(blocks, i);
-        if landing <= upto {
-            if marks[landing] != marks[i + 1] {
-                return i;
-            }
+        if landing <= upto && marks[landing] != marks[i + 1] {
+            return i;
         }
-        i += 1;
     }
     upto
 }

@@ -1,15 +1,13 @@
 // Instructions as they stand in blocks, 20 bytes each: operation, detail byte, two-byte operand, 16-byte constant.
 ghost use Rattle.std.specs.Prelude.{◌≡◌, ℕ, ◌+◌, ◌^◌, ◌<◌, ◌≤◌, length};
 ghost use Rattle.std.proofs.Math.Option.{some};
-ghost use Rattle.paper.specs.Types.{when};
 ghost use Rattle.paper.specs.Code as paper;
 ghost use Rattle.paper.specs.Code.{instruction_size, parts_at, decode};
 ghost use Rattle.paper.specs.Loading.{instruction_at};
-ghost use Rattle.number.specs.Values.{value};
 ghost use Rattle.machine.specs.Following.{over_in};
-ghost use Rattle.machine.specs.Decoded.{op_meant, parts_meant, instruction_meant};
+ghost use Rattle.machine.specs.Decoded.{parts_meant, instruction_meant, read_meant};
 
-use crate::instruction::{Instruction, Op};
+use crate::instruction::Instruction;
 use blocks::{Block, two_bytes};
 use keys::KeyRecord;
 use number::Magnitude;
@@ -31,70 +29,75 @@ struct Parts {
     constant: Magnitude,
 }
 
-fn parts_at(blocks: &[u8], at: usize) -> Parts
-    requires { at + instruction_size ≤ length blocks.now }
-    ensures { parts_meant result ≡ parts_at blocks.now at }
-{
-    let constant = Magnitude::from_bytes(blocks, at + 4);
-    Parts {
-        operation: blocks[at],
-        detail: blocks[at + 1],
-        operand: two_bytes(blocks, at + 2),
-        constant: constant,
-    }
-}
-
-// An operation, where the other parts are right.
-fn only(right: bool, op: Op) -> Op
-    ensures { (n : ℕ) (i : paper.Instruction) → op_meant op n ≡ some i → op_meant result n ≡ when right i }
-{
-    if right { op } else { Op::Wrong }
-}
-
-// What the parts spell, where so many instructions are left after it.
-fn op_of(p: Parts, left: usize) -> Op
-    ensures { op_meant result (value p.constant) ≡ decode left (parts_meant p) }
-{
-    let operation = p.operation;
-    let detail = p.detail;
-    let operand = p.operand;
-    let no_detail = detail == 0;
-    let no_operand = operand == 0;
-    let no_constant = p.constant.is_zero();
-    let bare = no_detail & no_operand & no_constant;
-    match operation {
-        operations::PUSH_BOOL => only(
-            no_detail & no_constant & (operand <= 1),
-            Op::PushBool(operand == 1),
-        ),
-        operations::PUSH_INT => only(no_detail & no_operand, Op::PushInt),
-        operations::PUSH_KEY => only(no_detail & no_constant, Op::PushKey(operand)),
-        operations::PUSH_FIELD => only(
-            no_constant & (detail <= fields::HIGH),
-            Op::PushField(detail, operand),
-        ),
-        operations::PUSH_PRIORITY => only(bare, Op::PushPriority),
-        operations::NOT => only(bare, Op::Not),
-        operations::NEGATE => only(bare, Op::Negate),
-        operations::CONVERT => only(
-            no_constant & (detail <= kinds::OPTIONAL) & (1 <= operand) & (operand <= MOST_WIDTH),
-            Op::Convert(detail, (operand % 256) as u8),
-        ),
-        operations::COMPARE => only(
-            no_operand & no_constant & (detail <= comparisons::AT_MOST),
-            Op::Compare(detail),
-        ),
-        operations::AND => only(bare, Op::Connect(connectives::BOTH)),
-        operations::OR => only(bare, Op::Connect(connectives::EITHER)),
-        operations::IMPLIES => only(bare, Op::Connect(connectives::IF_THEN)),
-        operations::SKIP => {
-            let to = p.constant.equal(FIRST_BYTE);
-            only(
-                (1 <= operand) & (operand <= left) & ((detail <= 1) & (to | no_constant)),
-                Op::Skip(detail == 1, to, operand),
-            )
+impl Parts {
+    // Those that stand at an offset.
+    fn at(blocks: &[u8], at: usize) -> Parts
+        requires { at + instruction_size ≤ length blocks.now }
+        ensures { parts_meant result ≡ parts_at blocks.now at }
+    {
+        Parts {
+            operation: blocks[at],
+            detail: blocks[at + 1],
+            operand: two_bytes(blocks, at + 2),
+            constant: Magnitude::from_bytes(blocks, at + 4),
         }
-        _ => Op::Wrong,
+    }
+
+    // What they spell, where so many instructions are left after it.
+    fn instruction(self, left: usize) -> Option<Instruction>
+        ensures { read_meant result ≡ decode left (parts_meant self) }
+    {
+        let Parts {
+            operation,
+            detail,
+            operand,
+            constant,
+        } = self;
+        let no_detail = detail == 0;
+        let no_operand = operand == 0;
+        let no_constant = constant.is_zero();
+        let bare = no_detail & no_operand & no_constant;
+        match operation {
+            operations::PUSH_BOOL => (no_detail & no_constant & (operand <= 1)).then_some(
+                Instruction::PushBool(operand == 1),
+            ),
+            operations::PUSH_INT => {
+                (no_detail & no_operand).then_some(Instruction::PushInt(constant))
+            }
+            operations::PUSH_KEY => {
+                (no_detail & no_constant).then_some(Instruction::PushKey(operand))
+            }
+            operations::PUSH_FIELD => (no_constant & (detail <= fields::HIGH)).then_some(
+                Instruction::PushField(detail, operand),
+            ),
+            operations::PUSH_PRIORITY => bare.then_some(Instruction::PushPriority),
+            operations::NOT => bare.then_some(Instruction::Not),
+            operations::NEGATE => bare.then_some(Instruction::Negate),
+            operations::CONVERT => (no_constant
+                & (detail <= kinds::OPTIONAL)
+                & (1 <= operand)
+                & (operand <= MOST_WIDTH)).then_some(Instruction::Convert(
+                detail,
+                (operand % 256) as u8,
+            )),
+            operations::COMPARE => (no_operand
+                & no_constant
+                & (detail <= comparisons::AT_MOST)).then_some(Instruction::Compare(detail)),
+            operations::AND => bare.then_some(Instruction::Connect(connectives::BOTH)),
+            operations::OR => bare.then_some(Instruction::Connect(connectives::EITHER)),
+            operations::IMPLIES => bare.then_some(Instruction::Connect(connectives::IF_THEN)),
+            operations::SKIP => {
+                let to = constant.equal(FIRST_BYTE);
+                ((1 <= operand)
+                    & (operand <= left)
+                    & ((detail <= 1) & (to | no_constant))).then_some(Instruction::Skip {
+                    on: detail == 1,
+                    to,
+                    over: operand,
+                })
+            }
+            _ => None,
+        }
     }
 }
 
@@ -121,58 +124,41 @@ pub(crate) fn over_at(blocks: &[u8], i: usize) -> usize
 }
 
 // The instruction number i of blocks, where so many are left after it.
-pub(crate) fn instruction_at(blocks: &[u8], i: usize, left: usize) -> Instruction
+pub(crate) fn instruction_at(blocks: &[u8], i: usize, left: usize) -> Option<Instruction>
     requires { instruction_at i + instruction_size ≤ length blocks.now }
-    ensures { instruction_meant result ≡ decode left (parts_at blocks.now (instruction_at i)) }
+    ensures { read_meant result ≡ decode left (parts_at blocks.now (instruction_at i)) }
 {
-    let parts = parts_at(blocks, place_of(i));
-    let constant = parts.constant;
-    Instruction {
-        op: op_of(parts, left),
-        constant: constant,
-    }
-}
-
-// An instruction that uses no constant.
-fn without_constant(op: Op) -> Instruction
-    ensures { instruction_meant result ≡ op_meant op 0 }
-{
-    Instruction {
-        op: op,
-        constant: Magnitude::zero(),
-    }
+    Parts::at(blocks, place_of(i)).instruction(left)
 }
 
 // The instruction number i of blocks that load. What stands there is an instruction, so no part is tested, and the constant is read only
 // where it is used.
 pub(crate) fn loaded_at(blocks: &[u8], i: usize) -> Instruction
     requires { instruction_at i + instruction_size ≤ length blocks.now }
-    ensures { (left : ℕ) (x : paper.Instruction) → decode left (parts_at blocks.now (instruction_at i)) ≡ some x → instruction_meant result ≡ some x }
+    ensures { (left : ℕ) (x : paper.Instruction) → decode left (parts_at blocks.now (instruction_at i)) ≡ some x → instruction_meant result ≡ x }
 {
     let at = place_of(i);
     let operation = blocks[at];
     let detail = blocks[at + 1];
     let operand = two_bytes(blocks, at + 2);
     match operation {
-        operations::PUSH_BOOL => without_constant(Op::PushBool(operand == 1)),
-        operations::PUSH_INT => Instruction {
-            op: Op::PushInt,
-            constant: Magnitude::from_bytes(blocks, at + 4),
+        operations::PUSH_BOOL => Instruction::PushBool(operand == 1),
+        operations::PUSH_INT => Instruction::PushInt(Magnitude::from_bytes(blocks, at + 4)),
+        operations::PUSH_KEY => Instruction::PushKey(operand),
+        operations::PUSH_FIELD => Instruction::PushField(detail, operand),
+        operations::PUSH_PRIORITY => Instruction::PushPriority,
+        operations::NOT => Instruction::Not,
+        operations::NEGATE => Instruction::Negate,
+        operations::CONVERT => Instruction::Convert(detail, (operand % 256) as u8),
+        operations::COMPARE => Instruction::Compare(detail),
+        operations::AND => Instruction::Connect(connectives::BOTH),
+        operations::OR => Instruction::Connect(connectives::EITHER),
+        operations::IMPLIES => Instruction::Connect(connectives::IF_THEN),
+        // The one operation that is left.
+        _ => Instruction::Skip {
+            on: detail == 1,
+            to: Magnitude::from_bytes(blocks, at + 4).equal(FIRST_BYTE),
+            over: operand,
         },
-        operations::PUSH_KEY => without_constant(Op::PushKey(operand)),
-        operations::PUSH_FIELD => without_constant(Op::PushField(detail, operand)),
-        operations::PUSH_PRIORITY => without_constant(Op::PushPriority),
-        operations::NOT => without_constant(Op::Not),
-        operations::NEGATE => without_constant(Op::Negate),
-        operations::CONVERT => without_constant(Op::Convert(detail, (operand % 256) as u8)),
-        operations::COMPARE => without_constant(Op::Compare(detail)),
-        operations::AND => without_constant(Op::Connect(connectives::BOTH)),
-        operations::OR => without_constant(Op::Connect(connectives::EITHER)),
-        operations::IMPLIES => without_constant(Op::Connect(connectives::IF_THEN)),
-        operations::SKIP => {
-            let to = Magnitude::from_bytes(blocks, at + 4).equal(FIRST_BYTE);
-            without_constant(Op::Skip(detail == 1, to, operand))
-        }
-        _ => without_constant(Op::Wrong),
     }
 }

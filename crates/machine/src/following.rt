@@ -2,6 +2,7 @@
 // and its floor (packing.rt). A skip leaves a bool on top, and no instruction makes anything else of a bool; so at a skip and at its
 // landing the same types are held where the marks are the same.
 ghost use Rattle.std.specs.Prelude.{◌≡◌, ◌+◌, ◌*◌, ◌<◌, ◌≤◌, length, if◌then◌else◌, nat_eq};
+ghost use Rattle.std.proofs.Math.Option.{some};
 ghost use Rattle.paper.specs.Code.{most_held, action_of, type_action};
 ghost use Rattle.paper.specs.Blocks.{in_block, blocks_in};
 ghost use Rattle.keys.specs.Says.{keys_in};
@@ -12,7 +13,7 @@ ghost use Rattle.machine.specs.Following.{floors, Followed};
 
 use crate::decoding::instruction_at;
 use crate::holding::{MOST_HELD, below};
-use crate::instruction::{Instruction, Op, narrow, takes};
+use crate::instruction::{Instruction, narrow};
 use crate::packing::{FLOORS, floor_in, packed, type_in};
 use operands::{bare_type, field_type_at};
 use values::operators;
@@ -23,22 +24,18 @@ pub const ONE_BOOL: u32 = FLOORS;
 
 // What an instruction leaves, of the types of its lowest operand and its uppermost.
 fn typed(list: &[u8], instruction: Instruction, low: Type, top: Type) -> Option<Type>
-    ensures { typing_meant result ≡ gives (action_of (type_action (keys_in list.now)) (instruction_meant instruction)) (ty_meant low) (ty_meant top) }
+    ensures { typing_meant result ≡ gives (action_of (type_action (keys_in list.now)) (some (instruction_meant instruction))) (ty_meant low) (ty_meant top) }
 {
-    let op = instruction.op;
-    match op {
-        Op::PushBool(_) => Some(Type::Bool),
-        Op::PushInt => Some(Type::Int),
-        Op::PushKey(k) => bare_type(list, k),
-        Op::PushField(field, k) => field_type_at(list, field, k),
-        Op::PushPriority => Some(Type::Int),
-        Op::Not => operators::not_type(low),
-        Op::Negate => operators::negate_type(low),
-        Op::Convert(kind, width) => operators::convert_type(kind, narrow(width), low),
-        Op::Compare(comparison) => operators::compare_type(comparison, low, top),
-        Op::Connect(_) => operators::join_type(low, top),
-        Op::Skip(_, _, _) => operators::not_type(low),
-        Op::Wrong => None,
+    match instruction {
+        Instruction::PushBool(_) => Some(Type::Bool),
+        Instruction::PushInt(_) | Instruction::PushPriority => Some(Type::Int),
+        Instruction::PushKey(k) => bare_type(list, k),
+        Instruction::PushField(field, k) => field_type_at(list, field, k),
+        Instruction::Not | Instruction::Skip { .. } => operators::not_type(low),
+        Instruction::Negate => operators::negate_type(low),
+        Instruction::Convert(kind, width) => operators::convert_type(kind, narrow(width), low),
+        Instruction::Compare(comparison) => operators::compare_type(comparison, low, top),
+        Instruction::Connect(_) => operators::join_type(low, top),
     }
 }
 
@@ -47,13 +44,13 @@ fn floor_on(truth: bool, base: usize, under: u32) -> u32
     requires { base < most_held }
     ensures { result ≡ (if truth then (if nat_eq base 0 then 0 else under) else base + 1) }
 {
-    if truth {
-        if base == 0 {
-            return 0;
-        }
-        return under;
+    if !truth {
+        base as u32 + 1
+    } else if base == 0 {
+        0
+    } else {
+        under
     }
-    base as u32 + 1
 }
 
 // The mark of a height and a floor.
@@ -71,11 +68,12 @@ pub(crate) fn follow(list: &[u8], blocks: &[u8], n: usize, marks: &mut [u32]) ->
 {
     let mut stack = [0u32; MOST_HELD];
     let mut height = 0;
-    let mut i = 0;
     marks[0] = 0;
-    while i < n {
-        let instruction = instruction_at(blocks, i, n - i - 1);
-        let need = takes(instruction);
+    for i in 0..n {
+        let Some(instruction) = instruction_at(blocks, i, n - i - 1) else {
+            return i;
+        };
+        let need = instruction.takes();
         if height < need {
             return i;
         }
@@ -91,8 +89,7 @@ pub(crate) fn follow(list: &[u8], blocks: &[u8], n: usize, marks: &mut [u32]) ->
         let floor = floor_on(is_bool(left), base, floor_in(stack[below(base)]));
         stack[base] = packed(left, floor);
         height = base + 1;
-        i += 1;
-        marks[i] = mark_of(height, floor);
+        marks[i + 1] = mark_of(height, floor);
     }
-    i
+    n
 }

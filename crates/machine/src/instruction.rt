@@ -1,5 +1,6 @@
 // Instructions, by value.
 ghost use Rattle.std.specs.Prelude.{◌≡◌, ◌≤◌, min, List};
+ghost use Rattle.std.proofs.Math.Option.{some};
 ghost use Rattle.paper.specs.Keys.{Key};
 ghost use Rattle.paper.specs.Code.{action_of, type_action};
 ghost use Rattle.machine.specs.Acting.{takes_of};
@@ -8,12 +9,11 @@ ghost use Rattle.machine.specs.Decoded.{instruction_meant};
 use keys::KeyRecord;
 use number::Magnitude;
 
-// What an instruction does. Kinds, fields, comparisons and connectives are held by their numbers in document 01.
+// Kinds, fields, comparisons and connectives are held by their numbers in document 01.
 #[derive(Clone, Copy)]
-pub enum Op {
+pub enum Instruction {
     PushBool(bool),
-    // Its number is the instruction's constant.
-    PushInt,
+    PushInt(Magnitude),
     PushKey(usize),
     PushField(u8, usize),
     PushPriority,
@@ -25,35 +25,26 @@ pub enum Op {
     // By its number in crate values.
     Connect(u8),
     // On which bool it is taken, which bool it then leaves, and how many instructions it passes over.
-    Skip(bool, bool, usize),
-    // Bytes that are no instruction.
-    Wrong,
+    Skip { on: bool, to: bool, over: usize },
 }
 
-#[derive(Clone, Copy)]
-pub struct Instruction {
-    pub op: Op,
-    pub constant: Magnitude,
-}
-
-// How many operands an instruction takes.
-pub(crate) fn takes(instruction: Instruction) -> usize
-    ensures { (ks : List Key) → result ≡ takes_of (action_of (type_action ks) (instruction_meant instruction)) }
-{
-    let op = instruction.op;
-    match op {
-        Op::PushBool(_) => 0,
-        Op::PushInt => 0,
-        Op::PushKey(_) => 0,
-        Op::PushField(_, _) => 0,
-        Op::PushPriority => 0,
-        Op::Not => 1,
-        Op::Negate => 1,
-        Op::Convert(_, _) => 1,
-        Op::Compare(_) => 2,
-        Op::Connect(_) => 2,
-        Op::Skip(_, _, _) => 1,
-        Op::Wrong => 0,
+impl Instruction {
+    // How many operands it takes.
+    pub(crate) fn takes(self) -> usize
+        ensures { (ks : List Key) → result ≡ takes_of (action_of (type_action ks) (some (instruction_meant self))) }
+    {
+        match self {
+            Instruction::PushBool(_)
+            | Instruction::PushInt(_)
+            | Instruction::PushKey(_)
+            | Instruction::PushField(_, _)
+            | Instruction::PushPriority => 0,
+            Instruction::Not
+            | Instruction::Negate
+            | Instruction::Convert(_, _)
+            | Instruction::Skip { .. } => 1,
+            Instruction::Compare(_) | Instruction::Connect(_) => 2,
+        }
     }
 }
 
@@ -61,9 +52,5 @@ pub(crate) fn takes(instruction: Instruction) -> usize
 pub(crate) fn narrow(width: u8) -> u8
     ensures { (result ≡ min width 128) × (result ≤ 128) }
 {
-    if width < KeyRecord::WIDEST {
-        width
-    } else {
-        KeyRecord::WIDEST
-    }
+    width.min(KeyRecord::WIDEST)
 }

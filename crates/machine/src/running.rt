@@ -1,20 +1,21 @@
 // The run of loaded blocks on entries, one after the other.
-ghost use Rattle.std.specs.Prelude.{◌≡◌, ◌≤◌, length, if◌then◌else◌};
+ghost use Rattle.std.specs.Prelude.{◌≡◌, ◌≤◌, length, true};
 ghost use Rattle.paper.specs.Answers.{ok};
 ghost use Rattle.paper.specs.Keys.{keys};
 ghost use Rattle.paper.specs.Meaning.{truth, compare_value};
 ghost use Rattle.paper.specs.Code.{comparison_of, most_held};
-ghost use Rattle.paper.specs.Loading.{loaded};
+ghost use Rattle.paper.specs.Loading.{loaded, program, run_along, left_true, steps_taken};
 ghost use Rattle.paper.specs.Calls.{over};
 ghost use Rattle.paper.specs.Counting.{whole_in};
 ghost use Rattle.paper.specs.RunAll.{verdicts_on};
 ghost use Rattle.keys.specs.Says.{keys_in, conforms};
+ghost use Rattle.operands.specs.Conforming.{entry_in};
 ghost use Rattle.values.specs.Held.{held, Is};
-ghost use Rattle.machine.specs.Running.{passes, byte_of};
+ghost use Rattle.machine.specs.Running.{passes, byte_of, TellsOf};
 
 use crate::decoding::loaded_at;
 use crate::holding::{MOST_HELD, below};
-use crate::instruction::{Op, narrow, takes};
+use crate::instruction::{Instruction, narrow};
 use operands::{bare_cell, field_cell, priority_cell};
 use values::Cell;
 
@@ -50,24 +51,99 @@ fn cleared() -> [Cell; MOST_HELD]
     [Cell::truth(false); MOST_HELD]
 }
 
-// How many instructions are to be carried out or passed over on an entry: none on one that does not conform.
-fn ahead(enters: bool, n: usize) -> usize
-    ensures { result ≡ (if enters then n else 0) }
+// The byte that tells of an entry that conforms, by what its run left.
+fn verdict(left: bool) -> u8
+    ensures { result ≡ byte_of true left }
 {
-    if enters { n } else { 0 }
+    if left { ACCEPTED } else { VIOLATED }
 }
 
-// The byte that tells of an entry: whether it conforms, and what its run left.
-fn verdict(enters: bool, left: bool) -> u8
-    ensures { result ≡ byte_of enters left }
+// What a run left, and its steps.
+#[derive(Clone, Copy)]
+struct Ran {
+    left: bool,
+    steps: u64,
+}
+
+// The run of n loaded instructions on an entry that conforms. It reads no place of the array that it did not store in.
+fn run(list: &[u8], blocks: &[u8], entry: &[u8], n: usize, stack: &mut [Cell; MOST_HELD]) -> Ran
+    requires list_value { keys list.now ≡ ok (keys_in list.now) }
+    requires blocks_value { loaded (keys_in list.now) blocks.now ≡ ok n }
+    requires entry_value { conforms (keys_in list.now) entry.now ≡ ok tt }
+    ensures left { result.left ≡ left_true (run_along (keys_in list.now) (entry_in list.now entry.now) (program blocks.now)) }
+    ensures steps { result.steps ≡ steps_taken (run_along (keys_in list.now) (entry_in list.now entry.now) (program blocks.now)) }
 {
-    if enters {
-        if left {
-            return ACCEPTED;
+    let mut height = 0;
+    let mut i = 0;
+    let mut steps = 0;
+    while i < n {
+        let instruction = loaded_at(blocks, i);
+        let base = height - instruction.takes();
+        let top = below(height);
+        let mut over = 0;
+        // Each arm stores what it leaves, in the place of its lowest operand. Where the arms hand one cell on to be stored, the compiled
+        // code copies it in between, and reads operands that are not used: a fifth of a run.
+        match instruction {
+            Instruction::PushBool(b) => stack[base] = Cell::truth(b),
+            Instruction::PushInt(number) => stack[base] = Cell::whole(number),
+            Instruction::PushKey(key) => stack[base] = bare_cell(list, entry, key),
+            Instruction::PushField(field, key) => stack[base] = field_cell(list, entry, field, key),
+            Instruction::PushPriority => stack[base] = priority_cell(entry),
+            Instruction::Not => stack[base] = stack[base].inverted(),
+            Instruction::Negate => stack[base] = stack[base].negated(),
+            Instruction::Convert(kind, width) => {
+                stack[base] = stack[base].converted(kind, narrow(width))
+            }
+            Instruction::Compare(comparison) => {
+                stack[base] = Cell::truth(holds(stack[base], comparison, stack[top]))
+            }
+            Instruction::Connect(connective) => {
+                stack[base] = stack[base].connected(connective, stack[top])
+            }
+            Instruction::Skip {
+                on,
+                to,
+                over: passed,
+            } => {
+                if stack[base].is_true() == on {
+                    stack[base] = Cell::truth(to);
+                    over = passed;
+                }
+            }
         }
-        return VIOLATED;
+        height = base + 1;
+        steps += 1;
+        i += 1 + over;
     }
-    REFUSED
+    Ran {
+        left: stack[0].is_true(),
+        steps,
+    }
+}
+
+// What is told of an entry: its byte, and the steps of its run.
+#[derive(Clone, Copy)]
+struct Told {
+    byte: u8,
+    steps: u64,
+}
+
+fn tell(list: &[u8], blocks: &[u8], entry: &[u8], n: usize, stack: &mut [Cell; MOST_HELD]) -> Told
+    requires list_value { keys list.now ≡ ok (keys_in list.now) }
+    requires blocks_value { loaded (keys_in list.now) blocks.now ≡ ok n }
+    ensures { TellsOf (keys_in list.now) blocks.now entry.now result.byte result.steps }
+{
+    if !enters(list, entry) {
+        return Told {
+            byte: REFUSED,
+            steps: 0,
+        };
+    }
+    let Ran { left, steps } = run(list, blocks, entry, n, stack);
+    Told {
+        byte: verdict(left),
+        steps,
+    }
 }
 
 // The runs of n loaded instructions on entries that lie end to end: a byte for each of them in `answers`, and the steps of all.
@@ -79,58 +155,19 @@ pub fn run_each(list: &[u8], blocks: &[u8], entries: &[u8], n: usize, answers: &
     ensures answers_after { answers.new ≡ over (verdicts_on (keys_in list.now) blocks.now entries.now).bytes answers.old }
 {
     let size = keys::entry_size(list);
-    let whole = entries.len() / size;
-    // Cleared once for all entries: no run reads what it did not store.
+    // Cleared once for all entries.
     let mut stack = cleared();
-    let mut total = 0;
-    let mut k = 0;
-    while k < whole {
-        let entry = keys::entry_at(entries, k, size);
-        let conforms = enters(list, entry);
-        let end = ahead(conforms, n);
-        let mut height = 0;
-        let mut i = 0;
-        let mut steps = 0;
-        while i < end {
-            let instruction = loaded_at(blocks, i);
-            let base = height - takes(instruction);
-            let top = below(height);
-            let mut over = 0;
-            // Each arm stores what it leaves, in the place of its lowest operand. Where the arms hand one cell on to be stored, the compiled
-            // code copies it in between, and reads operands that are not used: a fifth of a run.
-            let op = instruction.op;
-            match op {
-                Op::PushBool(b) => stack[base] = Cell::truth(b),
-                Op::PushInt => stack[base] = Cell::whole(instruction.constant),
-                Op::PushKey(key) => stack[base] = bare_cell(list, entry, key),
-                Op::PushField(field, key) => stack[base] = field_cell(list, entry, field, key),
-                Op::PushPriority => stack[base] = priority_cell(entry),
-                Op::Not => stack[base] = stack[base].inverted(),
-                Op::Negate => stack[base] = stack[base].negated(),
-                Op::Convert(kind, width) => {
-                    stack[base] = stack[base].converted(kind, narrow(width))
-                }
-                Op::Compare(comparison) => {
-                    stack[base] = Cell::truth(holds(stack[base], comparison, stack[top]))
-                }
-                Op::Connect(connective) => {
-                    stack[base] = stack[base].connected(connective, stack[top])
-                }
-                Op::Skip(on, to, passed) => {
-                    if stack[base].is_true() == on {
-                        stack[base] = Cell::truth(to);
-                        over = passed;
-                    }
-                }
-                Op::Wrong => {}
-            }
-            height = base + 1;
-            steps += 1;
-            i += 1 + over;
-        }
-        answers[k] = verdict(conforms, stack[0].is_true());
-        total = std::num::wrapping_add_u64(total, steps);
-        k += 1;
+    let mut total: u64 = 0;
+    for k in 0..entries.len() / size {
+        let told = tell(
+            list,
+            blocks,
+            keys::entry_at(entries, k, size),
+            n,
+            &mut stack,
+        );
+        answers[k] = told.byte;
+        total = total.wrapping_add(told.steps);
     }
     total
 }

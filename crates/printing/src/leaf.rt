@@ -65,9 +65,10 @@ fn write_truth(truth: bool, from: usize, out: &mut [u8]) -> usize
     ensures { Wrote out.old from (truth_bytes truth) out.new result }
 {
     if truth {
-        return put::write(b"true", from, out);
+        put::write(b"true", from, out)
+    } else {
+        put::write(b"false", from, out)
     }
-    put::write(b"false", from, out)
 }
 
 fn write_word(text: &[u8], word: Span, from: usize, out: &mut [u8]) -> usize
@@ -101,12 +102,11 @@ pub(crate) fn write_leaf(
     requires { node * 8 + 8 ≤ length nodes.now }
     ensures { Wrote out.old from (print (leaf_on text.now (place_at nodes.now node) (leaf_at nodes.now node))) out.new result }
 {
-    let leaf = Leaf::read(nodes, node);
-    match leaf {
+    match Leaf::read(nodes, node) {
         Leaf::Truth(truth) => write_truth(truth, from, out),
         Leaf::Number(base, a, b, c, d) => write_number(
             Literal {
-                base: base,
+                base,
                 number: Magnitude {
                     limbs: [a, b, c, d],
                 },

@@ -1,8 +1,8 @@
 // Operators: their signs, and the rungs of the ladder that decide on parentheses.
-ghost use Rattle.std.specs.Prelude.{◌≡◌, ltb};
-ghost use Rattle.paper.specs.Print.{prefix_bytes, join_bytes, comparison_bytes, rung_of, left_of, right_of, spaced};
-ghost use Rattle.trees.specs.Standing.{prefix_meant, join_meant, comparison_meant};
-ghost use Rattle.printing.specs.Writing.{Wrote, rung_meant, operator_bytes, rung_between, left_between, right_between, open_bytes, close_bytes};
+ghost use Rattle.std.specs.Prelude.{◌≡◌, ltb, [], if◌then◌else◌};
+ghost use Rattle.paper.specs.Print.{prefix_bytes};
+ghost use Rattle.trees.specs.Standing.{prefix_meant};
+ghost use Rattle.printing.specs.Writing.{Wrote, rung_meant, operator_bytes, rung_between, left_between, right_between};
 
 use crate::put;
 use trees::{Comparison, Join, Operator, Prefix};
@@ -34,23 +34,15 @@ impl Rung {
     }
 }
 
-fn join_rung(o: Join) -> Rung
-    ensures { rung_meant result ≡ rung_of (join_meant o) }
-{
-    match o {
-        Join::Sequel => Rung::Sequel,
-        Join::Implies => Rung::Implies,
-        Join::Or => Rung::Or,
-        Join::And => Rung::And,
-    }
-}
-
 // The rung of what an operator makes.
 pub fn rung_of(o: Operator) -> Rung
     ensures { rung_meant result ≡ rung_between o }
 {
     match o {
-        Operator::Joins(j) => join_rung(j),
+        Operator::Joins(Join::Sequel) => Rung::Sequel,
+        Operator::Joins(Join::Implies) => Rung::Implies,
+        Operator::Joins(Join::Or) => Rung::Or,
+        Operator::Joins(Join::And) => Rung::And,
         Operator::Compares(_) => Rung::Comparison,
     }
 }
@@ -62,35 +54,15 @@ pub(crate) fn is_looser(o: Operator, rung: Rung) -> bool
     rung_of(o).number() < rung.number()
 }
 
-fn join_left(o: Join) -> Rung
-    ensures { rung_meant result ≡ left_of (join_meant o) }
-{
-    match o {
-        Join::Sequel => Rung::Sequel,
-        Join::Implies => Rung::Or,
-        Join::Or => Rung::Or,
-        Join::And => Rung::And,
-    }
-}
-
 // The rung that is asked for before an operator.
 pub fn left_rung(o: Operator) -> Rung
     ensures { rung_meant result ≡ left_between o }
 {
     match o {
-        Operator::Joins(j) => join_left(j),
+        Operator::Joins(Join::Sequel) => Rung::Sequel,
+        Operator::Joins(Join::Implies | Join::Or) => Rung::Or,
+        Operator::Joins(Join::And) => Rung::And,
         Operator::Compares(_) => Rung::Tightest,
-    }
-}
-
-fn join_right(o: Join) -> Rung
-    ensures { rung_meant result ≡ right_of (join_meant o) }
-{
-    match o {
-        Join::Sequel => Rung::Implies,
-        Join::Implies => Rung::Or,
-        Join::Or => Rung::And,
-        Join::And => Rung::Comparison,
     }
 }
 
@@ -99,7 +71,10 @@ pub fn right_rung(o: Operator) -> Rung
     ensures { rung_meant result ≡ right_between o }
 {
     match o {
-        Operator::Joins(j) => join_right(j),
+        Operator::Joins(Join::Sequel) => Rung::Implies,
+        Operator::Joins(Join::Implies) => Rung::Or,
+        Operator::Joins(Join::Or) => Rung::And,
+        Operator::Joins(Join::And) => Rung::Comparison,
         Operator::Compares(_) => Rung::Tightest,
     }
 }
@@ -113,56 +88,31 @@ pub(crate) fn write_prefix(o: Prefix, from: usize, out: &mut [u8]) -> usize
     }
 }
 
-fn write_join(o: Join, from: usize, out: &mut [u8]) -> usize
-    ensures { Wrote out.old from (spaced (join_bytes (join_meant o))) out.new result }
-{
-    match o {
-        Join::Sequel => put::write(b" ; ", from, out),
-        Join::Implies => put::write(b" -> ", from, out),
-        Join::Or => put::write(b" || ", from, out),
-        Join::And => put::write(b" && ", from, out),
-    }
-}
-
-fn write_comparison(c: Comparison, from: usize, out: &mut [u8]) -> usize
-    ensures { Wrote out.old from (spaced (comparison_bytes (comparison_meant c))) out.new result }
-{
-    match c {
-        Comparison::Equal => put::write(b" == ", from, out),
-        Comparison::Unequal => put::write(b" != ", from, out),
-        Comparison::Greater => put::write(b" > ", from, out),
-        Comparison::AtLeast => put::write(b" >= ", from, out),
-        Comparison::Less => put::write(b" < ", from, out),
-        Comparison::AtMost => put::write(b" <= ", from, out),
-    }
-}
-
 // An operator between its blanks.
 pub(crate) fn write_operator(o: Operator, from: usize, out: &mut [u8]) -> usize
     ensures { Wrote out.old from (operator_bytes o) out.new result }
 {
     match o {
-        Operator::Joins(j) => write_join(j, from, out),
-        Operator::Compares(c) => write_comparison(c, from, out),
+        Operator::Joins(Join::Sequel) => put::write(b" ; ", from, out),
+        Operator::Joins(Join::Implies) => put::write(b" -> ", from, out),
+        Operator::Joins(Join::Or) => put::write(b" || ", from, out),
+        Operator::Joins(Join::And) => put::write(b" && ", from, out),
+        Operator::Compares(Comparison::Equal) => put::write(b" == ", from, out),
+        Operator::Compares(Comparison::Unequal) => put::write(b" != ", from, out),
+        Operator::Compares(Comparison::Greater) => put::write(b" > ", from, out),
+        Operator::Compares(Comparison::AtLeast) => put::write(b" >= ", from, out),
+        Operator::Compares(Comparison::Less) => put::write(b" < ", from, out),
+        Operator::Compares(Comparison::AtMost) => put::write(b" <= ", from, out),
     }
 }
 
-// Parentheses where they are needed, else nothing.
-
-pub(crate) fn write_open(needed: bool, from: usize, out: &mut [u8]) -> usize
-    ensures { Wrote out.old from (open_bytes needed) out.new result }
+// A parenthesis where it is needed, else nothing.
+pub(crate) fn write_needed(needed: bool, sign: &[u8], from: usize, out: &mut [u8]) -> usize
+    ensures { Wrote out.old from (if needed then sign.now else []) out.new result }
 {
     if needed {
-        return put::write(b"(", from, out);
+        put::write(sign, from, out)
+    } else {
+        from
     }
-    from
-}
-
-pub(crate) fn write_close(needed: bool, from: usize, out: &mut [u8]) -> usize
-    ensures { Wrote out.old from (close_bytes needed) out.new result }
-{
-    if needed {
-        return put::write(b")", from, out);
-    }
-    from
 }

@@ -23,8 +23,7 @@ fn write_operand(
         (enclosed (looser (rung_meant rung) (tree_at text.now nodes.now node)) (print (tree_at text.now nodes.now node)))
         out.new result }
 {
-    let n = Node::read(nodes, node);
-    let Node::Without = n else {
+    let Node::Without = Node::read(nodes, node) else {
         return write_tree(text, nodes, node, rung, from, out);
     };
     leaf::write_leaf(text, nodes, node, from, out)
@@ -45,8 +44,7 @@ pub fn write_tree(
         (enclosed (looser (rung_meant rung) (tree_at text.now nodes.now node)) (print (tree_at text.now nodes.now node)))
         out.new result }
 {
-    let n = Node::read(nodes, node);
-    match n {
+    match Node::read(nodes, node) {
         Node::Without => leaf::write_leaf(text, nodes, node, from, out),
         Node::Before(o) => {
             let inside = signs::write_prefix(o, from, out);
@@ -54,12 +52,12 @@ pub fn write_tree(
         }
         Node::Between(o, left) => {
             let needed = signs::is_looser(o, rung);
-            let opened = signs::write_open(needed, from, out);
+            let opened = signs::write_needed(needed, b"(", from, out);
             let after_left = write_operand(text, nodes, left, signs::left_rung(o), opened, out);
             let before_right = signs::write_operator(o, after_left, out);
             let rung_right = signs::right_rung(o);
             let after_right = write_operand(text, nodes, node - 1, rung_right, before_right, out);
-            signs::write_close(needed, after_right, out)
+            signs::write_needed(needed, b")", after_right, out)
         }
     }
 }

@@ -14,22 +14,14 @@ fn is_leaf(nodes: &[u32], at: usize) -> bool
     requires { at * 8 + 8 ≤ length nodes.now }
     ensures { result ≡ is_leaf (node_at nodes.now at) }
 {
-    let n = Node::read(nodes, at);
-    match n {
-        Node::Without => true,
-        Node::Before(_) => false,
-        Node::Between(_, _) => false,
-    }
+    matches!(Node::read(nodes, at), Node::Without)
 }
 
 pub(crate) fn both_leaves(nodes: &[u32], left: usize, right: usize) -> bool
     requires { (left * 8 + 8 ≤ length nodes.now) × (right * 8 + 8 ≤ length nodes.now) }
     ensures { result ≡ (is_leaf (node_at nodes.now left) && is_leaf (node_at nodes.now right)) }
 {
-    if is_leaf(nodes, left) {
-        return is_leaf(nodes, right);
-    }
-    false
+    is_leaf(nodes, left) && is_leaf(nodes, right)
 }
 
 // Writes the comparison at node `at` from instruction number `i` on, and gives the number after it. What the leaves change to is asked for once.
@@ -48,11 +40,9 @@ pub(crate) fn write_compared(
         → Wrote code.old i (code_of (keys_in list.now) (tree_at text nodes.now at)) code.new result }
 {
     let changes = change::changes_at(list, nodes, left, at - 1);
-    let change_left = changes.left;
-    let change_right = changes.right;
     let after_left = own::write_own(nodes, left, i, code);
-    let before_right = change::write_change(change_left, after_left, code);
+    let before_right = change::write_change(changes.left, after_left, code);
     let after_right = own::write_own(nodes, at - 1, before_right, code);
-    let before_own = change::write_change(change_right, after_right, code);
+    let before_own = change::write_change(changes.right, after_right, code);
     own::write_own(nodes, at, before_own, code)
 }

@@ -14,8 +14,7 @@ pub(crate) fn write_leaf(nodes: &[u32], at: usize, i: usize, code: &mut [u8]) ->
     requires { (at * 8 + 8 ≤ length nodes.now) × Room code.old i (operand_code (operand_at nodes.now at)) }
     ensures { Wrote code.old i (operand_code (operand_at nodes.now at)) code.new result }
 {
-    let operand = Operand::read(nodes, at);
-    match operand {
+    match Operand::read(nodes, at) {
         Operand::Truth(b) => put::write(put::push_bool(b), i, code),
         Operand::Number(a, b, c, d) => put::write(
             put::push_int(Magnitude {
@@ -27,7 +26,6 @@ pub(crate) fn write_leaf(nodes: &[u32], at: usize, i: usize, code: &mut [u8]) ->
         Operand::Key(k) => put::write(put::plain(operations::PUSH_KEY, 0, k), i, code),
         Operand::Field(k, f) => put::write(put::plain(operations::PUSH_FIELD, f, k), i, code),
         Operand::Attribute(_) => put::write(put::plain(operations::PUSH_PRIORITY, 0, 0), i, code),
-        Operand::UnknownKey => i,
-        Operand::UnknownField => i,
+        Operand::UnknownKey | Operand::UnknownField => i,
     }
 }

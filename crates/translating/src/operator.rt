@@ -26,8 +26,7 @@ fn join_parts(o: Join) -> Parts
     ensures { parts_meant result ≡ parts_of (connects (connective (join_meant o))) }
 {
     match o {
-        Join::Sequel => put::plain(operations::AND, 0, 0),
-        Join::And => put::plain(operations::AND, 0, 0),
+        Join::Sequel | Join::And => put::plain(operations::AND, 0, 0),
         Join::Or => put::plain(operations::OR, 0, 0),
         Join::Implies => put::plain(operations::IMPLIES, 0, 0),
     }
@@ -38,8 +37,7 @@ pub(crate) fn skip_parts(o: Join, over: usize) -> Parts
     ensures { parts_meant result ≡ parts_of (skip (spec.settled (connective (join_meant o)) over)) }
 {
     match o {
-        Join::Sequel => put::skip(false, false, over),
-        Join::And => put::skip(false, false, over),
+        Join::Sequel | Join::And => put::skip(false, false, over),
         Join::Or => put::skip(true, true, over),
         Join::Implies => put::skip(false, true, over),
     }

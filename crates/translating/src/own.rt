@@ -11,8 +11,7 @@ pub(crate) fn write_own(nodes: &[u32], at: usize, i: usize, code: &mut [u8]) -> 
     requires { (at * 8 + 8 ≤ length nodes.now) × Room code.old i (own_at nodes.now at) }
     ensures { Wrote code.old i (own_at nodes.now at) code.new result }
 {
-    let n = Node::read(nodes, at);
-    match n {
+    match Node::read(nodes, at) {
         Node::Without => leaf::write_leaf(nodes, at, i, code),
         Node::Before(o) => put::write(operator::prefix_parts(o), i, code),
         Node::Between(o, _) => put::write(operator::operator_parts(o), i, code),

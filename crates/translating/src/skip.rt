@@ -21,10 +21,8 @@ pub(crate) fn write_skip(nodes: &[u32], at: usize, over: usize, i: usize, code: 
     requires { (at * 8 + 8 ≤ length nodes.now) × Room code.old i (skips_at nodes.now at over) }
     ensures { Wrote code.old i (skips_at nodes.now at over) code.new result }
 {
-    let n = Node::read(nodes, at);
-    match n {
-        Node::Without => i,
-        Node::Before(_) => i,
+    match Node::read(nodes, at) {
+        Node::Without | Node::Before(_) => i,
         Node::Between(o, _) => write_operator_skip(o, over, i, code),
     }
 }

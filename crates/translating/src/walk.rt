@@ -18,11 +18,7 @@ pub fn write_code(list: &[u8], nodes: &[u32], at: usize, i: usize, code: &mut [u
     ensures { (text : List ℕ) → Writes list.now nodes.now code.old at i text
         → Wrote code.old i (code_of (keys_in list.now) (tree_at text nodes.now at)) code.new result }
 {
-    let n = Node::read(nodes, at);
-    let Node::Between(o, left) = n else {
-        return write_tree(list, nodes, at, i, code);
-    };
-    let Operator::Compares(_) = o else {
+    let Node::Between(Operator::Compares(_), left) = Node::read(nodes, at) else {
         return write_tree(list, nodes, at, i, code);
     };
     write_comparison(list, nodes, at, left, i, code)
@@ -35,23 +31,22 @@ fn write_tree(list: &[u8], nodes: &[u32], at: usize, i: usize, code: &mut [u8]) 
     ensures { (text : List ℕ) → Writes list.now nodes.now code.old at i text
         → Wrote code.old i (code_of (keys_in list.now) (tree_at text nodes.now at)) code.new result }
 {
-    let n = Node::read(nodes, at);
-    match n {
+    match Node::read(nodes, at) {
         Node::Without => own::write_own(nodes, at, i, code),
         Node::Before(_) => {
             let after = write_tree(list, nodes, at - 1, i, code);
             own::write_own(nodes, at, after, code)
         }
-        Node::Between(o, left) => match o {
-            Operator::Joins(_) => {
-                let after_left = write_tree(list, nodes, left, i, code);
-                let before_own = write_tree(list, nodes, at - 1, after_left + 1, code);
-                let end = own::write_own(nodes, at, before_own, code);
-                skip::write_skip(nodes, at, before_own - after_left, after_left, code);
-                end
-            }
-            Operator::Compares(_) => write_comparison(list, nodes, at, left, i, code),
-        },
+        Node::Between(Operator::Joins(_), left) => {
+            let after_left = write_tree(list, nodes, left, i, code);
+            let before_own = write_tree(list, nodes, at - 1, after_left + 1, code);
+            let end = own::write_own(nodes, at, before_own, code);
+            skip::write_skip(nodes, at, before_own - after_left, after_left, code);
+            end
+        }
+        Node::Between(Operator::Compares(_), left) => {
+            write_comparison(list, nodes, at, left, i, code)
+        }
     }
 }
 
@@ -76,11 +71,9 @@ fn write_comparison(
     }
     let after_left = write_tree(list, nodes, left, i, code);
     let changes = change::changes_at(list, nodes, left, at - 1);
-    let change_left = changes.left;
-    let before_right = change::write_change(change_left, after_left, code);
+    let before_right = change::write_change(changes.left, after_left, code);
     let after_right = write_tree(list, nodes, at - 1, before_right, code);
     let again = change::changes_at(list, nodes, left, at - 1);
-    let change_right = again.right;
-    let before_own = change::write_change(change_right, after_right, code);
+    let before_own = change::write_change(again.right, after_right, code);
     own::write_own(nodes, at, before_own, code)
 }

@@ -9,4 +9,4 @@ loop-k-preserved c =
     let l = c.loop-k in
     let a = c.args in
     let e = counts_on a.blocks.now l.k a.n (search rules) in
-    (omega arith, omega (arith, c.two_bytes-sum.ensures.1), omega (arith, e, l.invariant.2, c.two_bytes-sum.ensures.0))
+    (omega (arith, c.two_bytes-sum.ensures.1), omega (arith, e, l.invariant.1, c.two_bytes-sum.ensures.0))

@@ -6,7 +6,4 @@ use Rattle.blocks.proofs.laying.total_of.Given as goal
 
 abbrev pub invariant-loop-k : goal.invariant-loop-k
 invariant-loop-k l =
-    (l.k ≤ l.n) × (l.sum ≤ 65535 * l.k) × (l.sum + counts_from l.blocks l.k (l.n - l.k) ≡ counts_from l.blocks 0 l.n)
-
-abbrev pub decreases-loop-k : goal.decreases-loop-k
-decreases-loop-k l = l.n - l.k
+    (l.sum ≤ 65535 * l.k) × (l.sum + counts_from l.blocks l.k (l.n - l.k) ≡ counts_from l.blocks 0 l.n)

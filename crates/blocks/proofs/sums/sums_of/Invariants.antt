@@ -1,12 +1,13 @@
--- `blocks::sums::sums_of` meets its contract. The invariant of its loop: the words before byte i are added (`Added`), at first those of
--- whole fours. A turn adds the next one (`added_on`). The measure is how many bytes are left.
+-- The words before a byte are added (`Added`), at first those of whole fours, and those after it are still to come.
 use Prim.Native.Nat.{◌-◌}
-use lib.ListN.{length}
+use mathlib.Core.Path.{◌≡◌}
+use lib.ListN.{length, drop}
+use Rattle.std.specs.Slice.Iter.{chunks_exact_rest, chunks_exact_size}
 use Rattle.blocks.specs.Sealed.{Added}
 use Rattle.blocks.proofs.sums.sums_of.Given as goal
 
-abbrev pub invariant-loop-i : goal.invariant-loop-i
-invariant-loop-i l = Added l.s l.i l.first l.second
-
-abbrev pub decreases-loop-i : goal.decreases-loop-i
-decreases-loop-i l = length l.s - l.i
+abbrev pub invariant-loop-pair : goal.invariant-loop-pair
+invariant-loop-pair l =
+    let rest = chunks_exact_rest l.pair-iterator in
+    let i = length l.s - length rest in
+    (chunks_exact_size l.pair-iterator ≡ 2) × (rest ≡ drop i l.s) × Added l.s i l.sums.first l.sums.second

@@ -1,14 +1,15 @@
--- `blocks::sums::sums_of_fours` meets its contract. The invariant of its loop: the fours before byte i are added (`Fours`). A turn adds the
--- next one (`fours_on`). The measure is how many bytes are left.
+-- The fours before a byte are added (`Fours`), and the words after it are still to come.
 use Prim.Native.Nat.{◌-◌}
-use lib.ListN.{length}
+use mathlib.Core.Path.{◌≡◌}
+use lib.ListN.{length, drop}
+use Rattle.std.specs.Slice.Iter.{chunks_exact_rest, chunks_exact_size}
 use Rattle.blocks.proofs.Fours.{Fours}
 use Rattle.blocks.proofs.sums.sums_of_fours.Given as goal
 
-abbrev pub invariant-loop-i : goal.invariant-loop-i
-invariant-loop-i l =
-    Fours l.s l.i l.first0 l.first1 l.first2 l.first3 l.second0 l.second1 l.second2 l.second3
-
-abbrev pub decreases-loop-i : goal.decreases-loop-i
-decreases-loop-i l =
-    length l.s - l.i
+abbrev pub invariant-loop-four : goal.invariant-loop-four
+invariant-loop-four l =
+    let rest = chunks_exact_rest l.four-iterator in
+    let i = length l.s - length rest in
+    (chunks_exact_size l.four-iterator ≡ 8)
+    × (rest ≡ drop i l.s)
+    × Fours l.s i l.a.first l.b.first l.c.first l.d.first l.a.second l.b.second l.c.second l.d.second

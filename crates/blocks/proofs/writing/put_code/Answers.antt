@@ -1,34 +1,24 @@
--- `blocks::writing::put_code` meets its contract. The invariant of its loop: over whatever block the code was copied, it holds the code with
--- zeros after it up to index i (`put_to`). Each turn adds a zero (`put_zero`). The measure is how many are left.
-use Prim.Native.Nat.{ℕ, ◌+◌}
-use native.Mathlib.Omega.{arith}
-use mathlib.Core.Path.{◌≡◌, refl, ◌∙◌, ap}
+-- The code is copied, and zeros are stored from its end to the tail (`code_then_zeros`).
+use mathlib.Core.Path.{◌∙◌, ap}
 use mathlib.Core.List.{List}
-use lib.ListN.{set, length-set}
-use borrow.Author.Rules.{rules}
-use Rattle.blocks.proofs.Stores.{put_to, put_copied, put_zero, put_all}
+use Prim.Native.Nat.{ℕ, ◌+◌, ◌-◌}
+use lib.ListN.{length, take, drop, length-take, length-drop, replicate}
+use native.Mathlib.Omega.{arith}
+use mathlib.Core.Path.{◌≡◌}
+use lib.Seq.{length-sets}
+use borrow.Rule.Slice.PartMut.{put_mid}
+use Rattle.blocks.proofs.Stores.{code_then_zeros}
 use Rattle.blocks.proofs.writing.put_code.Goals as goal
-
-pub loop-i-init : goal.loop-i-init
-loop-i-init c =
-    let few = c.requires.1 in
-    (search rules, few, refl, λ b size e. e ∙ put_copied c.args.code.now few b size)
-
-pub loop-i-preserved : goal.loop-i-preserved
-loop-i-preserved c =
-    let l = c.loop-i in (
-      omega arith,
-      omega arith,
-      length-set l.block (4 + l.i) 0 ∙ l.invariant.2,
-      λ b size e.
-          ap (λ (s : List ℕ). set s (4 + l.i) 0) (l.invariant.3 b size e)
-          ∙ put_zero c.args.code.now c.requires.1 b size l.i l.invariant.0 c.loop-i-test.true,
-    )
 
 pub returns : goal.returns
 returns c =
-    let code = c.args.code.now in
-    let (size, few) = c.requires in
     let b = c.args.block.now in
-    let all : c.loop-i.i ≡ 500 = omega arith in
-    c.loop-i.invariant.3 b size c.copy.ensures ∙ ap (put_to code b) all ∙ put_all code few b size
+    let code = c.args.code.now in
+    let n = length code in
+    let size : length c.copy.new.out ≡ 512 = ap length c.copy.ensures ∙ length-sets b 4 code ∙ c.requires.0 in
+    let zeros : length (take (504 - (4 + n)) (drop (4 + n) c.copy.new.out)) ≡ 500 - n =
+    omega (arith, length-take (504 - (4 + n)) (drop (4 + n) c.copy.new.out), length-drop (4 + n) c.copy.new.out)
+    in
+    ap (λ (s : List ℕ). put_mid (4 + n) (504 - (4 + n)) s c.fill.new.self) c.copy.ensures
+    ∙ code_then_zeros code c.requires.1 b c.fill.new.self c.requires.0
+    (c.fill.ensures.after (λ y e. e) ∙ ap (λ (m : ℕ). replicate m 0) zeros)

@@ -1,6 +1,6 @@
 -- `blocks::writing::write_blocks` meets its contract. The invariant of its loop: the first k blocks stand over what was lent, and every later
--- byte is as it was. A turn puts block k after them (`row_on`). The measure is how many blocks are left.
-use Prim.Native.Nat.{ℕ, ◌*◌, ◌-◌, ◌/◌, ◌≤◌}
+-- byte is as it was. A turn puts block k after them (`row_on`).
+use Prim.Native.Nat.{ℕ, ◌*◌, ◌/◌}
 use mathlib.Core.Path.{◌≡◌}
 use mathlib.Core.List.{List, ◌++◌}
 use lib.ListN.{length, drop}
@@ -13,7 +13,4 @@ block code keys = block_at (length code / 20) keys code
 
 abbrev pub invariant-loop-k : goal.invariant-loop-k
 invariant-loop-k l =
-    (l.k ≤ l.n) × (length l.buffer ≡ length l.initial.buffer) × (l.buffer ≡ in_row (block l.code l.keys) 0 l.k ++ drop (l.k * 512) l.initial.buffer)
-
-abbrev pub decreases-loop-k : goal.decreases-loop-k
-decreases-loop-k l = l.n - l.k
+    (l.buffer ≡ in_row (block l.code l.keys) 0 l.k ++ drop (l.k * 512) l.initial.buffer)

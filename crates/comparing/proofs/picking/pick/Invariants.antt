@@ -1,6 +1,5 @@
--- `comparing::pick` meets its contract. The invariant of its loop: the first part from k on that comes last is the first of all. The measure is the
--- number of parts that are left.
-use Prim.Native.Nat.{ℕ, ◌-◌, ◌≤◌}
+-- `comparing::pick` meets its contract. The invariant of its loop: the first part from k on that comes last is the first of all.
+use Prim.Native.Nat.{ℕ}
 use mathlib.Core.Path.{◌≡◌}
 use mathlib.Core.List.{List}
 use Rattle.paper.specs.Code.{Instruction}
@@ -12,9 +11,5 @@ use Rattle.comparing.proofs.picking.pick.Given as goal
 
 abbrev pub invariant-loop-k : goal.invariant-loop-k
 invariant-loop-k l =
-    (l.k ≤ l.n)
-    × ((cs : ℕ → List Instruction) → Stand l.code l.starts l.n cs
+    ((cs : ℕ → List Instruction) → Stand l.code l.starts l.n cs
     → first_of (comes_last l.used cs (records_from l.blocks 0 l.left)) l.n l.k ≡ first_from (comes_last l.used cs (records_from l.blocks 0 l.left)) 0 l.n)
-
-abbrev pub decreases-loop-k : goal.decreases-loop-k
-decreases-loop-k l = l.n - l.k

@@ -1,7 +1,5 @@
 -- `comparing::same_records` meets its contract. The invariant of its loop: the records from number k on are the same exactly where all are. Where two
--- differ, so do all (`differs_here`); where they do not, the rest decides (`same_here`), and after the last there is none (`all_compared`). The
--- measure is the number of records that are left.
-use native.Mathlib.Omega.{arith}
+-- differ, so do all (`differs_here`); where they do not, the rest decides (`same_here`), and after the last there is none (`all_compared`).
 use mathlib.Core.Path.{sym, ◌∙◌}
 use Rattle.comparing.proofs.Matched.{same_here}
 use Rattle.comparing.proofs.records.same_records.Goals as goal
@@ -12,4 +10,4 @@ loop-k-preserved c =
     let a = c.args in
     let more = c.loop-k-test.true in
     let same = sym c.same_record.ensures ∙ c.if-not-same_record.false in
-    (omega (arith, more), sym (same_here a.blocks.now a.i a.code.now a.j a.n l.k more same) ∙ l.invariant.1)
+    sym (same_here a.blocks.now a.i a.code.now a.j a.n l.k more same) ∙ l.invariant

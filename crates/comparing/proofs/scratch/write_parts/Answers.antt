@@ -1,11 +1,11 @@
 -- `comparing::write_parts` meets its contract. The invariant of its loop (`Reached`): the first k parts stand in the scratch, the next begins after
--- them, and the rest has room. Each turn writes one more behind them (`reached_one`). The measure is the number of parts that are left.
-use Prim.Native.Nat.{ℕ, ◌+◌, ◌*◌, ◌≤◌, ◌<◌}
+-- them, and the rest has room. Each turn writes one more behind them (`reached_one`).
+use Prim.Native.Nat.{ℕ, ◌+◌, ◌<◌}
 use native.Mathlib.Omega.{arith}
 use mathlib.Core.Path.{sym, subst, ◌∙◌}
 use mathlib.Core.List.{List}
 use lib.ListN.{length, length-set}
-use Rattle.paper.specs.Code.{Instruction, instruction_size}
+use Rattle.paper.specs.Code.{Instruction}
 use Rattle.paper.specs.Translating.{code_of}
 use Rattle.paper.specs.Comparing.{as_joined}
 use Rattle.keys.specs.Says.{keys_in}
@@ -16,27 +16,28 @@ use Rattle.translating.specs.Writing.{WritesJoined, Wrote}
 use Rattle.comparing.specs.Scratch.{code_at, Roomy}
 use Rattle.comparing.proofs.Known.{part_known}
 use Rattle.comparing.proofs.Stored.{Reached, room_here, reached_one}
+use Rattle.comparing.proofs.scratch.write_parts.Goals.{After-root_at-root}
 use Rattle.comparing.proofs.scratch.write_parts.Goals as goal
 
 -- a text whose parts the rows have, and for whose codes there is room
-abbrev Parts : goal.After-write_joined-arg-1 → List ℕ → Type 0
+abbrev Parts : After-root_at-root → List ℕ → Type 0
 Parts s text = Parted text s.args.list.now s.args.nodes.now s.args.rows.now s.args.n
 
-abbrev Rooms : goal.After-write_joined-arg-1 → List ℕ → Type 0
+abbrev Rooms : After-root_at-root → List ℕ → Type 0
 Rooms s text = Roomy text s.args.list.now s.args.nodes.now s.args.rows.now s.args.n s.args.code.now
 
-abbrev codes : goal.After-write_joined-arg-1 → List ℕ → ℕ → List Instruction
+abbrev codes : After-root_at-root → List ℕ → ℕ → List Instruction
 codes s text = code_at text s.args.list.now s.args.nodes.now s.args.rows.now
 
-reached : (c : goal.After-write_joined-arg-1) (text : List ℕ) → Parts c text → Rooms c text
+reached : (c : After-root_at-root) (text : List ℕ) → Parts c text → Rooms c text
     → Reached c.loop-k.code c.loop-k.starts c.args.n (codes c text) c.loop-k.k c.loop-k.at
-reached c text parted room = c.loop-k.invariant.3 text parted room
+reached c text parted room = c.loop-k.invariant.2 text parted room
 
 -- room for all, in the scratch as it is now
-room_now : (c : goal.After-write_joined-arg-1) (text : List ℕ) → Rooms c text → Roomy text c.args.list.now c.args.nodes.now c.args.rows.now c.args.n c.loop-k.code
-room_now c text room = omega (arith, room, c.loop-k.invariant.1)
+room_now : (c : After-root_at-root) (text : List ℕ) → Rooms c text → Roomy text c.args.list.now c.args.nodes.now c.args.rows.now c.args.n c.loop-k.code
+room_now c text room = omega (arith, room, c.loop-k.invariant.0)
 
-writes : (c : goal.After-write_joined-arg-1) (text : List ℕ) → Parts c text → Rooms c text
+writes : (c : After-root_at-root) (text : List ℕ) → Parts c text → Rooms c text
     → WritesJoined c.args.list.now c.args.nodes.now c.loop-k.code c.root_at-root.result c.loop-k.at text
 writes c text parted room =
     let more = c.loop-k-test.true in
@@ -50,67 +51,33 @@ pub write_joined-at-requires : goal.write_joined-at-requires
 write_joined-at-requires c =
     let text = c.requires.by_index.0 in
     let (parted, room) = c.requires.by_index.1 in
-    (omega (arith, (parted.each c.loop-k.k c.loop-k-test.true).has, c.root_at-root.ensures), (text, writes c text parted room))
+    (omega (arith, (parted.each c.loop-k.k c.loop-k-test.true).has, c.root_at-root.ensures), (text, writes (goal.at.write_joined-at-requires c).After-root_at-root text parted room))
 
--- a text whose parts the rows have, and for whose codes there is room
-abbrev Parts_2 : goal.After-slice_known-in-loop-k-1 → List ℕ → Type 0
-Parts_2 s text = Parted text s.args.list.now s.args.nodes.now s.args.rows.now s.args.n
-
-abbrev Rooms_2 : goal.After-slice_known-in-loop-k-1 → List ℕ → Type 0
-Rooms_2 s text = Roomy text s.args.list.now s.args.nodes.now s.args.rows.now s.args.n s.args.code.now
-
-abbrev codes_2 : goal.After-slice_known-in-loop-k-1 → List ℕ → ℕ → List Instruction
-codes_2 s text = code_at text s.args.list.now s.args.nodes.now s.args.rows.now
-
-reached_2 : (c : goal.After-slice_known-in-loop-k-1) (text : List ℕ) → Parts_2 c text → Rooms_2 c text
-    → Reached c.loop-k.code c.loop-k.starts c.args.n (codes_2 c text) c.loop-k.k c.loop-k.at
-reached_2 c text parted room = c.loop-k.invariant.3 text parted room
-
--- room for all, in the scratch as it is now
-room_now_2 : (c : goal.After-slice_known-in-loop-k-1) (text : List ℕ) → Rooms_2 c text → Roomy text c.args.list.now c.args.nodes.now c.args.rows.now c.args.n c.loop-k.code
-room_now_2 c text room = omega (arith, room, c.loop-k.invariant.1)
-
-writes_2 : (c : goal.After-slice_known-in-loop-k-1) (text : List ℕ) → Parts_2 c text → Rooms_2 c text
-    → WritesJoined c.args.list.now c.args.nodes.now c.loop-k.code c.root_at-root.result c.loop-k.at text
-writes_2 c text parted room =
-    let more = c.loop-k-test.true in
-    subst (λ (i : ℕ). WritesJoined c.args.list.now c.args.nodes.now c.loop-k.code i c.loop-k.at text) (sym c.root_at-root.ensures)
-    (record {
-      known = part_known text c.args.list.now c.args.nodes.now (root_at c.args.rows.now c.loop-k.k) (parted.each c.loop-k.k more);
-      room = room_here (reached_2 c text parted room) (room_now_2 c text room) more;
-    })
-
-wrote : (c : goal.After-slice_known-in-loop-k-1) (text : List ℕ) → Parts_2 c text → Rooms_2 c text
-    → Wrote c.loop-k.code c.loop-k.at (as_joined (codes_2 c text c.loop-k.k)) c.write_joined-at.new.code c.write_joined-at.result
-wrote c text parted room =
-    let after = c.write_joined-at.new.code in
+wrote : (t : After-root_at-root) {after : List ℕ} {end : ℕ} → ((text : List ℕ) → WritesJoined t.args.list.now t.args.nodes.now t.loop-k.code t.root_at-root.result t.loop-k.at text
+    → Wrote t.loop-k.code t.loop-k.at (as_joined (code_of (keys_in t.args.list.now) (tree_at text t.args.nodes.now t.root_at-root.result))) after end)
+    → (text : List ℕ) → Parts t text → Rooms t text → Wrote t.loop-k.code t.loop-k.at (as_joined (codes t text t.loop-k.k)) after end
+wrote t {after} {end} says text parted room =
     subst
-    (λ (i : ℕ). Wrote c.loop-k.code c.loop-k.at (as_joined (code_of (keys_in c.args.list.now) (tree_at text c.args.nodes.now i))) after c.write_joined-at.result)
-    c.root_at-root.ensures (c.write_joined-at.ensures text (writes_2 c text parted room))
-
--- the number after it, by a text
-after_few : (c : goal.After-slice_known-in-loop-k-1) → instruction_size * c.write_joined-at.result ≤ length c.loop-k.code
-after_few c =
-    let text = c.requires.by_index.0 in
-    let (parted, room) = c.requires.by_index.1 in
-    omega (arith, (wrote c text parted room).next, room_here (reached_2 c text parted room) (room_now_2 c text room) c.loop-k-test.true)
-
-starts_wide : (c : goal.After-slice_known-in-loop-k-1) → c.loop-k.k + 1 < length c.loop-k.starts
-starts_wide c =
-    omega (arith, c.loop-k-test.true, c.loop-k.invariant.2, c.requires.n_in_bounds.0, length-set c.args.starts.now 0 0)
-
-small : (c : goal.After-slice_known-in-loop-k-1) → length c.loop-k.code < 4294967296
-small c = omega (arith, c.loop-k.invariant.1, c.requires.n_in_bounds.1)
+    (λ (i : ℕ). Wrote t.loop-k.code t.loop-k.at (as_joined (code_of (keys_in t.args.list.now) (tree_at text t.args.nodes.now i))) after end)
+    t.root_at-root.ensures (says text (writes t text parted room))
 
 pub overflow_cast-starts : goal.overflow_cast-starts
-overflow_cast-starts c = omega (arith, after_few c, small c)
+overflow_cast-starts c =
+    let t = (goal.at.overflow_cast-starts c).After-root_at-root in
+    let text = c.requires.by_index.0 in
+    let (parted, room) = c.requires.by_index.1 in
+    let next = (wrote t c.write_joined-at.ensures text parted room).next in
+    omega (arith, next, room_here (reached t text parted room) (room_now t text room) c.loop-k-test.true, c.loop-k.invariant.0, c.requires.n_in_bounds.1)
 
 pub loop-k-preserved : goal.loop-k-preserved
 loop-k-preserved c =
-    let more = c.loop-k-test.true in (
-      omega (arith, more),
-      omega (arith, c.write_joined-at.auto, c.loop-k.invariant.1),
-      length-set c.loop-k.starts (c.loop-k.k + 1) c.write_joined-at.result ∙ c.loop-k.invariant.2,
+    let t = (goal.at.loop-k-preserved c).After-root_at-root in
+    let wide : c.loop-k.k + 1 < length c.loop-k.starts =
+    omega (arith, c.loop-k-test.true, c.loop-k.invariant.1, c.requires.n_in_bounds.0, length-set c.args.starts.now 0 0)
+    in (
+      omega (arith, c.write_joined-at.auto, c.loop-k.invariant.0),
+      length-set c.loop-k.starts (c.loop-k.k + 1) c.write_joined-at.result ∙ c.loop-k.invariant.1,
       λ text parted room.
-          reached_one (reached_2 c text parted room) (room_now_2 c text room) more _ c.write_joined-at.result (wrote c text parted room) (starts_wide c),
+          reached_one (reached t text parted room) (room_now t text room) c.loop-k-test.true _ c.write_joined-at.result
+          (wrote t c.write_joined-at.ensures text parted room) wide,
     )

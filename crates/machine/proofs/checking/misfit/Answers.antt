@@ -9,7 +9,7 @@ use Rattle.machine.specs.Following.{Followed}
 use Rattle.machine.proofs.Skips.{over_told}
 use Rattle.machine.proofs.Fitting.{landing, fits_first, reads, next_past, next_same, stops_here, fits_last}
 use Rattle.machine.proofs.checking.misfit.Goals as goal
-use Rattle.machine.proofs.checking.misfit.Goals.{After-over_at, then-landing-upto+else-marks-landing, else-landing-upto}
+use Rattle.machine.proofs.checking.misfit.Goals.{After-over_at, else-landing-upto-via-then-landing-upto+else-marks-landing, else-landing-upto-via-else-landing-upto}
 
 -- the types were followed, by the keys of some list
 abbrev Follows : After-over_at → List Key → Type 0
@@ -45,11 +45,11 @@ loop-i-preserved c =
           λ ks f.
           let lands = lands_so (goal.at.loop-i-preserved c).After-over_at ks f in
           let here = c.loop-i.invariant.fits ks f in
-          elim c.if-landing-upto.branch [
-            | then-landing-upto+else-marks-landing w ↦
+          elim c.else-landing-upto.branch [
+            | else-landing-upto-via-then-landing-upto+else-marks-landing w ↦
                 next_same ks a.blocks.now a.n a.marks.now a.upto f here more (omega (arith, lands, w.if-landing-upto.true))
                 (ap (λ k. get_or a.marks.now k 0) (sym lands) ∙ w.if-marks-landing.false)
-            | else-landing-upto w ↦
+            | else-landing-upto-via-else-landing-upto w ↦
                 next_past ks a.blocks.now a.n a.marks.now a.upto f here more (omega (arith, lands, w.if-landing-upto.false))
           ];
     }

@@ -5,4 +5,4 @@ use Rattle.machine.proofs.decoding.instruction_at.Goals as goal
 
 pub returns : goal.returns
 returns c =
-    c.op_of.ensures ∙ ap (decode c.args.left) (c.parts_at-parts.ensures ∙ ap (parts_at c.args.blocks.now) c.place_of.ensures)
+    c.instruction.ensures ∙ ap (decode c.args.left) (c.at.ensures ∙ ap (parts_at c.args.blocks.now) c.place_of.ensures)

@@ -1,39 +1,27 @@
--- Each arm of the match is the instruction that its operation names with the detail, the operand and the constant beside it; and what is
--- read as an instruction is that one (`named_so`).
-use Rattle.std.proofs.Common.{◌≡◌, ℕ, ◌+◌, List, sym, ap, ◌∙◌}
-use mathlib.Core.Option.{some}
+-- What is read as an instruction is the one that its operation names (`named_so`), and of thirteen operations twelve have an arm of
+-- their own (`named_skip`).
+use Rattle.std.proofs.Common.{◌≡◌, ◌+◌, sym, ap, ◌∙◌, arith}
+use lib.Dec.{eqb}
 use Rattle.paper.specs.Numbers.{byte_at, number_at}
-use Rattle.paper.specs.Code.{Instruction, Parts, parts_at, instruction_named, decode}
+use Rattle.paper.specs.Code.{Parts, parts_at, skip, first_byte, decode}
 use Rattle.paper.specs.Loading.{instruction_at}
-use Rattle.machine.proofs.Decoded.{first_byte_lem, named_so}
+use Rattle.machine.proofs.Decoded.{first_byte_lem, named_skip}
 use Rattle.machine.proofs.decoding.loaded_at.Goals as goal
 
-abbrev place : goal.After-without_constant-in-13 → ℕ
-place c = c.place_of-at.result
-
-abbrev given : goal.After-without_constant-in-13 → List ℕ
-given c = c.args.blocks.now
-
-abbrev parts : goal.After-without_constant-in-13 → Parts
-parts c =
-    record {
-      operation = byte_at (given c) (place c);
-      detail = byte_at (given c) (place c + 1);
-      operand = c.two_bytes-operand.result;
-      constant = number_at (given c) (place c + 4) 16;
-    }
-
--- they are those of the instruction
-parts_so : (c : goal.After-without_constant-in-13) → parts_at (given c) (instruction_at c.args.i) ≡ parts c
-parts_so c = rw (← c.place_of-at.ensures, ← c.two_bytes-operand.ensures.0)
-
-named : (c : goal.After-without_constant-in-13) (left : ℕ) (x : Instruction) → decode left (parts_at (given c) (instruction_at c.args.i)) ≡ some x
-    → instruction_named (parts c) ≡ some x
-named c left x e = named_so left (parts c) x (ap (decode left) (sym (parts_so c)) ∙ e)
-
-pub returns-in-13 : goal.returns-in-13
-returns-in-13 c left x e =
-    let constant = c.from_bytes-in-13 in
-    let to = first_byte_lem constant.result c.equal-to.ensures in
-    c.without_constant-in-13.ensures
-    ∙ rw (to, constant.ensures) (rw c.in-13.is at (named c left x e))
+pub returns-in_default : goal.returns-in_default
+returns-in_default c left x e =
+    let blocks = c.args.blocks.now in
+    let at = c.place_of-at.result in
+    let operand = c.two_bytes-operand in
+    let constant = c.from_bytes-in_default in
+    let p : Parts = record {
+      operation = byte_at blocks at;
+      detail = byte_at blocks (at + 1);
+      operand = operand.result;
+      constant = number_at blocks (at + 4) 16;
+    } in
+    let stand : parts_at blocks (instruction_at c.args.i) ≡ p = rw (← c.place_of-at.ensures, ← operand.ensures.0) in
+    ap (λ to. skip (record { on = eqb p.detail 1; to = to; over = p.operand }))
+    (first_byte_lem constant.result c.equal.ensures ∙ ap (λ n. eqb n first_byte) constant.ensures)
+    ∙ named_skip left p x (ap (decode left) (sym stand) ∙ e)
+    (λ low. omega arith)

@@ -14,7 +14,7 @@ use Rattle.machine.specs.Acting.{takes_of}
 use Rattle.machine.specs.Following.{floors, Followed}
 use Rattle.machine.specs.Packed.{ty_in, floor_in}
 use Rattle.machine.proofs.Along.{along, at_blocks}
-use Rattle.machine.proofs.Standing.{Turn, made, fails_few, fails_full, fails_wrong}
+use Rattle.machine.proofs.Standing.{Turn, made, no_action, fails_few, fails_full, fails_wrong}
 use Rattle.machine.proofs.Types.{types_at, types_after_lem}
 use Rattle.machine.proofs.Marked.{floor_under, floor_with, Point, point_first, point_next, floor_fits}
 use Rattle.machine.proofs.following.follow.Goals as goal
@@ -41,10 +41,10 @@ ended ks blocks n here stops =
 
 -- the instruction that a turn read is the one that stands there
 read : (c : After-takes-need) → let ks = keys_in c.args.list.now in
-    action_of (type_action ks) (instruction_meant c.instruction_at-instruction.result) ≡ types_at ks c.args.blocks.now c.args.n c.loop-i.i
+    action_of (type_action ks) (some (instruction_meant c.in-Some.instruction)) ≡ types_at ks c.args.blocks.now c.args.n c.loop-i.i
 read c =
     at_blocks (action_of (type_action (keys_in c.args.list.now))) c.args.blocks.now c.args.n c.loop-i.i
-    c.instruction_at-instruction.ensures
+    c.in-Some.ensures
 
 turn : (c : After-takes-need) → let l = c.loop-i in
     Turn ty_in 0 (types_at (keys_in c.args.list.now) c.args.blocks.now c.args.n) c.args.n l.stack l.height l.i c.takes-need.result
@@ -58,7 +58,7 @@ turn c =
 -- what it leaves is what it was typed as
 typed_so : (c : After-typed) → let ks = keys_in c.args.list.now in
     let at = types_at ks c.args.blocks.now c.args.n in
-    action_of (type_action ks) (instruction_meant c.instruction_at-instruction.result) ≡ at c.loop-i.i
+    action_of (type_action ks) (some (instruction_meant c.in-Some.instruction)) ≡ at c.loop-i.i
     → (turn : Turn ty_in 0 at c.args.n c.loop-i.stack c.loop-i.height c.loop-i.i c.takes-need.result) → made turn ≡ typing_meant c.typed.result
 typed_so c reads turn =
     let low = c.type_in-low.ensures in
@@ -91,11 +91,18 @@ returns-then-base-ge-MOST_HELD c =
     let t = turn (goal.at.returns-then-base-ge-MOST_HELD c).After-takes-need in
     ended _ _ _ c.loop-i.invariant (λ _. fails_full t c.if-height-need.false c.if-base-ge-MOST_HELD.true)
 
+-- what stands there is no instruction, and of no type
 pub returns-in_default : goal.returns-in_default
 returns-in_default c =
-    let at = goal.at.returns-in_default c in
+    let ks = keys_in c.args.list.now in
+    let none_there = at_blocks (action_of (type_action ks)) c.args.blocks.now c.args.n c.loop-i.i c.in_default.ensures in
+    ended _ _ _ c.loop-i.invariant (λ _. no_action c.loop-i.invariant.at c.loop-i-test.true (sym none_there))
+
+pub returns-in_default-typed : goal.returns-in_default-typed
+returns-in_default-typed c =
+    let at = goal.at.returns-in_default-typed c in
     let t = turn at.After-takes-need in
-    let wrong = typed_so at.After-typed (read at.After-takes-need) t ∙ ap typing_meant c.in_default.is in
+    let wrong = typed_so at.After-typed (read at.After-takes-need) t ∙ ap typing_meant c.in_default-typed.is in
     ended _ _ _ c.loop-i.invariant (λ _. fails_wrong t c.if-height-need.false wrong)
 
 pub mark_of-requires : goal.mark_of-requires
@@ -122,4 +129,6 @@ loop-i-preserved c =
     (c.mark_of.ensures ∙ ap (λ n. (base f + 1) * floors + n) (sym low))
 
 pub returns : goal.returns
-returns c = ended _ _ _ c.loop-i.invariant (λ q. absurd (omega arith))
+returns c =
+    let all : c.loop-i.i ≡ c.args.n = omega arith in
+    rw all at (ended _ _ _ c.loop-i.invariant (λ q. absurd (omega arith)))

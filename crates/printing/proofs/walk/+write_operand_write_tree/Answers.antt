@@ -32,21 +32,21 @@ module _ (text nodes : List ℕ) where
 pub write_operand-returns : goal.write_operand-returns
 write_operand-returns t c =
     let a = c.args in
-    wrote_as (by_leaf a.text.now a.nodes.now a.rung a.node (sym c.in-Without.is ∙ c.read-n.ensures)) c.write_leaf.ensures
+    wrote_as (by_leaf a.text.now a.nodes.now a.rung a.node (sym c.in-Without.is ∙ c.read.ensures)) c.write_leaf.ensures
 
 pub write_tree-returns-in-Without : goal.write_tree-returns-in-Without
 write_tree-returns-in-Without t c =
     let a = c.args in
-    wrote_as (by_leaf a.text.now a.nodes.now a.rung a.node (sym c.in-Without.is ∙ c.read-n.ensures)) c.write_leaf.ensures
+    wrote_as (by_leaf a.text.now a.nodes.now a.rung a.node (sym c.in-Without.is ∙ c.read.ensures)) c.write_leaf.ensures
 
 -- an operator before its operand
 
 pub write_tree-overflow_sub-node : goal.write_tree-overflow_sub-node
-write_tree-overflow_sub-node t c = below c.args.nodes.now c.args.node _ (sym c.in-Before.is ∙ c.read-n.ensures)
+write_tree-overflow_sub-node t c = below c.args.nodes.now c.args.node _ (sym c.in-Before.is ∙ c.read.ensures)
 
 pub write_tree-write_operand-requires : goal.write_tree-write_operand-requires
 write_tree-write_operand-requires t c =
-    let l = below c.args.nodes.now c.args.node _ (sym c.in-Before.is ∙ c.read-n.ensures) in
+    let l = below c.args.nodes.now c.args.node _ (sym c.in-Before.is ∙ c.read.ensures) in
     (omega arith, omega (arith, c.requires))
 
 pub write_tree-returns-in-Before : goal.write_tree-returns-in-Before
@@ -57,24 +57,24 @@ write_tree-returns-in-Before t c =
     let o = c.in-Before.o in
     wrote_as
     (prefix_shown a.rung (place_at nodes a.node) o (tree_at text nodes (a.node - 1))
-    ∙ by_node text nodes (rung_meant a.rung) a.node (Before o) (sym c.in-Before.is ∙ c.read-n.ensures))
+    ∙ by_node text nodes (rung_meant a.rung) a.node (Before o) (sym c.in-Before.is ∙ c.read.ensures))
     (wrote_on c.write_prefix-inside.ensures c.write_operand.ensures)
 
 -- an operator between its operands
 
 pub write_tree-write_operand-after_left-requires : goal.write_tree-write_operand-after_left-requires
 write_tree-write_operand-after_left-requires t c =
-    let l = below c.args.nodes.now c.args.node _ (sym c.in-Between.is ∙ c.read-n.ensures) in
+    let l = below c.args.nodes.now c.args.node _ (sym c.in-Between.is ∙ c.read.ensures) in
     (omega arith, omega (arith, c.requires))
 
 pub write_tree-overflow_sub-node-in-Between : goal.write_tree-overflow_sub-node-in-Between
 write_tree-overflow_sub-node-in-Between t c =
-    let l : c.in-Between.left < c.args.node = below c.args.nodes.now c.args.node _ (sym c.in-Between.is ∙ c.read-n.ensures) in
+    let l : c.in-Between.left < c.args.node = below c.args.nodes.now c.args.node _ (sym c.in-Between.is ∙ c.read.ensures) in
     omega arith
 
 pub write_tree-write_operand-after_right-requires : goal.write_tree-write_operand-after_right-requires
 write_tree-write_operand-after_right-requires t c =
-    let l : c.in-Between.left < c.args.node = below c.args.nodes.now c.args.node _ (sym c.in-Between.is ∙ c.read-n.ensures) in
+    let l : c.in-Between.left < c.args.node = below c.args.nodes.now c.args.node _ (sym c.in-Between.is ∙ c.read.ensures) in
     (omega arith, omega (arith, c.requires))
 
 pub write_tree-returns-in-Between : goal.write_tree-returns-in-Between
@@ -87,6 +87,6 @@ write_tree-returns-in-Between t c =
     wrote_as
     (operator_shown (rung_meant a.rung) (place_at nodes a.node) o (tree_at text nodes left) (tree_at text nodes (a.node - 1))
     c.is_looser-needed.ensures c.left_rung.ensures c.right_rung-rung_right.ensures
-    ∙ by_node text nodes (rung_meant a.rung) a.node (Between o left) (sym c.in-Between.is ∙ c.read-n.ensures))
-    (wrote_on (wrote_on (wrote_on (wrote_on c.write_open-opened.ensures c.write_operand-after_left.ensures) c.write_operator-before_right.ensures) c.write_operand-after_right.ensures)
-    c.write_close.ensures)
+    ∙ by_node text nodes (rung_meant a.rung) a.node (Between o left) (sym c.in-Between.is ∙ c.read.ensures))
+    (wrote_on (wrote_on (wrote_on (wrote_on c.write_needed-opened.ensures c.write_operand-after_left.ensures) c.write_operator-before_right.ensures) c.write_operand-after_right.ensures)
+    c.write_needed.ensures)

@@ -7,7 +7,8 @@ use Rattle.translating.specs.Writing.{change_meant}
 use Rattle.translating.proofs.Rows.{wrote_as}
 use Rattle.translating.proofs.change.write_change.Goals as goal
 
-pub returns-in-To : goal.returns-in-To
-returns-in-To c =
-    wrote_as (sym (ap change_meant c.in-To.is))
-    (c.write.ensures (convert (kind_of c.in-To.kind) c.in-To.width) (rw (← c.kind_number.ensures) c.plain.ensures))
+pub returns : goal.returns
+returns c =
+    let to = c.in-Some.field-0 in
+    wrote_as (sym (ap change_meant c.in-Some.is))
+    (c.write.ensures (convert (kind_of to.kind) to.width) (rw (← c.kind_number.ensures, ← c.from.ensures) c.plain-parts.ensures))

@@ -14,8 +14,8 @@ as_read nodes at read e = ap (λ (n : Node). own_code n (operand_at nodes at)) (
 
 pub returns-in-Before : goal.returns-in-Before
 returns-in-Before c =
-    wrote_as (as_read c.args.nodes.now c.args.at c.read-n.ensures c.in-Before.is) (c.write.ensures _ c.prefix_parts.ensures)
+    wrote_as (as_read c.args.nodes.now c.args.at c.read.ensures c.in-Before.is) (c.write.ensures _ c.prefix_parts.ensures)
 
 pub returns-in-Between : goal.returns-in-Between
 returns-in-Between c =
-    wrote_as (as_read c.args.nodes.now c.args.at c.read-n.ensures c.in-Between.is) (c.write-in-Between.ensures _ c.operator_parts.ensures)
+    wrote_as (as_read c.args.nodes.now c.args.at c.read.ensures c.in-Between.is) (c.write-in-Between.ensures _ c.operator_parts.ensures)

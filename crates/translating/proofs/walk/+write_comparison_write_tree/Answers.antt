@@ -118,31 +118,31 @@ leaf_is {list} {nodes} {text = text} {at} e w = leaf_code list nodes at text e w
 pub write_tree-write_own-requires : goal.write_tree-write_own-requires
 write_tree-write_own-requires t c =
     let w = c.requires.1.1 in
-    (c.requires.0, omega (arith, w.room, ap length (leaf_is (read_at c.args.nodes.now c.args.at c.read-n.ensures c.in-Without.is) w)))
+    (c.requires.0, omega (arith, w.room, ap length (leaf_is (read_at c.args.nodes.now c.args.at c.read.ensures c.in-Without.is) w)))
 
 pub write_tree-returns-in-Without : goal.write_tree-returns-in-Without
-write_tree-returns-in-Without t c text w = wrote_as (leaf_is (read_at c.args.nodes.now c.args.at c.read-n.ensures c.in-Without.is) w) c.write_own.ensures
+write_tree-returns-in-Without t c text w = wrote_as (leaf_is (read_at c.args.nodes.now c.args.at c.read.ensures c.in-Without.is) w) c.write_own.ensures
 
 -- an operator before its operand
 
 pub write_tree-overflow_sub-at : goal.write_tree-overflow_sub-at
-write_tree-overflow_sub-at t c = let l = walked.operand_below c.args.nodes.now c.args.at (read_at c.args.nodes.now c.args.at c.read-n.ensures c.in-Before.is) in omega arith
+write_tree-overflow_sub-at t c = let l = walked.operand_below c.args.nodes.now c.args.at (read_at c.args.nodes.now c.args.at c.read.ensures c.in-Before.is) in omega arith
 
 pub write_tree-write_tree-after-requires : goal.write_tree-write_tree-after-requires
 write_tree-write_tree-after-requires t c =
-    let e = read_at c.args.nodes.now c.args.at c.read-n.ensures c.in-Before.is in
+    let e = read_at c.args.nodes.now c.args.at c.read.ensures c.in-Before.is in
     let l = walked.operand_below c.args.nodes.now c.args.at e in
     (omega arith, (omega (arith, c.requires.0), (c.requires.1.0, walked.operand_writes e c.requires.1.1)))
 
 pub write_tree-write_own-requires-in-Before : goal.write_tree-write_own-requires-in-Before
 write_tree-write_own-requires-in-Before t c =
-    let e = read_at c.args.nodes.now c.args.at c.read-n.ensures c.in-Before.is in
+    let e = read_at c.args.nodes.now c.args.at c.read.ensures c.in-Before.is in
     let w = c.requires.1.1 in
     (c.requires.0, walked.prefix_room e w (c.write_tree-after.ensures c.requires.1.0 (walked.operand_writes e w)))
 
 pub write_tree-returns-in-Before : goal.write_tree-returns-in-Before
 write_tree-returns-in-Before t c text w =
-    let e = read_at c.args.nodes.now c.args.at c.read-n.ensures c.in-Before.is in
+    let e = read_at c.args.nodes.now c.args.at c.read.ensures c.in-Before.is in
     wrote_as (prefixed_code c.args.list.now c.args.nodes.now c.args.at text _ e w.known)
     (wrote_on (c.write_tree-after.ensures text (walked.operand_writes e w)) c.write_own-in-Before.ensures)
 
@@ -154,23 +154,23 @@ joined_is nodes at {left} read e f = ap (λ (o : Operator). Between o left) (sym
 
 pub write_tree-write_tree-after_left-requires : goal.write_tree-write_tree-after_left-requires
 write_tree-write_tree-after_left-requires t c =
-    let e = joined_is c.args.nodes.now c.args.at c.read-n.ensures c.in-Between.is c.in-Joins.is in
+    let e = joined_is c.args.nodes.now c.args.at c.read.ensures c.in-Between-Joins-default.is c.in-Between-Joins-default.field-0-is in
     let l = walked.left_below c.args.nodes.now c.args.at e in
     (omega arith, ((walked.both_in_nodes c.args.nodes.now c.args.at e c.requires.0).0, (c.requires.1.0, walked.first_writes e c.requires.1.1)))
 
-pub write_tree-overflow_sub-at-in-Joins : goal.write_tree-overflow_sub-at-in-Joins
-write_tree-overflow_sub-at-in-Joins t c = let l = walked.left_below c.args.nodes.now c.args.at (joined_is c.args.nodes.now c.args.at c.read-n.ensures c.in-Between.is c.in-Joins.is) in omega arith
+pub write_tree-overflow_sub-at-in-Between-Joins-default : goal.write_tree-overflow_sub-at-in-Between-Joins-default
+write_tree-overflow_sub-at-in-Between-Joins-default t c = let l = walked.left_below c.args.nodes.now c.args.at (joined_is c.args.nodes.now c.args.at c.read.ensures c.in-Between-Joins-default.is c.in-Between-Joins-default.field-0-is) in omega arith
 
 pub write_tree-overflow_add-after_left : goal.write_tree-overflow_add-after_left
 write_tree-overflow_add-after_left t c =
-    let e = joined_is c.args.nodes.now c.args.at c.read-n.ensures c.in-Between.is c.in-Joins.is in
+    let e = joined_is c.args.nodes.now c.args.at c.read.ensures c.in-Between-Joins-default.is c.in-Between-Joins-default.field-0-is in
     let w = c.requires.1.1 in
     let h = walked.place_fits e w (c.write_tree-after_left.ensures c.requires.1.0 (walked.first_writes e w)) in
     omega arith
 
 pub write_tree-write_tree-before_own-requires : goal.write_tree-write_tree-before_own-requires
 write_tree-write_tree-before_own-requires t c =
-    let e = joined_is c.args.nodes.now c.args.at c.read-n.ensures c.in-Between.is c.in-Joins.is in
+    let e = joined_is c.args.nodes.now c.args.at c.read.ensures c.in-Between-Joins-default.is c.in-Between-Joins-default.field-0-is in
     let text = c.requires.1.0 in
     let w = c.requires.1.1 in
     let l = walked.left_below c.args.nodes.now c.args.at e in
@@ -179,7 +179,7 @@ write_tree-write_tree-before_own-requires t c =
 
 pub write_tree-write_own-end-requires : goal.write_tree-write_own-end-requires
 write_tree-write_own-end-requires t c =
-    let e = joined_is c.args.nodes.now c.args.at c.read-n.ensures c.in-Between.is c.in-Joins.is in
+    let e = joined_is c.args.nodes.now c.args.at c.read.ensures c.in-Between-Joins-default.is c.in-Between-Joins-default.field-0-is in
     let text = c.requires.1.0 in
     let w = c.requires.1.1 in
     let first = c.write_tree-after_left.ensures text (walked.first_writes e w) in
@@ -188,7 +188,7 @@ write_tree-write_own-end-requires t c =
 
 pub write_tree-overflow_sub-before_own : goal.write_tree-overflow_sub-before_own
 write_tree-overflow_sub-before_own t c =
-    let e = joined_is c.args.nodes.now c.args.at c.read-n.ensures c.in-Between.is c.in-Joins.is in
+    let e = joined_is c.args.nodes.now c.args.at c.read.ensures c.in-Between-Joins-default.is c.in-Between-Joins-default.field-0-is in
     let text = c.requires.1.0 in
     let w = c.requires.1.1 in
     let first = c.write_tree-after_left.ensures text (walked.first_writes e w) in
@@ -197,16 +197,16 @@ write_tree-overflow_sub-before_own t c =
 
 pub write_tree-write_skip-requires : goal.write_tree-write_skip-requires
 write_tree-write_skip-requires t c =
-    let e = joined_is c.args.nodes.now c.args.at c.read-n.ensures c.in-Between.is c.in-Joins.is in
+    let e = joined_is c.args.nodes.now c.args.at c.read.ensures c.in-Between-Joins-default.is c.in-Between-Joins-default.field-0-is in
     let text = c.requires.1.0 in
     let w = c.requires.1.1 in
     let first = c.write_tree-after_left.ensures text (walked.first_writes e w) in
     let second = c.write_tree-before_own.ensures text (walked.second_writes e w first) in
     (c.requires.0, walked.skip_room e w first second c.write_own-end.ensures _)
 
-pub write_tree-returns-in-Joins : goal.write_tree-returns-in-Joins
-write_tree-returns-in-Joins t c text w =
-    let e = joined_is c.args.nodes.now c.args.at c.read-n.ensures c.in-Between.is c.in-Joins.is in
+pub write_tree-returns-in-Between-Joins-default : goal.write_tree-returns-in-Between-Joins-default
+write_tree-returns-in-Between-Joins-default t c text w =
+    let e = joined_is c.args.nodes.now c.args.at c.read.ensures c.in-Between-Joins-default.is c.in-Between-Joins-default.field-0-is in
     let first = c.write_tree-after_left.ensures text (walked.first_writes e w) in
     joined_written c.args.list.now c.args.nodes.now c.args.at text _ _ e w.known first
     (c.write_tree-before_own.ensures text (walked.second_writes e w first)) c.write_own-end.ensures c.write_skip.ensures

@@ -23,10 +23,10 @@ fn write_code(rt: &impl Print, code: &[u8], room: &mut [u8]) -> io::Result<()> {
 // For its blocks alone a text is translated without a word, unless it is refused.
 fn say_translation(rt: &impl Print, call: usize, translation: Result<usize, Refusal>) -> io::Result<()> {
     if call == TRANSLATE {
-        return lines::say_done(rt, b"translated", translation);
+        return lines::say_translation(rt, translation);
     }
     if let Err(_) = translation {
-        lines::say_done(rt, b"translated", translation)?
+        lines::say_translation(rt, translation)?
     }
     Ok(())
 }
@@ -43,7 +43,7 @@ fn show(rt: &impl Print, bytes: &[u8]) -> io::Result<()> {
 }
 
 fn say_print(rt: &impl Print, printing: Result<usize, Refusal>, room: &[u8]) -> io::Result<()> {
-    lines::say_done(rt, b"printed", printing)?;
+    lines::say_printing(rt, printing)?;
     if let Ok(n) = printing {
         show(rt, lines::start(room, n))?
     }
@@ -51,7 +51,7 @@ fn say_print(rt: &impl Print, printing: Result<usize, Refusal>, room: &[u8]) -> 
 }
 
 fn say_fixing(rt: &impl Print, fixing: Result<usize, Refusal>, room: &[u8]) -> io::Result<()> {
-    lines::say_done(rt, b"fixed", fixing)?;
+    lines::say_fixing(rt, fixing)?;
     if let Ok(n) = fixing {
         show(rt, lines::start(room, n))?
     }
@@ -59,7 +59,7 @@ fn say_fixing(rt: &impl Print, fixing: Result<usize, Refusal>, room: &[u8]) -> i
 }
 
 fn say_drafting(rt: &impl Print, drafting: Result<usize, Refusal>, room: &[u8]) -> io::Result<()> {
-    lines::say_done(rt, b"drafted", drafting)?;
+    lines::say_drafting(rt, drafting)?;
     if let Ok(n) = drafting {
         show(rt, lines::start(room, n))?
     }
@@ -155,8 +155,7 @@ fn show_answers(rt: &impl Print, answers: &[u8]) -> io::Result<()> {
     }
     lines::say(rt, b":")?;
     for answer in answers {
-        lines::say(rt, b" ")?;
-        lines::say_hex(rt, *answer)?;
+        print!(rt; " {answer:02x}")?;
     }
     Ok(())
 }
@@ -183,10 +182,10 @@ fn run_all(
 ) -> io::Result<()> {
     let mut answers = [0u8; 65536];
     let n = put_input(rt, file, at, ANSWERS, &mut answers, 0)?;
-    if n <= answers.len() {
-        return judge_all(rt, list, blocks, entries, &mut answers[..n]);
+    match answers.get_mut(..n) {
+        Some(lent) => judge_all(rt, list, blocks, entries, lent),
+        None => not_understood(rt),
     }
-    not_understood(rt)
 }
 
 // The calls that write into the room.
@@ -215,14 +214,14 @@ fn answer(
     room: &[u8],
 ) -> io::Result<()> {
     match call {
-        READ => lines::say_done(rt, b"read", valve::read(text)),
+        READ => lines::say_reading(rt, valve::read(text)),
         CHECK => lines::say_checking(rt, valve::check(text, list)),
         JUDGE => lines::say_judgement(rt, valve::judge(text, list, entry)),
         EXPLAIN => explain(rt, text, list, entry),
         SUMMARIZE => summarize(rt, text, list),
         COMPARE => lines::say_agreement(rt, valve::compare(text, list, room)),
         COUNT => count(rt, text, list, entry),
-        LOAD => lines::say_done(rt, b"loaded", valve::load(list, room)),
+        LOAD => lines::say_loading(rt, valve::load(list, room)),
         _ => lines::say_running(rt, valve::run(list, room, entry)),
     }
 }

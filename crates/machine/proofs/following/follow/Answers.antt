@@ -70,7 +70,7 @@ abbrev base : After-floor_on-floor → ℕ
 base c = c.loop-i.height - c.takes-need.result
 
 abbrev type_left : After-floor_on-floor → Ty
-type_left c = ty_meant c.in-Some.left
+type_left c = ty_meant c.in-Some-typed.left
 
 floor_so : (c : After-floor_on-floor) → c.floor_on-floor.result ≡ floor_with (type_left c) (base c) (floor_under c.loop-i.stack (base c))
 floor_so c =

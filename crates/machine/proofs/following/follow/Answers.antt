@@ -121,7 +121,7 @@ loop-i-preserved c =
     let cell = c.packed.result in
     let ty : ty_in cell ≡ type_left f = c.packed.ensures.0 in
     let low : floor_in cell ≡ c.floor_on-floor.result = c.packed.ensures.1 in
-    let left = typed_so at.After-typed (read at.After-takes-need) t ∙ ap typing_meant c.in-Some.is in
+    let left = typed_so at.After-typed (read at.After-takes-need) t ∙ ap typing_meant c.in-Some-typed.is in
     point_next c.loop-i.invariant t cell c.mark_of.result
     c.if-height-need.false c.if-base-ge-MOST_HELD.false
     (left ∙ ap (λ a. some a) (sym ty))

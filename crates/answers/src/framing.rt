@@ -37,6 +37,7 @@ fn pass_over(input: &mut impl Read, size: usize, room: &mut [u8]) -> bool
     requires { 0 < length room.old }
 {
     let mut left = size;
+    // A loop, and no chunks: nothing of the input is here to be cut; what is left of it falls by what is read.
     while room.len() < left {
         if !fill(input, room) {
             return false;

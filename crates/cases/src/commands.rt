@@ -106,6 +106,7 @@ fn step(rt: &impl Print, file: &[u8], at: usize, room: &mut [u8]) -> io::Result<
 pub(crate) fn run(rt: &impl Print, file: &[u8]) -> io::Result<()> {
     let mut room = [0u8; 65536];
     let mut at = 0;
+    // A loop, and no `split`: a command reads on from its line, so it is told where the line begins.
     while at < file.len() {
         step(rt, file, at, &mut room)?;
         at = scan(file, at, b'\n') + 1;

@@ -32,6 +32,7 @@ pub(crate) fn last(file: &[u8], to: usize, input: usize) -> usize
 {
     let mut found = file.len();
     let mut at = 0;
+    // A loop, and no `split`: what is answered is where a line begins.
     while at < file.len() {
         if to < at {
             return found;

@@ -68,6 +68,7 @@ pub(crate) fn put(
     let Stretch { s, from, to } = stretch;
     let mut end = at;
     let mut i = from;
+    // A loop, and no chunks: a last digit without its fellow is read with the byte after the stretch, and refused there.
     while i < to {
         if room.len() <= end {
             not_understood(rt)?;
@@ -160,6 +161,7 @@ pub(crate) fn put_words(
 {
     let mut end = at;
     let mut i = from;
+    // A loop, and no `split`: lines that go on with this one belong to it, so words end in more than one way.
     while i < s.len() {
         let to = scan(s, i, b' ');
         let word = Stretch { s, from: i, to };

@@ -44,6 +44,7 @@ pub fn read_full(input: &mut impl Read, room: &mut [u8]) -> usize
     ensures { result ≤ length room.new }
 {
     let mut done = 0;
+    // A loop, and no iterator: a read may give fewer bytes than there is room for.
     while done < room.len() {
         match input.read(&mut room[done..]) {
             Ok(n) if 0 < n => done += n,

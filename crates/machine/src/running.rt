@@ -76,6 +76,7 @@ fn run(list: &[u8], blocks: &[u8], entry: &[u8], n: usize, stack: &mut [Cell; MO
     let mut height = 0;
     let mut i = 0;
     let mut steps = 0;
+    // A loop, and no `for`: a skip passes over instructions.
     while i < n {
         let instruction = loaded_at(blocks, i);
         let base = height - instruction.takes();

@@ -184,6 +184,7 @@ impl Magnitude {
         let mut bytes = [0u8; 128];
         let mut end = 128;
         let mut left = self;
+        // A loop, and no iterator: what is left of the number tells whether there is another turn.
         while left.is_long() {
             let d = left.cut(base);
             put_seven(d.rest, base, end, &mut bytes);

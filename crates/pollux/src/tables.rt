@@ -18,6 +18,7 @@ fn decimal(digits: &[u8]) -> Option<u64> {
 pub(crate) fn read_table(text: &[u8], table: &mut [u64]) -> Result<usize, usize> {
     let mut count = 0;
     let mut at = 0;
+    // A loop, and no `split`: a line that is no number is answered by its offset.
     while at < text.len() {
         let end = run_end(text, at, Run::Line);
         if at < end {

@@ -8,8 +8,7 @@ use native.Mathlib.Omega.{arith}
 use mathlib.Core.Path.{◌≡◌, sym, ap, subst, ◌∙◌}
 use mathlib.Core.List.{List}
 use lib.ListN.{length}
-use Rattle.paper.specs.declared.Place.{Place}
-use Rattle.paper.specs.Answers.{ok, refused, input_of, offset_of, refused_by}
+use Rattle.paper.specs.Answers.{ok, refused_by}
 use Rattle.paper.specs.Types.{typed}
 use Rattle.paper.specs.Calls.{restriction}
 use Rattle.paper.specs.Parts.{Part}
@@ -24,7 +23,7 @@ use Rattle.resolving.specs.Resolved.{Resolves}
 use Rattle.reading.specs.declared.grown.Grown.{Grown}
 use Rattle.tokens.specs.declared.Stop.{Stop}
 use Rattle.tokens.specs.declared.Stop.TheVariants.{Refused, Over}
-use Rattle.reading.specs.Grown.{CountedOn, Planted, Told, Settled, of_tree, of_parts, RowRoom, Sown, Sows}
+use Rattle.reading.specs.Grown.{CountedOn, Planted, Told, of_tree, of_parts, RowRoom, Sown, Sows}
 use Rattle.reading.specs.Restricted.{Typed, Restricts}
 use Rattle.reading.specs.Parted.{Judgeable, Parted, Readies, PassedParts, RestrictsParts}
 

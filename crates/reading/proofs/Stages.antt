@@ -7,8 +7,7 @@ use mathlib.Core.Path.{◌≡◌, sym, ◌∙◌, ap, subst}
 use mathlib.Core.List.{List}
 use lib.ListN.{length}
 use borrow.Author.Tests.{le-leb, lt-leb}
-use Rattle.paper.specs.declared.Place.{Place}
-use Rattle.paper.specs.Answers.{Answer, ok, refused, ◌>>=◌, Input, in_text, input_of, offset_of, says, refused_by}
+use Rattle.paper.specs.Answers.{Answer, ok, refused, ◌>>=◌, Input, in_text, says, refused_by}
 use Rattle.paper.specs.Tokens.{most_text}
 use Rattle.paper.specs.Keys.{keys}
 use Rattle.paper.specs.Grammar as G
@@ -27,7 +26,7 @@ use Rattle.tokens.specs.declared.Stop.{Stop}
 use Rattle.tokens.specs.declared.Stop.TheVariants.{Refused, Over}
 use Rattle.reading.specs.declared.grown.Scratch.{Scratch}
 use Rattle.reading.specs.declared.grown.Scratch.TheVariants as S
-use Rattle.reading.specs.Grown.{Planted, Grows, Told, Settled, Settles, stopping, of_tree, of_parts}
+use Rattle.reading.specs.Grown.{Planted, Grows, Told, Settles, stopping, of_tree}
 use Rattle.reading.specs.Restricted.{Typed, Rooted, Types, Restricts}
 
 -- a refusal of two stages is that of the stages after them too
@@ -115,22 +114,6 @@ module _ (text list : List ℕ) where
               typed = t;
             }
         restricts nodes (Err (Refused v)) t = short ∙ rw good (refused_early (tree text) (typed (keys_in list)) _ t)
-
--- what is told of an answer that is there, of the tree and of the parts
-
-pub tree_told : (Says : Result ℕ Refusal → Type 0) (r : Result Grown Stop) {g : Grown} → r ≡ Ok g → Told Says (of_tree r) → Says (Ok g.tree)
-tree_told Says r e t = subst (λ (x : Result Grown Stop). Told Says (of_tree x)) e t
-
-pub parts_told : (Says : Result ℕ Refusal → Type 0) (r : Result Grown Stop) {g : Grown} → r ≡ Ok g → Told Says (of_parts r) → Says (Ok g.parts)
-parts_told Says r e t = subst (λ (x : Result Grown Stop). Told Says (of_parts x)) e t
-
--- and of one that stops
-
-pub tree_stopped : (Says : Result ℕ Refusal → Type 0) (r : Result Grown Stop) {s : Stop} → r ≡ Err s → Told Says (of_tree r) → Told Says (Err s)
-tree_stopped Says r e t = subst (λ (x : Result Grown Stop). Told Says (of_tree x)) e t
-
-pub parts_stopped : (Says : Result ℕ Refusal → Type 0) (r : Result Grown Stop) {s : Stop} → r ≡ Err s → Told Says (of_parts r) → Told Says (Err s)
-parts_stopped Says r e t = subst (λ (x : Result Grown Stop). Told Says (of_parts x)) e t
 
 -- what the answer tells
 

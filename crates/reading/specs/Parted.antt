@@ -1,7 +1,7 @@
 -- What `restrict_parts` answers, read with the nodes and the rows as it leaves them.
 use Rattle.std.specs.Prelude.{ℕ, ◌+◌, ◌*◌, ◌≤◌, ◌<◌, ◌≡◌, List, length, Result, Ok, Err}
 use Rattle.paper.specs.declared.Refusal.{Refusal}
-use Rattle.paper.specs.Answers.{ok, refused, input_of, offset_of, refused_by}
+use Rattle.paper.specs.Answers.{ok, refused_by}
 use Rattle.paper.specs.Types.{typed}
 use Rattle.paper.specs.Calls.{restriction}
 use Rattle.paper.specs.Parts.{parts, most_parts}

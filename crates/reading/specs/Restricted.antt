@@ -1,7 +1,7 @@
 -- What `restrict` answers, read with the nodes as it leaves them.
 use Rattle.std.specs.Prelude.{ℕ, ◌+◌, ◌*◌, ◌≤◌, ◌<◌, ◌≡◌, List, length, Result, Ok, Err}
 use Rattle.paper.specs.declared.Refusal.{Refusal}
-use Rattle.paper.specs.Answers.{ok, refused, ◌>>=◌, input_of, offset_of, refused_by}
+use Rattle.paper.specs.Answers.{ok, ◌>>=◌, refused_by}
 use Rattle.paper.specs.Tokens.{most_tokens}
 use Rattle.paper.specs.Keys.{keys}
 use Rattle.paper.specs.Grammar as G

@@ -13,9 +13,9 @@
 #![tactic(auto)]
 
 ghost use Rattle.std.specs.Prelude.{◌*◌, ◌≤◌, length};
-ghost use Rattle.paper.specs.Tokens.{most_text};
+ghost use Rattle.paper.specs.Tokens.{most_text, most_tokens};
 ghost use Rattle.parts.specs.Found.{Taped, Noded, Finds};
-ghost use Rattle.reading.specs.Grown.{Room, Brief, ShortRoom, RoomFor, CutOn, CutFits, CountedOn, Told, Settled, Settles, of_tree, Grows, RowRoom, Sows};
+ghost use Rattle.reading.specs.Grown.{Room, ShortRoom, RoomFor, Enough, TapeFits, CutOn, CutFits, CountedOn, Told, Settled, Settles, of_tree, Grows, RowRoom, Sows};
 ghost use Rattle.reading.specs.Restricted.{Types, Restricts};
 ghost use Rattle.reading.specs.Parted.{Readies, RestrictsParts};
 ghost use Rattle.reading.specs.Tried.{TriesTree, Tries, TriesParts};
@@ -52,6 +52,13 @@ pub const TRIED_TEXT: usize = 6 * SHORT_TEXT;
 
 // The words of its nodes.
 pub const SHORT_NODE_WORDS: usize = Node::WORDS * SHORT_TEXT;
+
+// The words of a tape for the tokens of a brief text, of a short one, and of any.
+const BRIEF_TAPE: usize = Row::WORDS * BRIEF_TEXT;
+
+const SHORT_TAPE: usize = Row::WORDS * SHORT_TEXT;
+
+const LONG_TAPE: usize = Row::WORDS * MOST_TOKENS;
 
 // The words of the rows of a text's parts.
 pub const PART_WORDS: usize = parts::PART_WORDS;
@@ -106,38 +113,20 @@ fn grow(
     plant(text, tape, count, nodes, rows)
 }
 
-// Three functions cut the text, each on a tape of its own length. That makes them too large for the compiler to put them into their callers, so
-// that no walk over the tree has a tape under it.
-
-fn read_brief(text: &[u8], nodes: &mut [u32], rows: &mut [u32]) -> Result<Grown, Stop>
-    requires brief { Brief text.now }
-    requires room { Room text.now nodes.old }
-    ensures settled { Settled result × Told (Grows text.now nodes.new) (of_tree result) }
-    ensures sows { Sows text.now nodes.new rows.new result }
-{
-    let mut tape = [0u32; Row::WORDS * BRIEF_TEXT];
-    let tokenized = tokens::tokenize(text, &mut tape);
-    grow(text, &tape, tokenized, nodes, rows)
-}
-
-fn read_short(text: &[u8], nodes: &mut [u32], rows: &mut [u32]) -> Result<Grown, Stop>
+// Cuts the text, on a tape of so many words. The function stays out of its callers, so that no walk over the tree has a tape under it.
+#[inline(never)]
+fn read_on<const WORDS: usize>(
+    text: &[u8],
+    nodes: &mut [u32],
+    rows: &mut [u32],
+) -> Result<Grown, Stop>
     requires text_len_bound { length text.now ≤ most_text }
-    requires short_room { ShortRoom nodes.old }
-    ensures told { Told (Grows text.now nodes.new) (of_tree result) }
+    requires few_words { WORDS ≤ most_tokens * 8 }
+    requires tape_fits { TapeFits WORDS text.now nodes.old }
+    ensures settled { (Enough text.now WORDS → Settled result) × Told (Grows text.now nodes.new) (of_tree result) }
     ensures sows { Sows text.now nodes.new rows.new result }
 {
-    let mut tape = [0u32; Row::WORDS * SHORT_TEXT];
-    let tokenized = tokens::tokenize(text, &mut tape);
-    grow(text, &tape, tokenized, nodes, rows)
-}
-
-fn read_long(text: &[u8], nodes: &mut [u32], rows: &mut [u32]) -> Result<Grown, Stop>
-    requires text_len_bound { length text.now ≤ most_text }
-    requires room { Room text.now nodes.old }
-    ensures settled { Settled result × Told (Grows text.now nodes.new) (of_tree result) }
-    ensures sows { Sows text.now nodes.new rows.new result }
-{
-    let mut tape = [0u32; Row::WORDS * MOST_TOKENS];
+    let mut tape = [0u32; WORDS];
     let tokenized = tokens::tokenize(text, &mut tape);
     grow(text, &tape, tokenized, nodes, rows)
 }
@@ -154,11 +143,11 @@ fn read_parts(
     ensures sows { Sows text.now nodes.new rows.new result }
 {
     if text.len() <= BRIEF_TEXT {
-        return read_brief(text, nodes, rows);
+        return read_on::<BRIEF_TAPE>(text, nodes, rows);
     }
     match scratch {
-        Scratch::Short => read_short(text, nodes, rows),
-        Scratch::Long => read_long(text, nodes, rows),
+        Scratch::Short => read_on::<SHORT_TAPE>(text, nodes, rows),
+        Scratch::Long => read_on::<LONG_TAPE>(text, nodes, rows),
     }
 }
 

@@ -37,6 +37,7 @@ pub(crate) fn count_turns(
     counting::clear(counts, n);
     let mut course = Course::none();
     let mut turns: usize = MOST_ENTRIES + 1;
+    // A loop, and no `for .. break`: its invariant says what a further turn needs, that the last read filled the room.
     while 0 < turns {
         let got = read_full(file, part);
         if MOST_ENTRIES - course.whole < got / size {

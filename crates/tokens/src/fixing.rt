@@ -81,6 +81,7 @@ pub fn fix(text: &[u8], out: &mut [u8]) -> Result<usize, Refusal>
     let mut n = 0;
     let mut at = 0;
     let mut written = 0;
+    // A loop, and no iterator: a token is as long as it is found to be.
     while at < text.len() {
         let scanned = scan::scan(text, at);
         let found = scanned.found;

@@ -83,6 +83,7 @@ pub fn tokenize(text: &[u8], tape: &mut [u32]) -> Result<usize, Stop>
     let room = rows::room(tape.len());
     let mut n = 0;
     let mut at = 0;
+    // A loop, and no iterator: a token is as long as it is found to be, and many are never handed on as one value (below).
     while at < text.len() {
         // Blanks, words and signs need no scan, whose answer goes through memory.
         if is_blank(text[at]) {

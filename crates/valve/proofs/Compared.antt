@@ -6,8 +6,7 @@ use mathlib.Core.Path.{◌≡◌, refl, sym, ap, ◌∙◌}
 use mathlib.Core.Bool.{Bool, true, false, cond, ◌&&◌, and-false}
 use mathlib.Core.List.{List}
 use lib.ListN.{length}
-use Rattle.paper.specs.declared.Place.{Place}
-use Rattle.paper.specs.Answers.{Answer, says, refusal, Judgement, refused_by}
+use Rattle.paper.specs.Answers.{Answer, says, Judgement, refused_by}
 use Rattle.paper.specs.Grammar as G
 use Rattle.paper.specs.Keys.{Key}
 use Rattle.paper.specs.Entry.{entry_of}
@@ -19,8 +18,7 @@ use Rattle.keys.specs.Says.{keys_in, conforms}
 use Rattle.keys.proofs.Conforming as K
 use Rattle.operands.specs.Conforming.{Conforming}
 use Rattle.trees.specs.Standing.{tree_at}
-use Rattle.reading.specs.Restricted.{Rooted, Restricts}
-use Rattle.reading.proofs.Stages.{not_restricted}
+use Rattle.reading.specs.Restricted.{Rooted}
 use Rattle.valve.specs.declared.rechecks.Beside.TheVariants.{Same, Other}
 use Rattle.valve.specs.Beside.{Compared, same_in}
 use Rattle.valve.proofs.Verdicts as verdicts

@@ -7,9 +7,8 @@ use mathlib.Core.Bool.{true, false}
 use mathlib.Core.List.{List}
 use lib.ListN.{length}
 use borrow.Author.Tests.{le-leb, lt-leb}
-use Rattle.paper.specs.declared.Place.{Place}
 use Rattle.paper.specs.declared.Place.TheVariants as P
-use Rattle.paper.specs.Answers.{ok, refused, ◌>>=◌, input_of, offset_of, refusal, refused_by}
+use Rattle.paper.specs.Answers.{ok, ◌>>=◌, refused_by}
 use Rattle.paper.specs.Keys.{records_in}
 use Rattle.paper.specs.Grammar.{Tree}
 use Rattle.paper.specs.Print.{print}

@@ -10,9 +10,8 @@ use mathlib.Core.List.{List}
 use lib.ListN.{length, take}
 use lib.Dec.{leb}
 use borrow.Author.Tests.{le-leb, lt-leb}
-use Rattle.paper.specs.declared.Place.{Place}
 use Rattle.paper.specs.declared.Place.TheVariants as P
-use Rattle.paper.specs.Answers.{Answer, ok, refused, ◌>>=◌, in_text, in_buffer, input_of, offset_of, says, refusal, refused_by}
+use Rattle.paper.specs.Answers.{Answer, ok, refused, ◌>>=◌, in_text, in_buffer, says, refused_by}
 use Rattle.paper.specs.Tokens.{Token, most_text}
 use Rattle.paper.specs.Calls.{over, laid, lends}
 use Rattle.paper.specs.Fixing.{old_tokens, fixed, fixable, fix_answer, fix_buffer}

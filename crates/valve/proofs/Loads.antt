@@ -5,8 +5,7 @@ use Rattle.paper.specs.declared.Refusal.{Refusal}
 use mathlib.Core.Path.{◌≡◌, refl, sym, ap, ◌∙◌}
 use mathlib.Core.List.{List}
 use lib.ListN.{length}
-use Rattle.paper.specs.declared.Place.{Place}
-use Rattle.paper.specs.Answers.{Answer, ok, refused, ◌>>=◌, Input, input_of, offset_of, says, refused_by}
+use Rattle.paper.specs.Answers.{Answer, ok, refused, ◌>>=◌, Input, says, refused_by}
 use Rattle.paper.specs.Keys.{Key}
 use Rattle.paper.specs.Blocks.{total_of, layout}
 use Rattle.paper.specs.Loading.{instructions_from, types_along, load_check, loaded}

@@ -7,9 +7,8 @@ use mathlib.Core.Path.{◌≡◌, subst}
 use mathlib.Core.List.{List}
 use lib.ListN.{length, take}
 use borrow.Author.Tests.{le-leb, lt-leb, le-ltb}
-use Rattle.paper.specs.declared.Place.{Place}
 use Rattle.paper.specs.declared.Place.TheVariants as P
-use Rattle.paper.specs.Answers.{refused, input_of, offset_of, refusal, refused_by}
+use Rattle.paper.specs.Answers.{refusal, refused_by}
 use Rattle.paper.specs.Tokens.{most_text}
 use Rattle.paper.specs.Grammar.{Tree}
 use Rattle.paper.specs.Print.{rung, looser, enclosed, print}
@@ -18,7 +17,7 @@ use Rattle.paper.specs.Promised.{PrintResult, PrintPromised}
 use Rattle.trees.specs.Standing.{tree_at}
 use Rattle.printing.specs.Writing.{Wrote}
 use Rattle.printing.proofs.FromTheStart.{Whole, came_to_the_end, came_past_the_room}
-use Rattle.reading.specs.Grown.{Planted, Grows}
+use Rattle.reading.specs.Grown.{Planted}
 use Rattle.valve.specs.Lent.{Lent}
 
 -- a refusal leaves the buffer

@@ -9,9 +9,8 @@ use mathlib.Core.Bool.{Bool, true, false, cond}
 use mathlib.Core.List.{List, [], ◌∷◌}
 use lib.ListN.{length, get_or, length-map}
 use borrow.Author.Tests.{eq-eqb, ne_eqb, le-leb, lt-leb}
-use Rattle.paper.specs.declared.Place.{Place}
 use Rattle.paper.specs.declared.Place.TheVariants as P
-use Rattle.paper.specs.Answers.{Answer, ok, refused, ◌>>=◌, Input, in_entry, input_of, offset_of, Ran, refusal, refused_by}
+use Rattle.paper.specs.Answers.{Answer, ok, refused, ◌>>=◌, Input, in_entry, Ran, refused_by}
 use Rattle.paper.specs.Keys.{Key, keys}
 use Rattle.paper.specs.Entry.{Entry, entry_of}
 use Rattle.paper.specs.Loading.{program, loaded, run_along, left_true}

@@ -1,11 +1,9 @@
 -- From the answer of a check and a walk over the tree to that of `summarize`.
 use Prim.Native.Nat.{ℕ}
-use Rattle.std.specs.Prelude.{Result, Err}
 use Rattle.paper.specs.declared.Refusal.{Refusal}
 use mathlib.Core.Path.{◌≡◌}
 use mathlib.Core.List.{List}
-use Rattle.paper.specs.declared.Place.{Place}
-use Rattle.paper.specs.Answers.{ok, refused, input_of, offset_of, refused_by}
+use Rattle.paper.specs.Answers.{ok, refused_by}
 use Rattle.paper.specs.Named as P
 use Rattle.paper.specs.Named.{names, marked, summary_answer}
 use Rattle.keys.specs.Says.{keys_in}

@@ -7,9 +7,8 @@ use mathlib.Core.Path.{◌≡◌, refl, sym, ap, subst, ◌∙◌}
 use mathlib.Core.List.{List}
 use lib.ListN.{length, replicate, length-map}
 use borrow.Author.Tests.{le-leb, lt-leb}
-use Rattle.paper.specs.declared.Place.{Place}
 use Rattle.paper.specs.declared.Place.TheVariants as P
-use Rattle.paper.specs.Answers.{ok, refused, input_of, offset_of, refusal, refused_by}
+use Rattle.paper.specs.Answers.{ok, refused_by}
 use Rattle.paper.specs.Calls.{restriction, over}
 use Rattle.paper.specs.Counting.{entry_size, whole_in, cut_in, most_entries, Counts, counts_of, counted, count_answer, count_numbers}
 use Rattle.paper.specs.Promised.{CountResult, CountPromised}

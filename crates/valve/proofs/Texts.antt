@@ -2,18 +2,15 @@
 use Prim.Native.Nat.{ℕ, ◌≤◌, ◌<◌}
 use Rattle.std.specs.Prelude.{Result, Ok, Err}
 use Rattle.paper.specs.declared.Refusal.{Refusal}
-use mathlib.Core.Path.{◌≡◌, sym, ◌∙◌, ap, subst}
+use mathlib.Core.Path.{◌≡◌, sym, ◌∙◌, ap}
 use mathlib.Core.List.{List}
 use lib.ListN.{length}
 use borrow.Author.Tests.{le-leb, lt-leb}
-use Rattle.paper.specs.declared.Place.{Place}
-use Rattle.paper.specs.Answers.{Answer, ok, refused, ◌>>=◌, in_text, input_of, offset_of, refused_by, says}
+use Rattle.paper.specs.Answers.{Answer, ok, refused, ◌>>=◌, in_text, refused_by, says}
 use Rattle.paper.specs.Tokens.{most_text}
 use Rattle.paper.specs.Grammar as G
 use Rattle.paper.specs.Calls.{tree, Restriction, restriction, read_answer, check_answer}
-use Rattle.reading.specs.Grown.{Planted, Grows}
-use Rattle.reading.specs.Restricted.{Restricts}
-use Rattle.reading.proofs.Stages.{not_restricted, rooted}
+use Rattle.reading.specs.Grown.{Grows}
 
 module _ (text : List ℕ) where
   pub too_long : most_text < length text → refused 1 in_text most_text ≡ read_answer text

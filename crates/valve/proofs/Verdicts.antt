@@ -5,8 +5,7 @@ use Rattle.paper.specs.declared.Refusal.{Refusal}
 use mathlib.Core.Path.{◌≡◌, sym, ◌∙◌, ap}
 use mathlib.Core.Bool.{Bool}
 use mathlib.Core.List.{List}
-use Rattle.paper.specs.declared.Place.{Place}
-use Rattle.paper.specs.Answers.{ok, refused, ◌>>=◌, input_of, offset_of, says, refused_by}
+use Rattle.paper.specs.Answers.{ok, ◌>>=◌, says, refused_by}
 use Rattle.paper.specs.Grammar as G
 use Rattle.paper.specs.Entry.{entry_of}
 use Rattle.paper.specs.Meaning.{value_of, is_true}

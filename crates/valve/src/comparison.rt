@@ -27,9 +27,10 @@ fn agreement(same: bool) -> Agreement
     ensures { agrees result ≡ same }
 {
     if same {
-        return Agreement::Agrees;
+        Agreement::Agrees
+    } else {
+        Agreement::Differs
     }
-    Agreement::Differs
 }
 
 // Whether the first `count` instructions of blocks are the parts in some order.

@@ -2,7 +2,6 @@
 ghost use Rattle.std.specs.Prelude.{◌≤◌, length};
 ghost use Rattle.paper.specs.Tokens.{most_text};
 ghost use Rattle.paper.specs.Promised.{FixPromised};
-ghost use Rattle.reading.specs.Grown.{Short};
 
 use crate::style;
 use paper::{Place, Refusal, refused};
@@ -25,19 +24,13 @@ fn fix_in(text: &[u8], scratch: &mut [u8], buffer: &mut [u8]) -> Result<usize, R
     Ok(n)
 }
 
-fn fix_short(text: &[u8], buffer: &mut [u8]) -> Result<usize, Refusal>
-    requires { Short text.now }
+// With scratch of so many bytes, as many as the text has at least.
+fn fix_on<const BYTES: usize>(text: &[u8], buffer: &mut [u8]) -> Result<usize, Refusal>
+    requires few_bytes { BYTES ≤ most_text }
+    requires text_fits { length text.now ≤ BYTES }
     ensures { FixPromised text.now buffer.old (record { answer = result; buffer = buffer.new }) }
 {
-    let mut scratch = [0u8; reading::SHORT_TEXT];
-    fix_in(text, &mut scratch, buffer)
-}
-
-fn fix_long(text: &[u8], buffer: &mut [u8]) -> Result<usize, Refusal>
-    requires { length text.now ≤ most_text }
-    ensures { FixPromised text.now buffer.old (record { answer = result; buffer = buffer.new }) }
-{
-    let mut scratch = [0u8; reading::MOST_TEXT];
+    let mut scratch = [0u8; BYTES];
     fix_in(text, &mut scratch, buffer)
 }
 
@@ -52,7 +45,8 @@ pub fn fix_octal(text: &[u8], buffer: &mut [u8]) -> Result<usize, Refusal>
         });
     }
     if text.len() <= reading::SHORT_TEXT {
-        return fix_short(text, buffer);
+        fix_on::<{ reading::SHORT_TEXT }>(text, buffer)
+    } else {
+        fix_on::<{ reading::MOST_TEXT }>(text, buffer)
     }
-    fix_long(text, buffer)
 }

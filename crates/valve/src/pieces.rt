@@ -20,8 +20,7 @@ pub fn text_piece<'t>(text: &'t [u8], why: Explanation) -> &'t [u8]
 {
     match why {
         Explanation::Part(_, _, from, to) => trees::stretch(text, from, to),
-        Explanation::Key(_, _, _) => trees::stretch(text, 0, 0),
-        Explanation::Nothing(_) => trees::stretch(text, 0, 0),
+        Explanation::Key(..) | Explanation::Nothing(_) => trees::stretch(text, 0, 0),
     }
 }
 
@@ -30,9 +29,8 @@ pub fn list_piece<'l>(list: &'l [u8], why: Explanation) -> &'l [u8]
     ensures { InList why list.entry result }
 {
     match why {
-        Explanation::Part(_, _, _, _) => trees::stretch(list, 0, 0),
         Explanation::Key(_, from, to) => trees::stretch(list, from, to),
-        Explanation::Nothing(_) => trees::stretch(list, 0, 0),
+        Explanation::Part(..) | Explanation::Nothing(_) => trees::stretch(list, 0, 0),
     }
 }
 
@@ -41,11 +39,9 @@ pub fn explain<'t, 'l>(text: &'t [u8], list: &'l [u8], entry: &[u8]) -> Explaine
     ensures { ExplainedPromised text.entry list.entry entry.now result.why result.text result.list }
 {
     let why = reason(text, list, entry);
-    let piece = text_piece(text, why);
-    let name = list_piece(list, why);
     Explained {
-        text: piece,
-        list: name,
+        text: text_piece(text, why),
+        list: list_piece(list, why),
         why,
     }
 }
@@ -54,14 +50,12 @@ pub fn explain<'t, 'l>(text: &'t [u8], list: &'l [u8], entry: &[u8]) -> Explaine
 pub fn explained_text<'t, 'l>(text: &'t [u8], list: &'l [u8], entry: &[u8]) -> &'t [u8]
     ensures { TextShown text.entry list.entry entry.now result }
 {
-    let explained = explain(text, list, entry);
-    explained.text
+    explain(text, list, entry).text
 }
 
 // The piece of the list alone.
 pub fn explained_list<'t, 'l>(text: &'t [u8], list: &'l [u8], entry: &[u8]) -> &'l [u8]
     ensures { ListShown text.entry list.entry entry.now result }
 {
-    let explained = explain(text, list, entry);
-    explained.list
+    explain(text, list, entry).list
 }

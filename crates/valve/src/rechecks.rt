@@ -41,13 +41,10 @@ fn compare_by(list: &[u8], old: &[u8], new: &[u8], nodes: &[u32], root: usize) -
         → Compared text list.now old.now new.now result }
 {
     match keys::check_entry(list, new) {
-        Err(refusal) => return Beside::Other(Err(refusal)),
-        Ok(()) => {}
+        Err(refusal) => Beside::Other(Err(refusal)),
+        Ok(()) if same_by(list, old, new, nodes, root) => Beside::Same,
+        Ok(()) => Beside::Other(verdict::judge_entered(list, new, nodes, root)),
     }
-    if same_by(list, old, new, nodes, root) {
-        return Beside::Same;
-    }
-    Beside::Other(verdict::judge_entered(list, new, nodes, root))
 }
 
 fn compare_long(text: &[u8], list: &[u8], old: &[u8], new: &[u8]) -> Beside
@@ -75,8 +72,7 @@ fn compare(text: &[u8], list: &[u8], old: &[u8], new: &[u8]) -> Beside
 pub fn recheck(text: &[u8], list: &[u8], old: &[u8], earlier: Judgement, new: &[u8]) -> Rechecking
     ensures { RecheckPromised text.now list.now old.now earlier new.now result }
 {
-    let found = compare(text, list, old, new);
-    match found {
+    match compare(text, list, old, new) {
         Beside::Same => Rechecking::Reused(earlier),
         Beside::Other(judgement) => Rechecking::Judged(judgement),
     }

@@ -24,22 +24,16 @@ fn run_one(list: &[u8], blocks: &[u8], entry: &[u8], n: usize) -> Result<Ended, 
     }
     let mut answer = [machine::REFUSED; 1];
     let steps = machine::run_each(list, blocks, entry, n, &mut answer) as usize;
-    let verdict = answer[0];
-    if verdict == machine::ACCEPTED {
-        return Ok(Ended {
-            verdict: Verdict::Accepted,
-            steps: steps,
-        });
-    }
-    if verdict == machine::VIOLATED {
-        return Ok(Ended {
-            verdict: Verdict::Violated,
-            steps: steps,
-        });
-    }
-    keys::check_entry(list, entry)?;
-    // An entry that conforms has one of the two bytes.
-    unreachable!()
+    let verdict = match answer[0] {
+        machine::ACCEPTED => Verdict::Accepted,
+        machine::VIOLATED => Verdict::Violated,
+        _ => {
+            keys::check_entry(list, entry)?;
+            // An entry that conforms has one of the two bytes.
+            unreachable!()
+        }
+    };
+    Ok(Ended { verdict, steps })
 }
 
 // What the blocks say of an entry, and in how many steps. They are loaded here, whoever loaded them before.
@@ -81,7 +75,7 @@ fn run_table(
     let steps = machine::run_each(list, blocks, entries, n, answers);
     Ok(RanAll {
         entries: whole,
-        steps: steps,
+        steps,
     })
 }
 

@@ -1,7 +1,5 @@
 // A text in house style: the refusals of `read`, then 21.
 ghost use Rattle.std.specs.Prelude.{◌≡◌, ◌+◌, ◌*◌, ◌≤◌, length, take};
-ghost use Rattle.paper.specs.declared.Place.TheVariants as P;
-ghost use Rattle.paper.specs.Answers.{refusal};
 ghost use Rattle.paper.specs.Tokens.{most_text};
 ghost use Rattle.paper.specs.Print.{print};
 ghost use Rattle.paper.specs.Calls.{over};
@@ -23,15 +21,6 @@ pub(crate) fn lend_first(scratch: &[u8], n: usize, buffer: &mut [u8])
     bytes::copy(&scratch[..n], 0, buffer)
 }
 
-fn too_long(buffer: &[u8]) -> Result<usize, Refusal>
-    ensures { result ≡ refusal 21 (P.Buffer (length buffer.now)) }
-{
-    Err(Refusal {
-        number: refused::PRINT_LONG,
-        place: Place::Buffer(buffer.len()),
-    })
-}
-
 // The print of the tree at a node. It is written to scratch first, so that the buffer is known to be large enough before its first byte
 // changes.
 pub(crate) fn lend_print(
@@ -45,11 +34,11 @@ pub(crate) fn lend_print(
 {
     let mut scratch = [0u8; reading::MOST_TEXT];
     let n = printing::write_tree(text, nodes, node, Rung::Sequel, 0, &mut scratch);
-    if reading::MOST_TEXT < n {
-        return too_long(buffer);
-    }
-    if buffer.len() < n {
-        return too_long(buffer);
+    if reading::MOST_TEXT < n || buffer.len() < n {
+        return Err(Refusal {
+            number: refused::PRINT_LONG,
+            place: Place::Buffer(buffer.len()),
+        });
     }
     lend_first(&scratch, n, buffer);
     Ok(n)

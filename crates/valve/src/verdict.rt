@@ -1,9 +1,10 @@
 // An entry against a text.
 ghost use Rattle.std.specs.Prelude.{◌≡◌, List, ℕ, ◌+◌, ◌*◌, ◌≤◌, length};
 ghost use Rattle.paper.specs.Answers.{ok, judgement_says};
+ghost use Rattle.paper.specs.Tokens.{most_tokens};
 ghost use Rattle.paper.specs.Promised.{JudgePromised};
 ghost use Rattle.operands.specs.Conforming.{Conforming};
-ghost use Rattle.reading.specs.Grown.{Brief};
+ghost use Rattle.reading.specs.Grown.{Enough};
 ghost use Rattle.reading.specs.Restricted.{Rooted};
 
 use paper::{Judgement, Verdict};
@@ -12,10 +13,11 @@ use tokens::Stop;
 pub(crate) fn verdict(accepted: bool) -> Judgement
     ensures { judgement_says result ≡ ok accepted }
 {
-    if accepted {
-        return Ok(Verdict::Accepted);
-    }
-    Ok(Verdict::Violated)
+    Ok(if accepted {
+        Verdict::Accepted
+    } else {
+        Verdict::Violated
+    })
 }
 
 // By the tree at node `root`, of a text that passed, what it is worth on an entry that conforms.
@@ -37,19 +39,13 @@ fn judge_by(list: &[u8], entry: &[u8], nodes: &[u32], root: usize) -> Judgement
     judge_entered(list, entry, nodes, root)
 }
 
-fn judge_brief(text: &[u8], list: &[u8], entry: &[u8]) -> Judgement
-    requires { Brief text.now }
+// With nodes of so many words, which are enough for the text.
+fn judge_on<const WORDS: usize>(text: &[u8], list: &[u8], entry: &[u8]) -> Judgement
+    requires few_words { WORDS ≤ most_tokens * 8 }
+    requires enough { Enough text.now WORDS }
     ensures { JudgePromised text.now list.now entry.now result }
 {
-    let mut nodes = [0u32; reading::BRIEF_NODE_WORDS];
-    let root = reading::restrict(text, list, &mut nodes)?;
-    judge_by(list, entry, &nodes, root)
-}
-
-fn judge_long(text: &[u8], list: &[u8], entry: &[u8]) -> Judgement
-    ensures { JudgePromised text.now list.now entry.now result }
-{
-    let mut nodes = [0u32; reading::NODE_WORDS];
+    let mut nodes = [0u32; WORDS];
     let root = reading::restrict(text, list, &mut nodes)?;
     judge_by(list, entry, &nodes, root)
 }
@@ -59,12 +55,12 @@ pub fn judge(text: &[u8], list: &[u8], entry: &[u8]) -> Judgement
     ensures { JudgePromised text.now list.now entry.now result }
 {
     if text.len() <= reading::BRIEF_TEXT {
-        return judge_brief(text, list, entry);
+        return judge_on::<{ reading::BRIEF_NODE_WORDS }>(text, list, entry);
     }
     let mut nodes = [0u32; reading::SHORT_NODE_WORDS];
     match reading::try_restrict(text, list, &mut nodes) {
         Ok(root) => judge_by(list, entry, &nodes, root),
         Err(Stop::Refused(refusal)) => Err(refusal),
-        Err(Stop::Over) => judge_long(text, list, entry),
+        Err(Stop::Over) => judge_on::<{ reading::NODE_WORDS }>(text, list, entry),
     }
 }

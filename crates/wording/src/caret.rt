@@ -42,6 +42,7 @@ fn line_of(text: &[u8], at: usize) -> Line
     let mut number = 1;
     let mut from = 0;
     let mut to = run_end(text, 0, Run::Line);
+    // A loop, and no `split`: a line is answered by its offsets.
     while to < at {
         number += 1;
         from = to + 1;

@@ -27,6 +27,7 @@ fn changes(rt: &impl Print, text: &[u8], made: &[u8], telling: bool) -> io::Resu
     let mut count = 0;
     let mut at = 1;
     let mut to = 1;
+    // A loop, and no `zip`: the two texts go on by different lengths at a numeral that was written anew.
     while at < text.len() {
         if made.len() <= to {
             return Ok(count);

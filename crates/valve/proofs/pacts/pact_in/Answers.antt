@@ -1,8 +1,6 @@
 -- `valve::pact_in` meets its contract: the draft's fault, that its text is over a limit, or the text of its tree.
-use mathlib.Core.List.{List}
 use mathlib.Core.Path.{subst}
 use lib.ListN.{length}
-use Prim.Native.Nat.{ℕ}
 use Rattle.paper.specs.Keys.{records_in}
 use Rattle.paper.specs.Contract.{clauses}
 use Rattle.drafting.specs.Drafts.{Drafts}

@@ -15,14 +15,14 @@ same_by-requires-clause-conforming c =
     let x = c.check_entry in
     conforming _ _ _ _ _ c.requires.by_index.1 x.result x.ensures c.in-Ok.is
 
-pub returns-then-same_by : goal.returns-then-same_by
-returns-then-same_by c text passed = reused_as_given _ _ _ _ (sym (c.same_by.ensures text passed) ∙ c.if-same_by.true)
+pub returns-in-Ok : goal.returns-in-Ok
+returns-in-Ok c text passed = reused_as_given _ _ _ _ (sym (c.same_by.ensures text passed) ∙ c.if-same_by.true)
 
 pub judge_entered-requires-clause-conforming : goal.judge_entered-requires-clause-conforming
 judge_entered-requires-clause-conforming c =
     let x = c.check_entry in
     conforming _ _ _ _ _ c.requires.by_index.1 x.result x.ensures c.in-Ok.is
 
-pub returns : goal.returns
-returns c text passed =
+pub returns-in-Ok-2 : goal.returns-in-Ok-2
+returns-in-Ok-2 c text passed =
     judged_afresh _ _ _ _ (sym (c.same_by.ensures text passed) ∙ c.if-same_by.false) c.judge_entered.result (c.judge_entered.ensures text passed)

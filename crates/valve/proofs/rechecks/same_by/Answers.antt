@@ -3,7 +3,7 @@
 use mathlib.Core.Path.{◌∙◌}
 use Rattle.reading.proofs.Stages.{root_known}
 use Rattle.valve.proofs.Verdicts.{conforming}
-use Rattle.valve.proofs.Compared.{both_enter, old_refused}
+use Rattle.valve.proofs.Compared.{both_enter}
 use Rattle.valve.proofs.rechecks.same_by.Goals as goal
 
 pub same_named-requires : goal.same_named-requires

@@ -1,6 +1,5 @@
 -- `valve::judge` meets its contract: it goes on from what `try_restrict` answers with few nodes (`root_found`): the refusal of text or list
--- (`not_passed`), or the judgement by the root (`judge_by`); and where that is over it lends more (`judge_long`).
-use Rattle.reading.proofs.Stages.{rooted}
+-- (`not_passed`), or the judgement by the root (`judge_by`); and where that is over it lends more (`judge_on`).
 use Rattle.valve.proofs.Tries.{root_found, root_refused}
 use Rattle.valve.proofs.Verdicts.{not_passed}
 use Rattle.valve.proofs.verdict.judge.Goals as goal

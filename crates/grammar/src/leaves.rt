@@ -131,14 +131,7 @@ fn numeral(tape: &[u32], at: usize, free: usize, nodes: &mut [u32]) -> Result<Ta
 fn undotted(bytes: &[u8]) -> bool
     ensures { result ≡ paper.undotted bytes.now }
 {
-    let mut i = 0;
-    while i < bytes.len() {
-        if bytes[i] == b'.' {
-            return false;
-        }
-        i += 1;
-    }
-    true
+    bytes.iter().take_while(|byte| **byte != b'.').count() == bytes.len()
 }
 
 // Whether an undotted word stands at an index.

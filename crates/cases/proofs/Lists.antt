@@ -1,5 +1,5 @@
 -- A list of bytes, cut: one byte more, the first word, the values of characters, the words of a line, and lines.
-use Prim.Native.Nat.{ℕ, zero, suc, ◌+◌, ◌-◌, ◌/◌, ◌≤◌, ◌<◌}
+use Prim.Native.Nat.{ℕ, zero, suc, ◌+◌, ◌*◌, ◌-◌, ◌/◌, ◌%◌, ◌≤◌, ◌<◌}
 use mathlib.Core.Path.{◌≡◌, refl, sym, ap, ap₂, ◌∙◌}
 use mathlib.Core.Bool.{Bool, true, false, not, cond}
 use mathlib.Core.Logic.{◌⊎◌, inl, inr, ⊎_elim}
@@ -8,25 +8,21 @@ use native.Mathlib.Nat.{add-zero}
 use native.Mathlib.Decide.{dec_lt}
 use native.Mathlib.Omega.{arith}
 use lib.ListN.{length, get_or, take, drop, length-drop}
-use lib.Seq.{drop-drop}
+use lib.Seq.{drop-cons, drop-drop}
 use lib.Dec.{eqb, ltb}
 use borrow.Author.Tests.{ltb-true, lt-ltb, le-ltb, lt-leb}
-use Rattle.paper.specs.Numbers.{byte_at, bytes_at}
-use Rattle.paper.specs.Tokens.{span}
-use Rattle.spelling.proofs.Spans.{cut}
+use Rattle.paper.specs.Numbers.{byte_at}
+use Rattle.paper.specs.Tokens.{span, digit_of}
 use Rattle.cases.specs.Places.{stop_from}
 use Rattle.cases.specs.Names.{longer, words_of}
-use Rattle.cases.specs.Words.{value_at, spelled, word_bytes, next_word, words_from, line_bytes}
+use Rattle.cases.specs.Words.{six_digits, value_at, spelled, word_bytes, next_word, words_from, line_bytes}
 use Rattle.cases.specs.Inputs.{heads, last_of, gives}
 
--- the bytes up to an offset, from one before it on
-pub bytes_on : (s : List ℕ) (i to : ℕ) → i < to → to ≤ length s → bytes_at s i (to - i) ≡ get_or s i 0 ∷ bytes_at s (i + 1) (to - (i + 1))
-bytes_on s i to h l =
-    let e : to - i ≡ suc (to - (i + 1)) = omega arith in
-    rw (e, cut s i (omega arith))
-
-pub bytes_none : (s : List ℕ) (i to : ℕ) → to ≤ i → bytes_at s i (to - i) ≡ []
-bytes_none s i to h = let e : to - i ≡ 0 = omega arith in rw e
+-- one digit more of a number
+pub digits_on : (s : List ℕ) (n i : ℕ) → i < length s → six_digits (n % 100000 * 10 + digit_of (get_or s i 0)) (drop (i + 1) s) ≡ six_digits n (drop i s)
+digits_on s n i h =
+    let e : i + 1 ≡ suc i = omega arith in
+    rw (e, drop-cons s i 0 h)
 
 -- the first word, and those after it
 words_cut : (s : List ℕ) → 0 < length s → words_of s ≡ take (span (ltb 32) s) s ∷ words_of (drop (suc (span (ltb 32) s)) s)

@@ -69,8 +69,8 @@ copies_more : (n : ℕ) (w : List ℕ) → copies n w ++ w ≡ copies (suc n) w
 copies_more zero w = sym (append-nil w)
 copies_more (suc n) w = append_assoc w (copies n w) w ∙ ap (λ (r : List ℕ). w ++ r) (copies_more n w)
 
-pub put_copy : {room first last : List ℕ} {at end past : ℕ} {w : List ℕ} (times left : ℕ) → 0 < left → left ≤ times
-    → Put room at (copies (times - left) w) first end → Put first end w last past → Put room at (copies (times - (left - 1)) w) last past
-put_copy {w} times left h l p q =
-    let one : times - (left - 1) ≡ suc (times - left) = omega arith in
-    rw one (put_as (copies_more (times - left) w) (put_more p q))
+pub put_copy : {room first last : List ℕ} {at end past : ℕ} {w : List ℕ} (n : ℕ)
+    → Put room at (copies n w) first end → Put first end w last past → Put room at (copies (n + 1) w) last past
+put_copy {w} n p q =
+    let one : n + 1 ≡ suc n = omega arith in
+    rw one (put_as (copies_more n w) (put_more p q))

@@ -7,7 +7,7 @@ use crate::names::{
 use crate::scan::{not_understood, part};
 use blocks::Block;
 use paper::refused::ENTRY_RULE;
-use paper::{Explanation, Judgement, Place, Refusal, Summary, Verdict};
+use paper::{Explanation, Judgement, Place, Refusal, Verdict};
 use spelling::bytes::same_bytes;
 use std::io;
 
@@ -21,12 +21,13 @@ fn write_code(rt: &impl Print, code: &[u8], room: &mut [u8]) -> io::Result<()> {
 }
 
 // For its blocks alone a text is translated without a word, unless it is refused.
-fn say_translation(rt: &impl Print, call: usize, translation: Result<usize, Refusal>) -> io::Result<()> {
-    if call == TRANSLATE {
+fn say_translation(
+    rt: &impl Print,
+    call: usize,
+    translation: Result<usize, Refusal>,
+) -> io::Result<()> {
+    if call == TRANSLATE || translation.is_err() {
         return lines::say_done(rt, b"translated", translation);
-    }
-    if let Err(_) = translation {
-        lines::say_done(rt, b"translated", translation)?
     }
     Ok(())
 }
@@ -42,28 +43,18 @@ fn show(rt: &impl Print, bytes: &[u8]) -> io::Result<()> {
     Ok(())
 }
 
-fn say_print(rt: &impl Print, printing: Result<usize, Refusal>, room: &[u8]) -> io::Result<()> {
-    lines::say_done(rt, b"printed", printing)?;
-    if let Ok(n) = printing {
-        show(rt, lines::start(room, n))?
+// What a call answered that writes into the room, and what it wrote, if that is short.
+fn say_written(
+    rt: &impl Print,
+    what: &[u8],
+    written: Result<usize, Refusal>,
+    room: &[u8],
+) -> io::Result<()> {
+    lines::say_done(rt, what, written)?;
+    match written {
+        Ok(n) => show(rt, lines::start(room, n)),
+        Err(_) => Ok(()),
     }
-    Ok(())
-}
-
-fn say_fixing(rt: &impl Print, fixing: Result<usize, Refusal>, room: &[u8]) -> io::Result<()> {
-    lines::say_done(rt, b"fixed", fixing)?;
-    if let Ok(n) = fixing {
-        show(rt, lines::start(room, n))?
-    }
-    Ok(())
-}
-
-fn say_drafting(rt: &impl Print, drafting: Result<usize, Refusal>, room: &[u8]) -> io::Result<()> {
-    lines::say_done(rt, b"drafted", drafting)?;
-    if let Ok(n) = drafting {
-        show(rt, lines::start(room, n))?
-    }
-    Ok(())
 }
 
 // The text of a contract, with the table that is given in bytes.
@@ -76,11 +67,8 @@ fn draft(
 ) -> io::Result<()> {
     let n = lines::kept(table.len() / lines::NUMBER);
     let numbers = lines::numbers(table, 0, n);
-    say_drafting(
-        rt,
-        valve::pact(contract, lines::start(&numbers, n), names, room),
-        room,
-    )
+    let drafted = valve::pact(contract, lines::start(&numbers, n), names, room);
+    say_written(rt, b"drafted", drafted, room)
 }
 
 // What broke for an entry, in numbers, and the piece itself as `explain` hands it back.
@@ -98,14 +86,11 @@ fn explain(rt: &impl Print, text: &[u8], list: &[u8], entry: &[u8]) -> io::Resul
 fn summarize(rt: &impl Print, text: &[u8], list: &[u8]) -> io::Result<()> {
     let named = valve::summarize(text, list);
     lines::say_summarizing(rt, named)?;
-    if let Ok(Summary {
-keys: keys,
-priority: _,
-}) = named {
-        lines::say(rt, b" ")?;
-        lines::say_number(rt, valve::count_keys(keys) as u64)?
-    }
-    Ok(())
+    let Ok(summary) = named else {
+        return Ok(());
+    };
+    lines::say(rt, b" ")?;
+    lines::say_number(rt, u64::from(valve::count_keys(summary.keys)))
 }
 
 // The earlier answer that a word tells; any other word tells a refusal.
@@ -117,9 +102,9 @@ fn earlier_answer(word: &[u8]) -> Judgement {
         return Ok(Verdict::Violated);
     }
     Err(Refusal {
-number: ENTRY_RULE,
-place: Place::Entry(0),
-})
+        number: ENTRY_RULE,
+        place: Place::Entry(0),
+    })
 }
 
 // The new entry against the old one that is given, with its earlier answer.
@@ -155,8 +140,7 @@ fn show_answers(rt: &impl Print, answers: &[u8]) -> io::Result<()> {
     }
     lines::say(rt, b":")?;
     for answer in answers {
-        lines::say(rt, b" ")?;
-        lines::say_hex(rt, *answer)?;
+        print!(rt; " {answer:02x}")?;
     }
     Ok(())
 }
@@ -183,10 +167,10 @@ fn run_all(
 ) -> io::Result<()> {
     let mut answers = [0u8; 65536];
     let n = put_input(rt, file, at, ANSWERS, &mut answers, 0)?;
-    if n <= answers.len() {
-        return judge_all(rt, list, blocks, entries, &mut answers[..n]);
+    match answers.get_mut(..n) {
+        Some(lent) => judge_all(rt, list, blocks, entries, lent),
+        None => not_understood(rt),
     }
-    not_understood(rt)
 }
 
 // The calls that write into the room.
@@ -199,8 +183,14 @@ fn write(
 ) -> io::Result<()> {
     match call {
         CODE => write_code(rt, text, room),
-        PRINT => say_print(rt, valve::print(text, room), room),
-        FIX_OCTAL => say_fixing(rt, valve::fix_octal(text, room), room),
+        PRINT => {
+            let printed = valve::print(text, room);
+            say_written(rt, b"printed", printed, room)
+        }
+        FIX_OCTAL => {
+            let fixed = valve::fix_octal(text, room);
+            say_written(rt, b"fixed", fixed, room)
+        }
         _ => say_translation(rt, call, valve::translate(text, list, room)),
     }
 }

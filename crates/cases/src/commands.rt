@@ -30,8 +30,8 @@ fn show(rt: &impl Print, rest: &[u8], room: &[u8]) -> io::Result<()> {
 }
 
 fn put_byte(room: &mut [u8], at: usize, byte: u8) {
-    if at < room.len() {
-        room[at] = byte
+    if let Some(place) = room.get_mut(at) {
+        *place = byte
     }
 }
 
@@ -96,10 +96,10 @@ fn step(rt: &impl Print, file: &[u8], at: usize, room: &mut [u8]) -> io::Result<
 {
     let command = command_at(file, at);
     let n = number(rt, rest_of(file, last(file, at, ROOM)), 0)?;
-    if n <= room.len() {
-        return act(rt, command, file, at, &mut room[..n]);
+    match room.get_mut(..n) {
+        Some(lent) => act(rt, command, file, at, lent),
+        None => not_understood(rt),
     }
-    not_understood(rt)
 }
 
 // Goes through a file of cases, line by line.

@@ -5,7 +5,7 @@ ghost use Rattle.cases.specs.Words.{Put};
 
 use crate::names::{TEXT, command_at};
 use crate::scan::{byte_at, scan};
-use crate::words::{put, put_words};
+use crate::words::{Stretch, put, put_words};
 use std::io;
 
 // Which input a line gives: a text after a colon, or that of its name.
@@ -56,7 +56,12 @@ pub(crate) fn put_input(
 {
     let end = scan(file, last(file, at, input), b':');
     if byte_at(file, end) == b':' {
-        return put(rt, file, end + 2, scan(file, end, b'\n'), 1, room, to);
+        let text = Stretch {
+            s: file,
+            from: end + 2,
+            to: scan(file, end, b'\n'),
+        };
+        return put(rt, text, 1, room, to);
     }
     put_words(rt, file, end, room, to)
 }

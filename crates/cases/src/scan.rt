@@ -9,7 +9,7 @@ use std::io;
 pub(crate) fn byte_at(s: &[u8], at: usize) -> u8
     ensures { result ≡ byte_at s.now at }
 {
-    if at < s.len() { s[at] } else { 0 }
+    s.get(at).copied().unwrap_or(0)
 }
 
 // Where the first byte stands, from an offset on, that is at most a limit. A limit of a line's end finds the line's end, one of a blank
@@ -18,14 +18,12 @@ pub(crate) fn scan(s: &[u8], at: usize, limit: u8) -> usize
     requires { at ≤ length s.now }
     ensures { StopsAt s.now at limit result }
 {
-    let mut i = at;
-    while i < s.len() {
+    for i in at..s.len() {
         if s[i] <= limit {
             return i;
         }
-        i += 1;
     }
-    i
+    s.len()
 }
 
 // The bytes from an offset up to another; none where these are no offsets of a part.

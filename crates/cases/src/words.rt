@@ -9,14 +9,22 @@ use crate::scan::{byte_at, not_understood, scan};
 use spelling::bytes::digit_of;
 use std::io;
 
-fn digit(rt: &impl Print, s: &[u8], at: usize, base: u8) -> io::Result<usize>
-    ensures { IfOk result (λ d. (d ≡ digit_of (byte_at s.now at)) × (d < 256)) }
+// The bytes of a file between two offsets, with those after them: a pair of digits may go on there.
+#[derive(Clone, Copy)]
+pub struct Stretch<'a> {
+    pub s: &'a [u8],
+    pub from: usize,
+    pub to: usize,
+}
+
+fn digit(rt: &impl Print, byte: u8, base: u8) -> io::Result<usize>
+    ensures { IfOk result (λ d. (d ≡ digit_of byte) × (d < 256)) }
 {
-    let d = digit_of(byte_at(s, at));
+    let d = digit_of(byte);
     if base <= d {
         not_understood(rt)?;
     }
-    Ok(d as usize)
+    Ok(usize::from(d))
 }
 
 // The decimal number of at most six digits that stands at an offset, before a blank or a star.
@@ -24,12 +32,10 @@ pub(crate) fn number(rt: &impl Print, s: &[u8], at: usize) -> io::Result<usize>
     requires { at ≤ length s.now }
     ensures { IfOk result (λ n. n ≡ number_in s.now at) }
 {
-    let to = scan(s, at, b'*');
+    let digits = &s[at..scan(s, at, b'*')];
     let mut n = 0;
-    let mut i = at;
-    while i < to {
-        n = n % 100000 * 10 + digit(rt, s, i, 10)?;
-        i += 1;
+    for byte in digits {
+        n = n % 100000 * 10 + digit(rt, *byte, 10)?;
     }
     Ok(n)
 }
@@ -42,25 +48,24 @@ fn value(rt: &impl Print, s: &[u8], at: usize, width: usize) -> io::Result<u8>
     if width == 1 {
         return Ok(s[at]);
     }
-    let high = digit(rt, s, at, 16)?;
-    let low = digit(rt, s, at + 1, 16)?;
+    let high = digit(rt, s[at], 16)?;
+    let low = digit(rt, byte_at(s, at + 1), 16)?;
     Ok(((high * 16 + low) % 256) as u8)
 }
 
 // Puts bytes that are 1 or 2 characters wide into a room from an offset on, and answers the offset after them.
 pub(crate) fn put(
     rt: &impl Print,
-    s: &[u8],
-    from: usize,
-    to: usize,
+    stretch: Stretch,
     width: usize,
     room: &mut [u8],
     at: usize,
 ) -> io::Result<usize>
-    requires { (0 < width) × (width ≤ 2) × (to ≤ length s.now) }
-    ensures written { IfOk result (λ end. Put room.old at (spelled width s.now from to) room.new end) }
+    requires { (0 < width) × (width ≤ 2) × (stretch.to ≤ length stretch.s.now) }
+    ensures written { IfOk result (λ end. Put room.old at (spelled width stretch.entry.s.now stretch.entry.from stretch.entry.to) room.new end) }
     ensures kept { length room.new ≡ length room.old }
 {
+    let Stretch { s, from, to } = stretch;
     let mut end = at;
     let mut i = from;
     while i < to {
@@ -85,46 +90,47 @@ fn quotes_at(s: &[u8], at: usize) -> usize
 // Puts the bytes of a word without its count.
 fn put_times(
     rt: &impl Print,
-    s: &[u8],
-    from: usize,
-    to: usize,
+    word: Stretch,
     times: usize,
     room: &mut [u8],
     at: usize,
 ) -> io::Result<usize>
-    requires { (from ≤ length s.now + 1) × (to ≤ length s.now) }
-    ensures written { IfOk result (λ end. Put room.old at (copies times (quoted s.now from to)) room.new end) }
+    requires { (word.from ≤ length word.s.now + 1) × (word.to ≤ length word.s.now) }
+    ensures written { IfOk result (λ end. Put room.old at (copies times (quoted word.entry.s.now word.entry.from word.entry.to)) room.new end) }
     ensures kept { length room.new ≡ length room.old }
 {
+    let Stretch { s, from, to } = word;
     let quotes = quotes_at(s, from);
+    let bytes = Stretch {
+        s,
+        from: from + quotes,
+        to,
+    };
     let mut end = at;
-    let mut left = times;
-    while 0 < left {
-        end = put(rt, s, from + quotes, to, 2 - quotes, room, end)?;
-        left -= 1;
+    for _turn in 0..times {
+        end = put(rt, bytes, 2 - quotes, room, end)?;
     }
     Ok(end)
 }
 
 // Puts the bytes of a word. Of its bytes up to a star the first is the star of a count, the quote of a word without one, or the blank after it.
-fn put_word(
-    rt: &impl Print,
-    s: &[u8],
-    from: usize,
-    to: usize,
-    room: &mut [u8],
-    at: usize,
-) -> io::Result<usize>
-    requires { (from ≤ to) × (to ≤ length s.now) }
-    ensures written { IfOk result (λ end. Put room.old at (word_bytes s.now from to) room.new end) }
+fn put_word(rt: &impl Print, word: Stretch, room: &mut [u8], at: usize) -> io::Result<usize>
+    requires { (word.from ≤ word.to) × (word.to ≤ length word.s.now) }
+    ensures written { IfOk result (λ end. Put room.old at (word_bytes word.entry.s.now word.entry.from word.entry.to) room.new end) }
     ensures kept { length room.new ≡ length room.old }
 {
+    let Stretch { s, from, to } = word;
     let star = scan(s, from, b'*');
     if byte_at(s, star) != b'*' {
-        return put_times(rt, s, from, to, 1, room, at);
+        return put_times(rt, word, 1, room, at);
     }
     let times = number(rt, s, from)?;
-    put_times(rt, s, star + 1, to, times, room, at)
+    let counted = Stretch {
+        s,
+        from: star + 1,
+        to,
+    };
+    put_times(rt, counted, times, room, at)
 }
 
 // Where the next word may stand: after a blank, or in a line that begins with a blank, and else nowhere.
@@ -156,7 +162,8 @@ pub(crate) fn put_words(
     let mut i = from;
     while i < s.len() {
         let to = scan(s, i, b' ');
-        end = put_word(rt, s, i, to, room, end)?;
+        let word = Stretch { s, from: i, to };
+        end = put_word(rt, word, room, end)?;
         i = next_word(s, to);
     }
     Ok(end)

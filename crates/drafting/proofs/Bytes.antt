@@ -12,7 +12,8 @@ use Rattle.paper.specs.Pact.{indices_of, left_index, right_index, opcode_of}
 use Rattle.paper.specs.Contract.{Front, fault, continued, with_opcode, index_fits, with_byte}
 use Rattle.drafting.specs.declared.opcodes.Comparator.{Comparator}
 use Rattle.drafting.specs.declared.assertions.Assertion.{Assertion}
-use Rattle.drafting.specs.declared.fronts.Step.{Step}
+use Rattle.std.specs.Prelude as S
+use Rattle.drafting.specs.declared.fronts.Front as R
 use Rattle.drafting.specs.Opcodes.{comparator_meant}
 use Rattle.drafting.specs.Assertions.{assertion_meant, indexed}
 use Rattle.drafting.specs.Fronts.{Steps}
@@ -38,5 +39,5 @@ pub byte_opcode : (names users at b : ℕ) (f : Front) (w : Option P.Comparator)
     → with_opcode at f o ≡ with_byte names users at f w b
 byte_opcode names users at b f w e h = rw (e, h)
 
-pub steps_as : (list table ns : List ℕ) (at : ℕ) {a b : Answer Front} (r : Step) → a ≡ b → Steps list table ns at a r → Steps list table ns at b r
+pub steps_as : (list table ns : List ℕ) (at : ℕ) {a b : Answer Front} (r : S.Option R.Front) → a ≡ b → Steps list table ns at a r → Steps list table ns at b r
 steps_as list table ns at r e h = subst (λ (x : Answer Front). Steps list table ns at x r) e h

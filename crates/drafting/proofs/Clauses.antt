@@ -16,14 +16,11 @@ use Rattle.paper.specs.Pact as P
 use Rattle.paper.specs.Pact.{Clause, Assertion}
 use Rattle.paper.specs.Contract.{Front, fault, continued, with_conjunction}
 use Rattle.paper.specs.Drafting.{inversion, comparison_of, link_of, operand_tree, assertion_tree, clause_tree, sequel_of}
+use Rattle.std.specs.Prelude as S
+use Rattle.std.specs.Prelude.{Some, None}
 use Rattle.drafting.specs.declared.pieces.Piece.{Piece}
 use Rattle.drafting.specs.declared.opcodes.Conjunction.{Conjunction}
-use Rattle.drafting.specs.declared.fronts.Part.{Part}
-use Rattle.drafting.specs.declared.fronts.Part.TheVariants as T
-use Rattle.drafting.specs.declared.fronts.Link.TheVariants as L
-use Rattle.drafting.specs.declared.fronts.Opened.TheVariants as O
 use Rattle.drafting.specs.declared.fronts.Front as R
-use Rattle.drafting.specs.declared.fronts.Step.TheVariants as S
 use Rattle.drafting.specs.Opcodes.{conjunction_meant, linking_meant}
 use Rattle.drafting.specs.Pieces.{Holds, Grown, Operands}
 use Rattle.drafting.specs.Assertions.{names_in}
@@ -57,33 +54,33 @@ module _ (cs : List Clause) (o : Option Clause) (j : Option P.Conjunction) where
 
 -- what is there and what is not
 
-part_as : (list ns : List ℕ) (start : ℕ) {x y : Part} (o : Option Tree) → x ≡ y → PartIs list ns start x o → PartIs list ns start y o
-part_as list ns start o e h = subst (λ (z : Part). PartIs list ns start z o) e h
+part_as : (list ns : List ℕ) (start : ℕ) {x y : S.Option Piece} (o : Option Tree) → x ≡ y → PartIs list ns start x o → PartIs list ns start y o
+part_as list ns start o e h = subst (λ (z : S.Option Piece). PartIs list ns start z o) e h
 
-nothing_there : (list ns : List ℕ) (start : ℕ) (x : Part) → PartIs list ns start x none → x ≡ T.Nothing
-nothing_there list ns start T.Nothing h = refl
-nothing_there list ns start (T.Tree p) h = absurd h
+nothing_there : (list ns : List ℕ) (start : ℕ) (x : S.Option Piece) → PartIs list ns start x none → x ≡ None
+nothing_there list ns start None h = refl
+nothing_there list ns start (Some p) h = absurd h
 
 -- the closed clauses stand within the limit of tokens
-end_most : (list ns : List ℕ) (x : Part) (o : Option Tree) → PartIs list ns 0 x o → end_of x ≤ 1024
-end_most list ns T.Nothing o h = omega arith
-end_most list ns (T.Tree p) none h = absurd h
-end_most list ns (T.Tree p) (some t) h = omega (arith, h.room)
+end_most : (list ns : List ℕ) (x : S.Option Piece) (o : Option Tree) → PartIs list ns 0 x o → end_of x ≤ 1024
+end_most list ns None o h = omega arith
+end_most list ns (Some p) none h = absurd h
+end_most list ns (Some p) (some t) h = omega (arith, h.room)
 
 -- and stay where nodes are changed behind them
-part_stays : (list : List ℕ) (before after : List ℕ) (x : Part) (o : Option Tree) → take (end_of x * 8) after ≡ take (end_of x * 8) before
+part_stays : (list : List ℕ) (before after : List ℕ) (x : S.Option Piece) (o : Option Tree) → take (end_of x * 8) after ≡ take (end_of x * 8) before
     → PartIs list before 0 x o → PartIs list after 0 x o
-part_stays list before after T.Nothing none e h = h
-part_stays list before after T.Nothing (some t) e h = h
-part_stays list before after (T.Tree p) none e h = h
-part_stays list before after (T.Tree p) (some t) e h = still_holds list p.end e (omega arith) h
+part_stays list before after None none e h = h
+part_stays list before after None (some t) e h = h
+part_stays list before after (Some p) none e h = h
+part_stays list before after (Some p) (some t) e h = still_holds list p.end e (omega arith) h
 
 -- there is room to join them with a clause behind them
-closable : (list ns : List ℕ) (x : Part) (o : Option Tree) (c : Piece) (t : Tree) → most_nodes * 8 ≤ length ns → PartIs list ns 0 x o
+closable : (list ns : List ℕ) (x : S.Option Piece) (o : Option Tree) (c : Piece) (t : Tree) → most_nodes * 8 ≤ length ns → PartIs list ns 0 x o
     → Holds list ns (end_of x) c t → Closable x c ns
-closable list ns T.Nothing o c t room h g = tt
-closable list ns (T.Tree p) none c t room h g = absurd h
-closable list ns (T.Tree p) (some u) c t room h g =
+closable list ns None o c t room h g = tt
+closable list ns (Some p) none c t room h g = absurd h
+closable list ns (Some p) (some u) c t room h g =
     record {
       left = small u h.sized;
       some = omega (arith, h.begun);
@@ -97,22 +94,22 @@ closable list ns (T.Tree p) (some u) c t room h g =
           };
     }
 
-pub closable_as : {x : Part} (p c : Piece) (ns : List ℕ) → x ≡ T.Tree p → Closable x c ns → Operands p c ns
-closable_as p c ns e h = subst (λ (y : Part). Closable y c ns) e h
+pub closable_as : {x : S.Option Piece} (p c : Piece) (ns : List ℕ) → x ≡ Some p → Closable x c ns → Operands p c ns
+closable_as p c ns e h = subst (λ (y : S.Option Piece). Closable y c ns) e h
 
 -- a clause and what is closed before it
 
-module _ (list ns : List ℕ) {x : Part} {c : Piece} where
-  pub alone : x ≡ T.Nothing → (o : Option Tree) (t : Tree) → PartIs list ns 0 x o → Holds list ns (end_of x) c t → Grown list ns ns 0 c (sequel_on o t)
-  alone e none t h g = grown_as list ns 0 (subst (λ (y : Part). Holds list ns (end_of y) c t) e g)
+module _ (list ns : List ℕ) {x : S.Option Piece} {c : Piece} where
+  pub alone : x ≡ None → (o : Option Tree) (t : Tree) → PartIs list ns 0 x o → Holds list ns (end_of x) c t → Grown list ns ns 0 c (sequel_on o t)
+  alone e none t h g = grown_as list ns 0 (subst (λ (y : S.Option Piece). Holds list ns (end_of y) c t) e g)
   alone e (some u) t h g = absurd (part_as list ns 0 (some u) e h)
 
-  pub behind_all : (after : List ℕ) (p r : Piece) → x ≡ T.Tree p
+  pub behind_all : (after : List ℕ) (p r : Piece) → x ≡ Some p
       → ((t u : Tree) → Holds list ns 0 p t → Holds list ns p.end c u → Grown list ns after 0 r (G.joined 0 sequel t u))
       → (o : Option Tree) (t : Tree) → PartIs list ns 0 x o → Holds list ns (end_of x) c t → Grown list ns after 0 r (sequel_on o t)
   behind_all after p r e join none t h g = absurd (part_as list ns 0 none e h)
   behind_all after p r e join (some u) t h g =
-      join u t (part_as list ns 0 (some u) e h) (subst (λ (y : Part). Holds list ns (end_of y) c t) e g)
+      join u t (part_as list ns 0 (some u) e h) (subst (λ (y : S.Option Piece). Holds list ns (end_of y) c t) e g)
 
 -- an assertion has six tokens at most
 
@@ -143,11 +140,11 @@ module _ (list table : List ℕ) where
   all_more (d ∷ cs) c = ap some (sequel_more (clause_tree names table d) cs c)
 
   module _ (ns : List ℕ) (start : ℕ) where
-    no_clause : (o : Option Clause) → PartIs list ns start T.Nothing (clause_of list table o) → o ≡ none
+    no_clause : (o : Option Clause) → PartIs list ns start None (clause_of list table o) → o ≡ none
     no_clause none h = refl
     no_clause (some c) h = absurd h
 
-    a_clause : (p : Piece) (o : Option Clause) → PartIs list ns start (T.Tree p) (clause_of list table o)
+    a_clause : (p : Piece) (o : Option Clause) → PartIs list ns start (Some p) (clause_of list table o)
         → (c : Clause) × ((o ≡ some c) × Holds list ns start p (clause_tree names table c))
     a_clause p none h = absurd h
     a_clause p (some c) h = (c, (refl, h))
@@ -155,16 +152,16 @@ module _ (list table : List ℕ) where
   -- of a front that represents another
 
   module _ (ns : List ℕ) (x : R.Front) (f : Front) (h : Represents list table ns x f) where
-    pub no_clause_yet : x.clause ≡ T.Nothing → f.clause ≡ none
+    pub no_clause_yet : x.clause ≡ None → f.clause ≡ none
     no_clause_yet e = no_clause ns (end_of x.closed) f.clause (part_as list ns _ _ e h.clause)
 
-    pub clause_there : (p : Piece) → x.clause ≡ T.Tree p → (c : Clause) × ((f.clause ≡ some c) × Holds list ns (end_of x.closed) p (clause_tree names table c))
+    pub clause_there : (p : Piece) → x.clause ≡ Some p → (c : Clause) × ((f.clause ≡ some c) × Holds list ns (end_of x.closed) p (clause_tree names table c))
     clause_there p e = a_clause ns (end_of x.closed) p f.clause (part_as list ns _ _ e h.clause)
 
     pub closed_most : end_of x.closed ≤ 1024
     closed_most = end_most list ns x.closed (all_of list table f.closed) h.closed
 
-    pub is_closable : most_nodes * 8 ≤ length ns → (p : Piece) → x.clause ≡ T.Tree p → Closable x.closed p ns
+    pub is_closable : most_nodes * 8 ≤ length ns → (p : Piece) → x.clause ≡ Some p → Closable x.closed p ns
     is_closable room p e =
         let c = clause_there p e in
         closable list ns x.closed _ p _ room h.closed c.1.1
@@ -172,18 +169,18 @@ module _ (list table : List ℕ) where
     -- a conjunction
 
     module _ (at : ℕ) (k : P.Conjunction) where
-      pub none_before : x.clause ≡ T.Nothing → with_conjunction at f.closed f.clause f.conjunction k ≡ fault at
+      pub none_before : x.clause ≡ None → with_conjunction at f.closed f.clause f.conjunction k ≡ fault at
       none_before e = rw (no_clause_yet e)
 
-      pub another_before : {p : Piece} {j : Conjunction} → x.clause ≡ T.Tree p → x.link ≡ L.Waits j
+      pub another_before : {p : Piece} {j : Conjunction} → x.clause ≡ Some p → x.link ≡ Some j
           → with_conjunction at f.closed f.clause f.conjunction k ≡ fault at
       another_before {p} {j} e l =
           let c = clause_there p e in
           two_conjunctions f.closed f.clause f.conjunction at k c.0 (conjunction_meant j) c.1.0 (sym h.link ∙ ap link_meant l)
 
-    pub conjoined : (at : ℕ) (k : Conjunction) (p : Piece) → x.clause ≡ T.Tree p → x.link ≡ L.Nothing
+    pub conjoined : (at : ℕ) (k : Conjunction) (p : Piece) → x.clause ≡ Some p → x.link ≡ None
         → Steps list table ns at (with_conjunction at f.closed f.clause f.conjunction (conjunction_meant k))
-        (S.On (record { closed = x.closed; clause = x.clause; link = L.Waits k; opened = O.Nothing }))
+        (Some (record { closed = x.closed; clause = x.clause; link = Some k; opened = None }))
     conjoined at k p e l =
         let c = clause_there p e in (
           record { closed = f.closed; clause = f.clause; conjunction = some (conjunction_meant k); comparator = none },
@@ -192,7 +189,7 @@ module _ (list table : List ℕ) where
 
     -- the clause that may go on
 
-    module _ (c : Piece) (e : x.clause ≡ T.Tree c) where
+    module _ (c : Piece) (e : x.clause ≡ Some c) where
       abbrev before : Clause
       before = (clause_there c e).0
 
@@ -214,8 +211,8 @@ module _ (list table : List ℕ) where
 
     -- an assertion is put: first of all, behind a clause that it closes, and behind one that it goes on with
 
-    abbrev with_it : Part → Piece → R.Front
-    with_it closed p = record { closed = closed; clause = T.Tree p; link = L.Nothing; opened = O.Nothing }
+    abbrev with_it : S.Option Piece → Piece → R.Front
+    with_it closed p = record { closed = closed; clause = Some p; link = None; opened = None }
 
     stands_as : (after : List ℕ) (y : R.Front) (a : Assertion) {g : Front} → continued f.closed f.clause f.conjunction a ≡ g
         → Represents list table after y g → Represents list table after y (continued f.closed f.clause f.conjunction a)
@@ -225,7 +222,7 @@ module _ (list table : List ℕ) where
       abbrev a_tree : Tree
       a_tree = assertion_tree names table a
 
-      pub begins_all : x.clause ≡ T.Nothing → (after : List ℕ) (p : Piece) → Grown list ns after 0 p a_tree
+      pub begins_all : x.clause ≡ None → (after : List ℕ) (p : Piece) → Grown list ns after 0 p a_tree
           → Represents list table after (with_it x.closed p) (continued f.closed f.clause f.conjunction a)
       begins_all e after p g =
           let none_yet = no_clause_yet e in
@@ -234,13 +231,13 @@ module _ (list table : List ℕ) where
           stands_as after _ a (begun_first f.closed f.clause f.conjunction a none_yet)
           (record {
             closed = part_stays list ns after x.closed _ (rw nowhere) h.closed;
-            clause = subst (λ (y : Part). Holds list after (end_of y) p a_tree) (sym nowhere) g.holds;
+            clause = subst (λ (y : S.Option Piece). Holds list after (end_of y) p a_tree) (sym nowhere) g.holds;
             link = refl;
             opened = refl;
             first = λ (z : some (P.alone a) ≡ none). absurd (none-ne-some _ (sym z));
           })
 
-      module _ (c : Piece) (e : x.clause ≡ T.Tree c) where
+      module _ (c : Piece) (e : x.clause ≡ Some c) where
         -- and for a link behind both
         pub linkable : most_nodes * 8 ≤ length ns → {mid : List ℕ} {next : Piece} → Grown list ns mid c.end next a_tree
             → Operands c next mid × ((next.end * 8 + 16 ≤ length mid) × (next.end < 60000))
@@ -261,8 +258,8 @@ module _ (list table : List ℕ) where
               (omega (arith, near, g.kept, room), omega (arith, near)),
             )
 
-        pub closes : x.link ≡ L.Nothing → {mid after : List ℕ} {all p : Piece} → Closing c e mid all → Grown list mid after all.end p a_tree
-            → Represents list table after (with_it (T.Tree all) p) (continued f.closed f.clause f.conjunction a)
+        pub closes : x.link ≡ None → {mid after : List ℕ} {all p : Piece} → Closing c e mid all → Grown list mid after all.end p a_tree
+            → Represents list table after (with_it (Some all) p) (continued f.closed f.clause f.conjunction a)
         closes l {mid} {after} {all} {p} close k =
             let both = grown_behind list (all_closed c e close) k in
             stands_as after _ a (begun_behind f.closed f.clause f.conjunction a (before c e) (clause_there c e).1.0 (sym h.link ∙ ap link_meant l))
@@ -279,7 +276,7 @@ module _ (list table : List ℕ) where
             (start : ℕ) (t u : Tree) → Holds list mid start c t → Holds list mid c.end next u
             → Grown list mid after start p (inversion j.inverted (link_of (linking_meant j.linking) t u))
 
-        pub goes_on : {j : Conjunction} → x.link ≡ L.Waits j → {mid after : List ℕ} {next p : Piece} → Grown list ns mid c.end next a_tree
+        pub goes_on : {j : Conjunction} → x.link ≡ Some j → {mid after : List ℕ} {next p : Piece} → Grown list ns mid c.end next a_tree
             → Linking mid after next p j → Represents list table after (with_it x.closed p) (continued f.closed f.clause f.conjunction a)
         goes_on {j} l {mid} {after} {next} {p} g link =
             let still = still_holds list c.end g.stays (omega arith) (before_stands c e) in

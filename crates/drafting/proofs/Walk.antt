@@ -2,7 +2,7 @@
 use Prim.Native.Nat.{ℕ, suc, ◌+◌, ◌≤◌, ◌<◌}
 use native.Mathlib.Numerals.{add-one}
 use native.Mathlib.Omega.{arith}
-use mathlib.Core.Path.{◌≡◌, refl, sym, subst}
+use mathlib.Core.Path.{◌≡◌, refl, sym, ap, subst, ◌∙◌}
 use mathlib.Core.Option.{Option, none, some}
 use mathlib.Core.List.{List, [], ◌∷◌}
 use lib.ListN.{length, get_or, drop, drop_of_length-le}
@@ -15,12 +15,13 @@ use Rattle.paper.specs.Contract.{Front, at_start, fault, closed_all, ended, with
 use Rattle.paper.specs.Drafting.{contract_tree}
 use Rattle.spelling.proofs.Steps.{cut}
 use Rattle.drafting.specs.declared.fronts.Front as R
-use Rattle.drafting.specs.declared.fronts.Step.{Step}
-use Rattle.drafting.specs.declared.fronts.Step.TheVariants as S
+use Rattle.std.specs.Prelude as S
+use Rattle.std.specs.Prelude.{Some, None, is_some}
+use Rattle.std.proofs.Common.{true≢false, false}
 use Rattle.drafting.specs.declared.contracts.Outcome.{Outcome}
 use Rattle.drafting.specs.declared.contracts.Outcome.TheVariants as D
 use Rattle.drafting.specs.Assertions.{names_in}
-use Rattle.drafting.specs.Fronts.{all_of, Represents, Steps}
+use Rattle.drafting.specs.Fronts.{all_of, link_meant, opened_meant, Represents, Steps}
 use Rattle.drafting.specs.Drafts.{Measured, Drafts}
 
 -- i bytes are read
@@ -47,7 +48,7 @@ module _ (contract table list : List ℕ) where
     unfolding clauses_from
     one_byte h = rw (cut contract i h) at r.rest
 
-    pub read_on : i < length contract → (after : List ℕ) (y : R.Front) {s : Step} → s ≡ S.On y → Steps list table after i byte s
+    pub read_on : i < length contract → (after : List ℕ) (y : R.Front) {s : S.Option R.Front} → s ≡ Some y → Steps list table after i byte s
         → Read contract table list after y (i + 1)
     read_on h after y e steps =
         let step = subst (Steps list table after i byte) e steps in
@@ -58,7 +59,7 @@ module _ (contract table list : List ℕ) where
           rest = rw (add-one i) (rw (step.1.0, add-one i) at (one_byte h));
         }
 
-    pub read_fault : i < length contract → (after : List ℕ) {s : Step} → s ≡ S.Fault → Steps list table after i byte s → all ≡ fault i
+    pub read_fault : i < length contract → (after : List ℕ) {s : S.Option R.Front} → s ≡ None → Steps list table after i byte s → all ≡ fault i
     read_fault h after e steps =
         let step = subst (Steps list table after i byte) e steps in
         sym (rw step at (one_byte h))
@@ -77,6 +78,16 @@ module _ (at : ℕ) (f : Front) where
 
   pub none_waits : {j : Option P.Conjunction} {w : Option P.Comparator} → w ≡ none → j ≡ none → ended at f j w ≡ ok (closed_all f.closed f.clause)
   none_waits e l = rw (e, l)
+
+-- nothing is there
+none_there : {T : Type 0} (o : S.Option T) → is_some o ≡ false → o ≡ None
+none_there None e = refl
+none_there (Some x) e = absurd (true≢false e)
+
+pub nothing_waits : {list table ns : List ℕ} {x : R.Front} {f : Front} (at : ℕ) → Represents list table ns x f
+    → is_some x.opened ≡ false → is_some x.link ≡ false → ended at f f.conjunction f.comparator ≡ ok (closed_all f.closed f.clause)
+nothing_waits {x = x} {f = f} at h o l =
+    none_waits at f (sym h.opened ∙ ap opened_meant (none_there x.opened o)) (sym h.link ∙ ap link_meant (none_there x.link l))
 
 module _ (list table : List ℕ) where
   -- the tree of some clauses

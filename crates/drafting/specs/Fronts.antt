@@ -1,5 +1,7 @@
 -- What stands before a byte, held by value, in the words of Contract: the trees of the clauses, and what waits.
 use Rattle.std.specs.Prelude.{ℕ, ◌*◌, ◌≤◌, ◌≡◌, List, [], ◌∷◌, length}
+use Rattle.std.specs.Prelude as S
+use Rattle.std.specs.Prelude.{Some, None}
 use Rattle.std.proofs.Math.Option.{Option, none, some}
 use Rattle.paper.specs.Answers.{Answer, ok}
 use Rattle.paper.specs.Tokens.{sequel}
@@ -8,28 +10,22 @@ use Rattle.paper.specs.Pact.{Comparator, Conjunction, Clause}
 use Rattle.paper.specs.Contract as P
 use Rattle.paper.specs.Drafting.{clause_tree, sequel_of}
 use Rattle.drafting.specs.declared.pieces.Piece.{Piece}
-use Rattle.drafting.specs.declared.fronts.Part.{Part}
-use Rattle.drafting.specs.declared.fronts.Part.TheVariants as T
-use Rattle.drafting.specs.declared.fronts.Link.{Link}
-use Rattle.drafting.specs.declared.fronts.Link.TheVariants as L
-use Rattle.drafting.specs.declared.fronts.Opened.{Opened}
-use Rattle.drafting.specs.declared.fronts.Opened.TheVariants as O
+use Rattle.drafting.specs.declared.opcodes.Comparator as O
+use Rattle.drafting.specs.declared.opcodes.Conjunction as J
 use Rattle.drafting.specs.declared.fronts.Front.{Front}
-use Rattle.drafting.specs.declared.fronts.Step.{Step}
-use Rattle.drafting.specs.declared.fronts.Step.TheVariants as S
 use Rattle.drafting.specs.Opcodes.{conjunction_meant, comparator_meant}
 use Rattle.drafting.specs.Pieces.{Holds, Operands}
 use Rattle.drafting.specs.Assertions.{names_in}
 
 -- what waits
 
-abbrev pub link_meant : Link → Option Conjunction
-link_meant L.Nothing = none
-link_meant (L.Waits j) = some (conjunction_meant j)
+abbrev pub link_meant : S.Option J.Conjunction → Option Conjunction
+link_meant None = none
+link_meant (Some j) = some (conjunction_meant j)
 
-abbrev pub opened_meant : Opened → Option Comparator
-opened_meant O.Nothing = none
-opened_meant (O.Waits o) = some (comparator_meant o)
+abbrev pub opened_meant : S.Option O.Comparator → Option Comparator
+opened_meant None = none
+opened_meant (Some o) = some (comparator_meant o)
 
 -- the tree of the closed clauses, and of the one that may go on
 
@@ -49,15 +45,15 @@ sequel_on (some a) t = joined 0 sequel a t
 
 -- where they stand in the nodes, each from its first node on
 
-abbrev pub end_of : Part → ℕ
-end_of T.Nothing = 0
-end_of (T.Tree p) = p.end
+abbrev pub end_of : S.Option Piece → ℕ
+end_of None = 0
+end_of (Some p) = p.end
 
-abbrev pub PartIs : List ℕ → List ℕ → ℕ → Part → Option Tree → Type 0
-PartIs list ns start T.Nothing none = Unit {0}
-PartIs list ns start T.Nothing (some t) = ⊥
-PartIs list ns start (T.Tree p) none = ⊥
-PartIs list ns start (T.Tree p) (some t) = Holds list ns start p t
+abbrev pub PartIs : List ℕ → List ℕ → ℕ → S.Option Piece → Option Tree → Type 0
+PartIs list ns start None none = Unit {0}
+PartIs list ns start None (some t) = ⊥
+PartIs list ns start (Some p) none = ⊥
+PartIs list ns start (Some p) (some t) = Holds list ns start p t
 
 -- the closed clauses from the first node on, then the other; one that may go on is there once any is closed
 pub record Represents (list table ns : List ℕ) (x : Front) (f : P.Front) : Type 0 where
@@ -77,11 +73,11 @@ pub record Ready (list table ns : List ℕ) (x : Front) : Type 0 where
   pub stands : Represents list table ns x front
 
 -- what is asked where a clause is to be closed
-abbrev pub Closable : Part → Piece → List ℕ → Type 0
-Closable T.Nothing c ns = Unit {0}
-Closable (T.Tree p) c ns = Operands p c ns
+abbrev pub Closable : S.Option Piece → Piece → List ℕ → Type 0
+Closable None c ns = Unit {0}
+Closable (Some p) c ns = Operands p c ns
 
 -- an answer to a byte
-abbrev pub Steps : List ℕ → List ℕ → List ℕ → ℕ → Answer P.Front → Step → Type 0
-Steps list table ns at a (S.On x) = (f : P.Front) × ((a ≡ ok f) × Represents list table ns x f)
-Steps list table ns at a S.Fault = a ≡ P.fault at
+abbrev pub Steps : List ℕ → List ℕ → List ℕ → ℕ → Answer P.Front → S.Option Front → Type 0
+Steps list table ns at a (Some x) = (f : P.Front) × ((a ≡ ok f) × Represents list table ns x f)
+Steps list table ns at a None = a ≡ P.fault at

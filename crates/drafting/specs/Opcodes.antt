@@ -1,4 +1,7 @@
 -- The opcodes of this crate in the words of 000.
+use Rattle.std.specs.Prelude as S
+use Rattle.std.specs.Prelude.{Some, None}
+use Rattle.std.proofs.Math.Option.{Option, none, some}
 use Rattle.paper.specs.Pact as P
 use Rattle.drafting.specs.declared.opcodes.Relation.{Relation}
 use Rattle.drafting.specs.declared.opcodes.Relation.TheVariants.{Equal, Greater, AtLeast}
@@ -9,7 +12,7 @@ use Rattle.drafting.specs.declared.opcodes.Linking.TheVariants.{And, Or, Xor}
 use Rattle.drafting.specs.declared.opcodes.Comparator.{Comparator}
 use Rattle.drafting.specs.declared.opcodes.Conjunction.{Conjunction}
 use Rattle.drafting.specs.declared.opcodes.Opcode.{Opcode}
-use Rattle.drafting.specs.declared.opcodes.Opcode.TheVariants.{Compares, Conjoins, Wrong}
+use Rattle.drafting.specs.declared.opcodes.Opcode.TheVariants.{Compares, Conjoins}
 
 abbrev pub relation_meant : Relation → P.Relation
 relation_meant Equal = P.eq
@@ -34,4 +37,17 @@ conjunction_meant j = record { inverted = j.inverted; linking = linking_meant j.
 abbrev pub opcode_meant : Opcode → P.Opcode
 opcode_meant (Compares c) = P.compares (comparator_meant c)
 opcode_meant (Conjoins j) = P.conjoins (conjunction_meant j)
-opcode_meant Wrong = P.wrong
+
+-- what was read, if it is anything
+
+abbrev pub relation_read : S.Option Relation → Option P.Relation
+relation_read None = none
+relation_read (Some r) = some (relation_meant r)
+
+abbrev pub linking_read : S.Option Linking → Option P.Linking
+linking_read None = none
+linking_read (Some l) = some (linking_meant l)
+
+abbrev pub opcode_read : S.Option Opcode → P.Opcode
+opcode_read None = P.wrong
+opcode_read (Some o) = opcode_meant o

@@ -34,7 +34,7 @@ impl Assertion {
         ensures { assertion_meant result ≡ record { comparator = comparator_meant comparator; left = left_index indices; right = right_index indices } }
     {
         Assertion {
-            comparator: comparator,
+            comparator,
             left: (indices / INDICES) as usize,
             right: (indices % INDICES) as usize,
         }
@@ -44,15 +44,11 @@ impl Assertion {
     pub(crate) fn indexed(self, names: usize, users: usize) -> bool
         ensures { result ≡ indexed names users self }
     {
-        let comparator = self.comparator;
-        let load = comparator.load;
-        if names <= self.left {
-            return false;
-        }
-        match load {
-            Load::User => self.right < users,
-            Load::Input => self.right < names,
-        }
+        let indices = match self.comparator.load {
+            Load::User => users,
+            Load::Input => names,
+        };
+        self.left < names && self.right < indices
     }
 }
 
@@ -91,12 +87,9 @@ fn put_right(a: Assertion, names: &[u8], table: &[u64], at: usize, nodes: &mut [
     ensures { Grown names.now nodes.old nodes.new at result
         (operand_tree (names_in names.now) table.now (load_meant a.comparator.load) a.right) }
 {
-    let comparator = a.comparator;
-    let load = comparator.load;
-    let j = a.right;
-    match load {
-        Load::User => put_user(table[j], at, nodes),
-        Load::Input => put_input(names, j, at, nodes),
+    match a.comparator.load {
+        Load::User => put_user(table[a.right], at, nodes),
+        Load::Input => put_input(names, a.right, at, nodes),
     }
 }
 
@@ -124,10 +117,9 @@ pub(crate) fn put_assertion(
         (assertion_tree (names_in names.now) table.now (assertion_meant a)) }
 {
     let comparator = a.comparator;
-    let relation = comparator.relation;
     let left = put_input(names, a.left, at, nodes);
     let right = put_right(a, names, table, left.end, nodes);
-    let o = Operator::Compares(comparison_of(relation));
+    let o = Operator::Compares(comparison_of(comparator.relation));
     let compared = left.joined(o, right, nodes);
     compared.inverted(comparator.inverted, nodes)
 }

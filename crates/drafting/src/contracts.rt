@@ -9,7 +9,7 @@ ghost use Rattle.drafting.specs.Assertions.{Named};
 ghost use Rattle.drafting.specs.Fronts.{most_nodes, Represents, Ready};
 ghost use Rattle.drafting.specs.Drafts.{Measured, Drafts};
 
-use crate::fronts::{Front, Link, Opened, Part, Step, put_closed};
+use crate::fronts::{Front, put_closed};
 use crate::pieces::Piece;
 use crate::sizes::{MOST_LEVELS, MOST_TOKENS};
 use trees::Node;
@@ -34,11 +34,7 @@ fn measured(p: Piece) -> Outcome
     requires { 0 < p.end }
     ensures { (list ns : List ℕ) (t : Tree) → Holds list ns 0 p t → Measured list ns t result }
 {
-    let size = p.size;
-    if MOST_TOKENS < size.tokens {
-        return Outcome::Over;
-    }
-    if MOST_LEVELS < size.levels {
+    if MOST_TOKENS < p.size.tokens || MOST_LEVELS < p.size.levels {
         return Outcome::Over;
     }
     Outcome::Tree(p.end - 1)
@@ -59,20 +55,13 @@ fn ended(front: Front, at: usize, nodes: &mut [u32]) -> Outcome
     ensures { (list table : List ℕ) (f : paper.Front) → Represents list table nodes.old front f
         → Drafts list table nodes.new (paper.ended at f f.conjunction f.comparator) result }
 {
-    let closed = front.closed;
-    let clause = front.clause;
-    let link = front.link;
-    let opened = front.opened;
-    let Opened::Nothing = opened else {
+    if front.opened.is_some() || front.link.is_some() {
         return Outcome::Fault(at);
-    };
-    let Link::Nothing = link else {
-        return Outcome::Fault(at);
-    };
-    let Part::Tree(c) = clause else {
+    }
+    let Some(c) = front.clause else {
         return empty(nodes);
     };
-    measured(put_closed(closed, c, nodes))
+    measured(put_closed(front.closed, c, nodes))
 }
 
 // By names that passed their check, and nodes that are lent.
@@ -82,13 +71,11 @@ pub fn draft(contract: &[u8], table: &[u64], names: &[u8], nodes: &mut [u32]) ->
         (paper.clauses (records_in names.now) (length table.now) contract.now) result }
 {
     let mut front = Front::start();
-    let mut i = 0;
-    while i < contract.len() {
-        let Step::On(next) = front.with_byte(contract[i], names, table, nodes) else {
+    for (i, byte) in contract.iter().enumerate() {
+        let Some(next) = front.with_byte(*byte, names, table, nodes) else {
             return Outcome::Fault(i);
         };
         front = next;
-        i += 1;
     }
-    ended(front, i, nodes)
+    ended(front, contract.len(), nodes)
 }

@@ -1,7 +1,7 @@
 // The opcodes of 000. From the top: a bit for the operator's type, a bit for "not", four bits for the operation, and two reserved ones.
-ghost use Rattle.std.specs.Prelude.{◌≡◌, ◌/◌, ◌%◌, eqb};
-ghost use Rattle.paper.specs.Pact.{comparing, conjoining, load_of, relation_of, linking_of, opcode_of};
-ghost use Rattle.drafting.specs.Opcodes.{load_meant, opcode_meant};
+ghost use Rattle.std.specs.Prelude.{◌≡◌};
+ghost use Rattle.paper.specs.Pact.{load_of, relation_of, linking_of, opcode_of};
+ghost use Rattle.drafting.specs.Opcodes.{load_meant, relation_read, linking_read, opcode_read};
 
 #[derive(Clone, Copy)]
 pub enum Relation {
@@ -41,7 +41,6 @@ pub struct Conjunction {
 pub enum Opcode {
     Compares(Comparator),
     Conjoins(Conjunction),
-    Wrong,
 }
 
 // What the bits above others are divided by.
@@ -59,67 +58,49 @@ const LOAD: u8 = 8;
 fn load_of(input: bool) -> Load
     ensures { load_meant result ≡ load_of input }
 {
-    if input {
-        return Load::Input;
-    }
-    Load::User
+    if input { Load::Input } else { Load::User }
 }
 
-fn comparing(inverted: bool, operation: u8) -> Opcode
-    ensures { opcode_meant result ≡ comparing inverted (load_of (eqb (operation / 8) 1)) (relation_of (operation % 8)) }
-{
-    let load = load_of(operation / LOAD == 1);
-    match operation % LOAD {
-        0 => Opcode::Compares(Comparator {
-            inverted: inverted,
-            load: load,
-            relation: Relation::Equal,
-        }),
-        1 => Opcode::Compares(Comparator {
-            inverted: inverted,
-            load: load,
-            relation: Relation::Greater,
-        }),
-        2 => Opcode::Compares(Comparator {
-            inverted: inverted,
-            load: load,
-            relation: Relation::AtLeast,
-        }),
-        _ => Opcode::Wrong,
-    }
-}
-
-fn conjoining(inverted: bool, operation: u8) -> Opcode
-    ensures { opcode_meant result ≡ conjoining inverted (linking_of operation) }
+fn relation_of(operation: u8) -> Option<Relation>
+    ensures { relation_read result ≡ relation_of operation }
 {
     match operation {
-        0 => Opcode::Conjoins(Conjunction {
-            inverted: inverted,
-            linking: Linking::And,
-        }),
-        1 => Opcode::Conjoins(Conjunction {
-            inverted: inverted,
-            linking: Linking::Or,
-        }),
-        2 => Opcode::Conjoins(Conjunction {
-            inverted: inverted,
-            linking: Linking::Xor,
-        }),
-        _ => Opcode::Wrong,
+        0 => Some(Relation::Equal),
+        1 => Some(Relation::Greater),
+        2 => Some(Relation::AtLeast),
+        _ => None,
     }
 }
 
-// What a byte is as an opcode.
-pub(crate) fn opcode_of(byte: u8) -> Opcode
-    ensures { opcode_meant result ≡ opcode_of byte }
+fn linking_of(operation: u8) -> Option<Linking>
+    ensures { linking_read result ≡ linking_of operation }
+{
+    match operation {
+        0 => Some(Linking::And),
+        1 => Some(Linking::Or),
+        2 => Some(Linking::Xor),
+        _ => None,
+    }
+}
+
+// What a byte is as an opcode, if it is one.
+pub(crate) fn opcode_of(byte: u8) -> Option<Opcode>
+    ensures { opcode_read result ≡ opcode_of byte }
 {
     if byte % OPERATION != 0 {
-        return Opcode::Wrong;
+        return None;
     }
     let inverted = byte / INVERSION % 2 == 1;
     let operation = byte / OPERATION % OPERATIONS;
     if byte / KIND == 0 {
-        return comparing(inverted, operation);
+        let load = load_of(operation / LOAD == 1);
+        let relation = relation_of(operation % LOAD)?;
+        return Some(Opcode::Compares(Comparator {
+            inverted,
+            load,
+            relation,
+        }));
     }
-    conjoining(inverted, operation)
+    let linking = linking_of(operation)?;
+    Some(Opcode::Conjoins(Conjunction { inverted, linking }))
 }

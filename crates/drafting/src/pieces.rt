@@ -26,20 +26,13 @@ impl Piece {
         if !yes {
             return self;
         }
-        let own = self.size;
         let end = self.end;
-        let size = own.prefixed();
+        let size = self.size.prefixed();
         if MOST_TOKENS < size.tokens {
-            return Piece {
-                size: size,
-                end: end,
-            };
+            return Piece { size, end };
         }
         trees::put_prefix(nodes, end, 0, Prefix::Not);
-        Piece {
-            size: size,
-            end: end + 1,
-        }
+        Piece { size, end: end + 1 }
     }
 
     // The tree and the one that stands behind it, with an operator between them.
@@ -49,21 +42,15 @@ impl Piece {
         ensures grown { (list : List ℕ) (start : ℕ) (t u : Tree) → Holds list nodes.old start self t → Holds list nodes.old self.end right u
             → Grown list nodes.old nodes.new start result (operator_on 0 o t u) }
     {
-        let own = self.size;
-        let other = right.size;
-        let left = self.end;
         let end = right.end;
-        let size = own.beside(o, other);
+        let size = self.size.beside(o, right.size);
         if MOST_TOKENS < size.tokens {
             return Piece {
-                size: size,
-                end: left,
+                size,
+                end: self.end,
             };
         }
-        trees::put_operator(nodes, end, 0, o, left - 1);
-        Piece {
-            size: size,
-            end: end + 1,
-        }
+        trees::put_operator(nodes, end, 0, o, self.end - 1);
+        Piece { size, end: end + 1 }
     }
 }

@@ -1,6 +1,6 @@
 // How large the text of a tree is. Each number is told exactly up to its limit; whatever is over a limit is told as one more than it, so
 // that nothing is lost of what matters and no sum grows.
-ghost use Rattle.std.specs.Prelude.{◌≡◌, ◌+◌, ◌<◌, min, max};
+ghost use Rattle.std.specs.Prelude.{◌≡◌, ◌+◌, ◌<◌, min};
 ghost use Rattle.paper.specs.Tokens as P;
 ghost use Rattle.paper.specs.Grammar.{Tree};
 ghost use Rattle.paper.specs.Grammar as G;
@@ -34,19 +34,7 @@ fn capped(n: usize, most: usize) -> usize
     requires { most < 65536 }
     ensures { result ≡ min n (most + 1) }
 {
-    if most < n {
-        return most + 1;
-    }
-    n
-}
-
-fn greater(a: usize, b: usize) -> usize
-    ensures { result ≡ max a b }
-{
-    if a < b {
-        return b;
-    }
-    a
+    n.min(most + 1)
 }
 
 // Where a rung is asked for.
@@ -54,16 +42,18 @@ fn standing(size: Size, rung: Rung) -> Extent
     requires { Small size }
     ensures { Stood size (rung_meant rung) result }
 {
-    let own = size.rung;
+    let Size {
+        tokens,
+        levels,
+        rung: own,
+    } = size;
     if own.number() < rung.number() {
-        return Extent {
-            tokens: size.tokens + 2,
-            levels: size.levels + 1,
-        };
-    }
-    Extent {
-        tokens: size.tokens,
-        levels: size.levels,
+        Extent {
+            tokens: tokens + 2,
+            levels: levels + 1,
+        }
+    } else {
+        Extent { tokens, levels }
     }
 }
 
@@ -103,7 +93,7 @@ impl Size {
         let after = standing(right, right_rung(o));
         Size {
             tokens: capped(before.tokens + 1 + after.tokens, MOST_TOKENS),
-            levels: capped(greater(before.levels, after.levels), MOST_LEVELS),
+            levels: capped(before.levels.max(after.levels), MOST_LEVELS),
             rung: rung_of(o),
         }
     }

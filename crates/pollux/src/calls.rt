@@ -2,9 +2,9 @@
 use crate::sizes;
 use crate::writing::write_argument;
 use blocks::Block;
-use files::read_argument;
+use files::{File, read_argument};
 use lines::{say, start};
-use paper::{Agreement, Place, Summary};
+use paper::{Agreement, Place};
 use std::env::Env;
 use std::io;
 use std::rt::Files;
@@ -55,38 +55,23 @@ fn passed(
     }
 }
 
-// Each call is given the first bytes of its first two files, and how many these files have.
+// Each call is given its first two files.
 fn check(
     rt: &(impl Files + Env + Print + Eprint),
     call: Call,
-    text: &[u8],
-    list: &[u8],
-    text_size: usize,
-    list_size: usize,
+    text: File,
+    list: File,
 ) -> io::Result<()> {
-    match valve::check(text, list) {
-        Ok(()) => passed(rt, call, text, list),
-        Err(refusal) => {
-            refused(rt, number, place, text, list, text_size, list_size)
-        }
+    match valve::check(text.bytes, list.bytes) {
+        Ok(()) => passed(rt, call, text.bytes, list.bytes),
+        Err(refusal) => refused(rt, refusal, text, list),
     }
 }
 
-fn summarize(
-    rt: &impl Print,
-    text: &[u8],
-    list: &[u8],
-    text_size: usize,
-    list_size: usize,
-) -> io::Result<()> {
-    match valve::summarize(text, list) {
-        Ok(Summary {
-keys: keys,
-priority: priority,
-}) => say_summary(rt, list, keys, priority),
-        Err(refusal) => {
-            refused(rt, number, place, text, list, text_size, list_size)
-        }
+fn summarize(rt: &impl Print, text: File, list: File) -> io::Result<()> {
+    match valve::summarize(text.bytes, list.bytes) {
+        Ok(summary) => say_summary(rt, list.bytes, summary.keys, summary.priority),
+        Err(refusal) => refused(rt, refusal, text, list),
     }
 }
 
@@ -107,19 +92,11 @@ fn translated(
     Ok(())
 }
 
-fn translate(
-    rt: &(impl Files + Env + Print + Eprint),
-    text: &[u8],
-    list: &[u8],
-    text_size: usize,
-    list_size: usize,
-) -> io::Result<()> {
+fn translate(rt: &(impl Files + Env + Print + Eprint), text: File, list: File) -> io::Result<()> {
     let mut buffer = [0u8; 65536];
-    match valve::translate(text, list, &mut buffer) {
+    match valve::translate(text.bytes, list.bytes, &mut buffer) {
         Ok(n) => translated(rt, n, &buffer),
-        Err(refusal) => {
-            refused(rt, number, place, text, list, text_size, list_size)
-        }
+        Err(refusal) => refused(rt, refusal, text, list),
     }
 }
 
@@ -138,24 +115,17 @@ fn differs(rt: &impl Print) -> io::Result<()> {
 }
 
 // With the blocks in the file that argument 4 names.
-fn compare(
-    rt: &(impl Files + Env + Print + Eprint),
-    text: &[u8],
-    list: &[u8],
-    text_size: usize,
-    list_size: usize,
-) -> io::Result<()> {
+fn compare(rt: &(impl Files + Env + Print + Eprint), text: File, list: File) -> io::Result<()> {
     let mut room = [0u8; 65536];
-    let Some(file) = read_argument(rt, BLOCKS, &mut room)? else {
+    let Some(blocks) = read_argument(rt, BLOCKS, &mut room)? else {
         return Ok(());
     };
-    let blocks = file.bytes;
-    match valve::compare(text, list, blocks) {
+    match valve::compare(text.bytes, list.bytes, blocks.bytes) {
         Ok(Agreement::Agrees) => agrees(rt),
         Ok(Agreement::Differs) => differs(rt),
-        Err(refusal) => match place {
-            Place::Blocks(_) => refused(rt, number, place, blocks, list, file.size, list_size),
-            _ => refused(rt, number, place, text, list, text_size, list_size),
+        Err(refusal) => match refusal.place {
+            Place::Blocks(_) => refused(rt, refusal, blocks, list),
+            _ => refused(rt, refusal, text, list),
         },
     }
 }
@@ -179,35 +149,27 @@ fn loaded(
 fn load(
     rt: &(impl Files + Env + Print + Eprint),
     call: Call,
-    list: &[u8],
-    blocks: &[u8],
-    list_size: usize,
-    blocks_size: usize,
+    list: File,
+    blocks: File,
 ) -> io::Result<()> {
-    match valve::load(list, blocks) {
-        Ok(n) => loaded(rt, call, n, list, blocks),
-        Err(refusal) => {
-            refused(rt, number, place, blocks, list, blocks_size, list_size)
-        }
+    match valve::load(list.bytes, blocks.bytes) {
+        Ok(n) => loaded(rt, call, n, list.bytes, blocks.bytes),
+        Err(refusal) => refused(rt, refusal, blocks, list),
     }
 }
 
 fn answer_on(
     rt: &(impl Files + Env + Print + Eprint),
     call: Call,
-    first: &[u8],
-    second: &[u8],
-    first_size: usize,
-    second_size: usize,
+    first: File,
+    second: File,
 ) -> io::Result<()> {
     match call {
-        Call::Check | Call::Judge | Call::Explain | Call::Recheck => {
-            check(rt, call, first, second, first_size, second_size)
-        }
-        Call::Summary => summarize(rt, first, second, first_size, second_size),
-        Call::Translate => translate(rt, first, second, first_size, second_size),
-        Call::Compare => compare(rt, first, second, first_size, second_size),
-        Call::Load | Call::Run => load(rt, call, first, second, first_size, second_size),
+        Call::Check | Call::Judge | Call::Explain | Call::Recheck => check(rt, call, first, second),
+        Call::Summary => summarize(rt, first, second),
+        Call::Translate => translate(rt, first, second),
+        Call::Compare => compare(rt, first, second),
+        Call::Load | Call::Run => load(rt, call, first, second),
     }
 }
 
@@ -216,28 +178,34 @@ fn answer_on(
 pub(crate) fn answer(rt: &(impl Files + Env + Print + Eprint), call: Call) -> io::Result<()> {
     let mut first = [0u8; 4097];
     let mut second = [0u8; 65536];
-    let Some(a) = read_argument(rt, FIRST, &mut first)? else {
+    let Some(first) = read_argument(rt, FIRST, &mut first)? else {
         return Ok(());
     };
-    let Some(b) = read_argument(rt, SECOND, &mut second)? else {
+    let Some(second) = read_argument(rt, SECOND, &mut second)? else {
         return Ok(());
     };
-    answer_on(rt, call, a.bytes, b.bytes, a.size, b.size)
+    answer_on(rt, call, first, second)
 }
+
+// In place of the list, for calls that take none.
+const NO_LIST: File<'static> = File {
+    bytes: b"",
+    size: 0,
+};
 
 // The longest print.
 const MOST_PRINT: usize = 4096;
 
 // The count of its bytes stands before a print, so that no print is taken for another answer.
-fn print_text(rt: &impl Print, text: &[u8], size: usize) -> io::Result<()> {
+fn print_text(rt: &impl Print, text: File) -> io::Result<()> {
     let mut buffer = [0u8; MOST_PRINT];
-    match valve::print(text, &mut buffer) {
+    match valve::print(text.bytes, &mut buffer) {
         Ok(n) => {
             println!(rt; "printed {}:", Things(n, "byte", "bytes"))?;
             say(rt, start(&buffer, n))?;
             say(rt, b"\n")
         }
-        Err(refusal) => refused(rt, number, place, text, b"", size, 0),
+        Err(refusal) => refused(rt, refusal, text, NO_LIST),
     }
 }
 
@@ -245,7 +213,7 @@ fn print_text(rt: &impl Print, text: &[u8], size: usize) -> io::Result<()> {
 pub(crate) fn print(rt: &(impl Files + Env + Print + Eprint)) -> io::Result<()> {
     let mut room = [0u8; 4097];
     match read_argument(rt, FIRST, &mut room)? {
-        Some(file) => print_text(rt, file.bytes, file.size),
+        Some(text) => print_text(rt, text),
         None => Ok(()),
     }
 }
@@ -262,11 +230,11 @@ fn fixed(rt: &(impl Files + Env + Print + Eprint), text: &[u8], made: &[u8]) -> 
 }
 
 // What the pass makes is never longer than a text, so there is always room.
-fn fix_text(rt: &(impl Files + Env + Print + Eprint), text: &[u8], size: usize) -> io::Result<()> {
+fn fix_text(rt: &(impl Files + Env + Print + Eprint), text: File) -> io::Result<()> {
     let mut buffer = [0u8; 4096];
-    match valve::fix_octal(text, &mut buffer) {
-        Ok(n) => fixed(rt, text, start(&buffer, n)),
-        Err(refusal) => refused(rt, number, place, text, b"", size, 0),
+    match valve::fix_octal(text.bytes, &mut buffer) {
+        Ok(n) => fixed(rt, text.bytes, start(&buffer, n)),
+        Err(refusal) => refused(rt, refusal, text, NO_LIST),
     }
 }
 
@@ -274,7 +242,7 @@ fn fix_text(rt: &(impl Files + Env + Print + Eprint), text: &[u8], size: usize) 
 pub(crate) fn fix_octal(rt: &(impl Files + Env + Print + Eprint)) -> io::Result<()> {
     let mut room = [0u8; 4097];
     match read_argument(rt, FIRST, &mut room)? {
-        Some(file) => fix_text(rt, file.bytes, file.size),
+        Some(text) => fix_text(rt, text),
         None => Ok(()),
     }
 }

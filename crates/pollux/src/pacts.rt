@@ -4,7 +4,7 @@ use crate::writing::write_argument;
 use files::{File, read_argument};
 use keys::KeyRecord;
 use lines::{say, start};
-use paper::{Place, refused};
+use paper::{Place, Refusal, refused};
 use std::env::Env;
 use std::io;
 use std::rt::Files;
@@ -63,25 +63,36 @@ fn draft(
     let mut buffer = [0u8; 4096];
     match valve::pact(contract, table, names.bytes, &mut buffer) {
         Ok(n) => drafted(rt, start(&buffer, n)),
-        Err(refusal) => match place {
-            Place::Contract(at) => {
-                print!(rt; "refused {number}: contract, byte {at}: ")?;
-                say_why(
-                    rt,
-                    contract,
-                    at,
-                    names.bytes.len() / KeyRecord::SIZE,
-                    table.len(),
-                )
-            }
-            Place::Table(at) => {
-                print!(rt; "refused {number}: table, number {at}: ")?;
-                say(rt, b"a 17th user number, and a table has at most 16\n")
-            }
-            Place::List(at) => refused_names(rt, number, at, names),
-            Place::Buffer(at) => refused_text(rt, number, at),
-            _ => Ok(()),
-        },
+        Err(refusal) => draft_refused(rt, refusal, contract, table, names),
+    }
+}
+
+fn draft_refused(
+    rt: &impl Print,
+    refusal: Refusal,
+    contract: &[u8],
+    table: &[u64],
+    names: File,
+) -> io::Result<()> {
+    let number = refusal.number;
+    match refusal.place {
+        Place::Contract(at) => {
+            print!(rt; "refused {number}: contract, byte {at}: ")?;
+            say_why(
+                rt,
+                contract,
+                at,
+                names.bytes.len() / KeyRecord::SIZE,
+                table.len(),
+            )
+        }
+        Place::Table(at) => {
+            print!(rt; "refused {number}: table, number {at}: ")?;
+            say(rt, b"a 17th user number, and a table has at most 16\n")
+        }
+        Place::List(at) => refused_names(rt, number, at, names),
+        Place::Buffer(at) => refused_text(rt, number, at),
+        _ => Ok(()),
     }
 }
 

@@ -20,17 +20,8 @@ use wording::broken::say_judgement;
 fn judged_by(running: Result<Ended, Refusal>) -> Judgement
     ensures { result ≡ judgement_of_run running }
 {
-    match running {
-        Ok(Ended {
-verdict: Verdict::Accepted,
-steps: _,
-}) => Ok(Verdict::Accepted),
-        Ok(Ended {
-verdict: Verdict::Violated,
-steps: _,
-}) => Ok(Verdict::Violated),
-        Err(refusal) => Err(refusal),
-    }
+    let ended = running?;
+    Ok(ended.verdict)
 }
 
 // The byte of entry k; 0, as of one that is refused, where it has none.
@@ -76,10 +67,7 @@ fn steps_of(running: Result<RanAll, Refusal>) -> u64
     ensures { result ≡ steps_of (running_all_says running) }
 {
     match running {
-        Ok(RanAll {
-entries: _,
-steps: steps,
-}) => steps,
+        Ok(ran) => ran.steps,
         Err(_) => 0,
     }
 }

@@ -1,5 +1,5 @@
 -- The two sums of the bytes so far are those that the definition goes on from (`adler_on`), and both stay below 65,521.
-use Rattle.std.proofs.Common.{◌∙◌, sym, ◌<◌, ◌≤◌, length, rules, arith}
+use Rattle.std.proofs.Common.{◌∙◌, sym, ◌<◌, ◌≤◌, length, rules}
 use Rattle.answers.proofs.Sums.{adler_on, adler_end}
 use Rattle.answers.proofs.adler.adler_of.Goals as goal
 

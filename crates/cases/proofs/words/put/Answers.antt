@@ -12,8 +12,8 @@ loop-i-preserved g c =
     let a = c.args in
     let done = l.invariant.1.0 in
     let v = c.in_ok-room.field-0 in
-    let on = spelled_on a.width a.s.now l.i a.to c.requires.0 c.requires.1 c.loop-i-test.true in
-    let next = ap (λ (x : ℕ). x ∷ spelled a.width a.s.now (l.i + a.width) a.to) c.in_ok-room.ensures ∙ sym on in (
+    let on = spelled_on a.width a.stretch.s.now l.i a.stretch.to c.requires.0 c.requires.1 c.loop-i-test.true in
+    let next = ap (λ (x : ℕ). x ∷ spelled a.width a.stretch.s.now (l.i + a.width) a.stretch.to) c.in_ok-room.ensures ∙ sym on in (
       search rules,
       (done ++ (v ∷ []), put_more l.invariant.1.1 (put_byte l.room l.end v (omega (arith, c.if-room-end.false))), append_assoc done (v ∷ []) _ ∙ ap (λ (r : List ℕ). done ++ r) next ∙ l.invariant.1.2),
     )
@@ -23,5 +23,5 @@ returns-clause-written g c =
     let l = c.loop-i in
     let a = c.args in
     let done = l.invariant.1.0 in
-    let none = spelled_none a.width a.s.now l.i a.to c.requires.0 c.requires.1 c.loop-i-test.false in
+    let none = spelled_none a.width a.stretch.s.now l.i a.stretch.to c.requires.0 c.requires.1 c.loop-i-test.false in
     put_as (sym (append-nil done) ∙ sym (ap (λ (r : List ℕ). done ++ r) none) ∙ l.invariant.1.2) l.invariant.1.1

@@ -50,8 +50,8 @@ returns c =
     let kind = scheme c.args.scheme in
     let f = found c.next_in.ensures c.in-Some.is in
     let bytes = slice (start_at T.rows quote + 1) (end_at T.rows quote - 1) T.text in
-    let m = c.in-Some.number in
-    let e : address kind bytes ≡ some (value m) = ap (address kind) (sym c.string_at.ensures) ∙ sym c.in-Some.ensures in
+    let m = c.in-Some-read.number in
+    let e : address kind bytes ≡ some (value m) = ap (address kind) (sym c.string_at.ensures) ∙ sym c.in-Some-read.ensures in
     -- as a plain number
     let stored : literal_meant c.plain.result ≡ plain (value m) = ap₂ (λ (b : Base) (m : Magnitude). literal_in (base_meant b) (value m)) c.plain.ensures.0 c.plain.ensures.1 in
     same_out T n at free _ _ _ _ (addressed_here T n quote address kind _ f ∙ rw e) c.close.result

@@ -50,10 +50,10 @@ pub returns : goal.returns
 returns c =
     let from = start_of c.args.from.now in
     let T = tape_of c.args.text.now c.args.tape.now in
-    let k = reads.scheme c.in-Some.scheme in
+    let k = reads.scheme c.in-Some-scheme_of.scheme in
     let names = ap scheme_of (c.word_at.ensures ∙ sym (word_is T from.count from.token c.requires.word)) in
     same_out _ _ _ _ _ _ _ _
     (keyed_address T from.count (from.token + 1) address _ _ (found c.next_in-2.ensures c.in-Some-next_in.is) k
-    (sym names ∙ sym c.scheme_of.ensures ∙ ap reads.named c.in-Some.is)
+    (sym names ∙ sym c.scheme_of.ensures ∙ ap reads.named c.in-Some-scheme_of.is)
     ∙ ap (addressed address k _) (past_two T from.count from.token))
     c.addressed.result c.addressed.ensures

@@ -70,7 +70,7 @@ abbrev base : After-floor_on-floor → ℕ
 base c = c.loop-i.height - c.takes-need.result
 
 abbrev type_left : After-floor_on-floor → Ty
-type_left c = ty_meant c.in-Some.left
+type_left c = ty_meant c.in-Some-typed.left
 
 floor_so : (c : After-floor_on-floor) → c.floor_on-floor.result ≡ floor_with (type_left c) (base c) (floor_under c.loop-i.stack (base c))
 floor_so c =
@@ -121,7 +121,7 @@ loop-i-preserved c =
     let cell = c.packed.result in
     let ty : ty_in cell ≡ type_left f = c.packed.ensures.0 in
     let low : floor_in cell ≡ c.floor_on-floor.result = c.packed.ensures.1 in
-    let left = typed_so at.After-typed (read at.After-takes-need) t ∙ ap typing_meant c.in-Some.is in
+    let left = typed_so at.After-typed (read at.After-takes-need) t ∙ ap typing_meant c.in-Some-typed.is in
     point_next c.loop-i.invariant t cell c.mark_of.result
     c.if-height-need.false c.if-base-ge-MOST_HELD.false
     (left ∙ ap (λ a. some a) (sym ty))

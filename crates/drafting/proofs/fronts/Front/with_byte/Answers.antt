@@ -11,5 +11,5 @@ returns-in_default c at f h =
     let list = c.args.names.now in
     let table = c.args.table.now in
     let nothing-waits = sym h.opened ∙ ap opened_meant c.in_default.is in
-    steps_as list table c.args.nodes.now at c.with_opcode.result (byte_opcode (length list / 80) (length table) at c.args.byte f f.comparator nothing-waits c.opcode_of.ensures)
+    steps_as list table c.args.nodes.now at c.with_opcode.result (byte_opcode (length list / 80) (length table) at c.args.byte f f.comparator nothing-waits c.in_ok-opcode_of.ensures)
     (c.with_opcode.ensures list table c.args.nodes.now at f h)

@@ -5,4 +5,4 @@ use Rattle.drafting.proofs.fronts.Front.with_conjunction.Goals as goal
 pub returns : goal.returns
 returns c list table ns at f h =
     let a = c.args in
-    conjoined list table ns a.self f h at a.j _ c.in-Tree.is c.in-Nothing.is
+    conjoined list table ns a.self f h at a.j _ c.in-Some.is c.in-None.is

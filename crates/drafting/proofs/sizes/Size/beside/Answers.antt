@@ -17,5 +17,5 @@ returns c =
     let a = c.args in record {
       small = record { tokens = omega (arith, c.capped.ensures); levels = omega (arith, c.capped-2.ensures) };
       sized = operator_sized a.self a.right a.o (left_stood c) (right_stood c) c.capped.ensures
-          (c.capped-2.ensures ∙ rw c.greater.ensures) c.rung_of.ensures;
+          (c.capped-2.ensures ∙ rw c.max.ensures) c.rung_of.ensures;
     }

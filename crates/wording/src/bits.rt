@@ -141,9 +141,9 @@ fn say_decimal(rt: &impl Print, n: Magnitude) -> io::Result<()> {
 fn say_range(rt: &impl Print, w: u32) -> io::Result<()>
     requires { 1 ≤ w }
 {
-    let half = Magnitude::ones(w - 1).grow(1, 1);
+    let half = Magnitude::ones(w - 1).wrapping_grow(1, 1);
     say(rt, b"-")?;
-    say_decimal(rt, half.number)?;
+    say_decimal(rt, half)?;
     say(rt, b" to ")?;
     say_decimal(rt, Magnitude::ones(w))
 }

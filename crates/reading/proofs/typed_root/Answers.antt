@@ -31,7 +31,7 @@ returns-in_err-check_types-clause-settles c =
     rw (passed_up _ c.from_residual-in_err-check_types.ensures.1) (
       settles c.args.scratch (Err _),
       not_typed text list _ size (still_planted text list _ _ size names.ensures p)
-      u.result (u.ensures text (marked_below (keys_in list) text _ (omega (arith, some)) names.ensures.marked)) c.in_err-check_types.was,
+          u.result (u.ensures text (marked_below (keys_in list) text _ (omega (arith, some)) names.ensures.marked)) c.in_err-check_types.was,
     )
 
 -- the tree that is left has the right types

@@ -5,8 +5,7 @@ use Rattle.paper.specs.declared.Refusal.{Refusal}
 use mathlib.Core.Path.{◌≡◌, refl, sym, ap, ◌∙◌}
 use mathlib.Core.Bool.{Bool, true, false, not}
 use mathlib.Core.List.{List, [], ◌∷◌}
-use Rattle.paper.specs.declared.Place.{Place}
-use Rattle.paper.specs.Answers.{Answer, Input, ok, refused, says, input_of, offset_of, refused_by}
+use Rattle.paper.specs.Answers.{Answer, Input, ok, refused, says, refused_by}
 use Rattle.paper.specs.Keys.{keys}
 use Rattle.paper.specs.Entry.{entry_of}
 use Rattle.paper.specs.Grammar.{Tree}

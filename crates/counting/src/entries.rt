@@ -36,11 +36,7 @@ pub fn clear(counts: &mut [u64], n: usize)
     requires { n ≤ length counts.old }
     ensures { counts.new ≡ over (replicate n 0) counts.old }
 {
-    let mut k = 0;
-    while k < n {
-        counts[k] = 0;
-        k += 1;
-    }
+    counts[..n].fill(0);
 }
 
 // Adds the whole entries of a stretch to the numbers of n parts that stand. Bytes of a last one that is cut are not looked at.
@@ -60,11 +56,9 @@ pub fn tally(
     let size = keys::entry_size(list);
     let whole = entries.len() / size;
     let mut totals = Totals::none();
-    let mut k = 0;
-    while k < whole {
+    for k in 0..whole {
         let entry = keys::entry_at(entries, k, size);
         totals = totals.plus(add_entry(list, entry, nodes, rows, n, counts));
-        k += 1;
     }
     totals
 }

@@ -26,14 +26,12 @@ pub(crate) fn add_false(
         × (result ≡ all_below (λ k. tree_holds text list.now entry.now nodes.now (root_at rows.now k)) n)) }
 {
     let mut all = true;
-    let mut k = 0;
-    while k < n {
+    for k in 0..n {
         let root = part_rows::root_at(rows, k);
         if !judging::holds(list, entry, nodes, root) {
             counts[k] += 1;
             all = false;
         }
-        k += 1;
     }
     all
 }

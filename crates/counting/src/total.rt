@@ -2,7 +2,7 @@
 ghost use Rattle.std.specs.Prelude.{◌≡◌, not, ◌+◌, ◌^◌, ◌<◌};
 ghost use Rattle.paper.specs.CountedRight.{one};
 
-#[derive(Clone, Copy)]
+#[derive(Clone, Copy, Default)]
 pub struct Totals {
     pub accepted: u64,
     pub violated: u64,
@@ -14,11 +14,7 @@ impl Totals {
     pub fn none() -> Totals
         ensures { (result.accepted ≡ 0) × (result.violated ≡ 0) × (result.refused ≡ 0) }
     {
-        Totals {
-            accepted: 0,
-            violated: 0,
-            refused: 0,
-        }
+        Totals::default()
     }
 
     // Of an entry that does not conform.
@@ -26,9 +22,8 @@ impl Totals {
         ensures { (result.accepted ≡ 0) × (result.violated ≡ 0) × (result.refused ≡ 1) }
     {
         Totals {
-            accepted: 0,
-            violated: 0,
             refused: 1,
+            ..Totals::none()
         }
     }
 
@@ -36,16 +31,9 @@ impl Totals {
     pub(crate) fn verdict(accepted: bool) -> Totals
         ensures { (result.accepted ≡ one accepted) × (result.violated ≡ one (not accepted)) × (result.refused ≡ 0) }
     {
-        if accepted {
-            return Totals {
-                accepted: 1,
-                violated: 0,
-                refused: 0,
-            };
-        }
         Totals {
-            accepted: 0,
-            violated: 1,
+            accepted: u64::from(accepted),
+            violated: u64::from(!accepted),
             refused: 0,
         }
     }

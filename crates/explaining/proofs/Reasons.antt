@@ -11,7 +11,6 @@ use mathlib.Core.List.{List}
 use lib.ListN.{length}
 use lib.Dec.{eqb, leb}
 use borrow.Author.Tests.{eqb-true, leb-true}
-use Rattle.paper.specs.declared.Place.{Place}
 use Rattle.paper.specs.Answers.{Input, ok, refused, input_of, offset_of, says, refused_by}
 use Rattle.paper.specs.Keys.{records_in, record_at}
 use Rattle.paper.specs.Entry.{head_size}

@@ -3,19 +3,17 @@ use Prim.Native.Nat.{ℕ, suc, ◌+◌, ◌-◌, ◌≤◌, ◌<◌}
 use native.Mathlib.Nat.{sub-zero}
 use native.Mathlib.Numerals.{add-one}
 use native.Mathlib.Omega.{arith}
-use mathlib.Core.Path.{◌≡◌, subst}
+use mathlib.Core.Path.{◌≡◌}
 use mathlib.Core.Bool.{true, false}
 use mathlib.Core.Option.{Option, none, some}
 use mathlib.Core.List.{List}
 use Rattle.paper.specs.Parts.{Part}
 use Rattle.paper.specs.Explained.{holds_on, first_false}
-use Rattle.keys.specs.declared.find.Found.{Found}
-use Rattle.keys.specs.declared.find.Found.TheVariants.{At, Nothing}
 use Rattle.keys.specs.Says.{keys_in}
 use Rattle.operands.specs.Conforming.{entry_in}
 use Rattle.parts.specs.Rows.{root_at, part_at, each}
 use Rattle.judging.specs.Holding.{tree_holds}
-use Rattle.explaining.specs.FirstFalse.{first_in, Is, Finds}
+use Rattle.explaining.specs.FirstFalse.{first_in}
 
 module _ (text list entry nodes rows : List ℕ) (n : ℕ) where
   -- the first from row k on
@@ -43,11 +41,3 @@ module _ (text list entry nodes rows : List ℕ) (n : ℕ) where
     no_more h =
         let past : n - k ≡ 0 = omega arith in
         rw past
-
--- what the search's answer tells
-module _ (text list entry nodes rows : List ℕ) (n : ℕ) (r : Found) (told : Finds text list entry nodes rows n r) where
-  pub stops_at : {k : ℕ} → r ≡ At k → Is text list entry nodes rows n k
-  stops_at e = subst (Finds text list entry nodes rows n) e told
-
-  pub stops_nowhere : r ≡ Nothing → first_in text list entry nodes rows n ≡ none
-  stops_nowhere e = subst (Finds text list entry nodes rows n) e told

@@ -14,7 +14,7 @@ ghost use Rattle.explaining.specs.FirstFalse.{first_in};
 ghost use Rattle.explaining.specs.KeyShown.{HasKey, Listed};
 
 use crate::first;
-use keys::{Entry, Found, KeyRecord, Matched};
+use keys::{Entry, KeyRecord, Matched};
 use paper::{Explanation, Place, Refusal, Verdict, refused};
 use parts::rows as part_rows;
 
@@ -38,31 +38,25 @@ pub fn of_entry(list: &[u8], entry: &[u8], nodes: &[u32], rows: &[u32], n: usize
     ensures { (text : List ℕ) → Parted text list.now nodes.now rows.now n
         → explanation_says result ≡ reason_for list.now (ok (first_in text list.now entry.now nodes.now rows.now n)) }
 {
-    let broken = first::first_false(list, entry, nodes, rows, n);
-    match broken {
-        Found::Nothing => Explanation::Nothing(Ok(Verdict::Accepted)),
-        Found::At(k) => part(nodes, rows, k),
+    match first::first_false(list, entry, nodes, rows, n) {
+        Some(k) => part(nodes, rows, k),
+        None => Explanation::Nothing(Ok(Verdict::Accepted)),
     }
 }
 
+// The crate `wording` has the same. No crate below both is about places but `paper`, in which nothing computes.
 fn offset(place: Place) -> usize
     ensures { result ≡ offset_of place }
 {
     match place {
-        Place::Text(at) => at,
-        Place::List(at) => at,
-        Place::Entry(at) => at,
-        Place::Blocks(at) => at,
-        Place::Buffer(at) => at,
-        Place::Contract(at) => at,
-        Place::Table(at) => at,
+        Place::Text(at)
+        | Place::List(at)
+        | Place::Entry(at)
+        | Place::Blocks(at)
+        | Place::Buffer(at)
+        | Place::Contract(at)
+        | Place::Table(at) => at,
     }
-}
-
-fn wide(x: u8) -> usize
-    ensures { result ≡ x }
-{
-    x as usize
 }
 
 // The length of the name of key k of a list: the first byte of its record.
@@ -70,7 +64,7 @@ fn name_size(list: &[u8], k: usize) -> usize
     requires { k < records_in list.now }
     ensures { result ≡ byte_at (record_at list.now k) 0 }
 {
-    wide(list[k * KeyRecord::SIZE])
+    usize::from(list[k * KeyRecord::SIZE])
 }
 
 // The key whose record stands at a place of the entry: that place, and where the name stands in the list.

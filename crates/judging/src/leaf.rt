@@ -24,7 +24,6 @@ pub(crate) fn leaf_value(list: &[u8], entry: &[u8], nodes: &[u32], i: usize) -> 
         Operand::Key(k) => operands::bare_cell(list, entry, k),
         Operand::Field(k, f) => operands::field_cell(list, entry, f, k),
         Operand::Attribute(_) => operands::priority_cell(entry),
-        Operand::UnknownKey => Cell::truth(false),
-        Operand::UnknownField => Cell::truth(false),
+        Operand::UnknownKey | Operand::UnknownField => Cell::truth(false),
     }
 }

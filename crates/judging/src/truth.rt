@@ -17,10 +17,8 @@ fn settles(o: Join, a: bool) -> bool
     ensures { result ≡ truths.settles (connective (join_meant o)) a }
 {
     match o {
-        Join::Sequel => !a,
-        Join::And => !a,
+        Join::Sequel | Join::And | Join::Implies => !a,
         Join::Or => a,
-        Join::Implies => !a,
     }
 }
 
@@ -28,12 +26,7 @@ fn settles(o: Join, a: bool) -> bool
 fn settled(o: Join) -> bool
     ensures { result ≡ truths.settled (connective (join_meant o)) }
 {
-    match o {
-        Join::Sequel => false,
-        Join::And => false,
-        Join::Or => true,
-        Join::Implies => true,
-    }
+    matches!(o, Join::Or | Join::Implies)
 }
 
 // Whether a comparison of the trees at two nodes is true.

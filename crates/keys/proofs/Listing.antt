@@ -1,14 +1,16 @@
 -- The check of a key list by any rule: its length, and then the test of each record.
 use Prim.Native.Nat.{ℕ, ◌*◌, ◌%◌, ◌≤◌, ◌<◌}
-use mathlib.Core.Path.{◌≡◌, refl, ap}
+use mathlib.Core.Path.{◌≡◌, refl, sym, ap}
 use mathlib.Core.Bool.{true, false}
-use mathlib.Core.Option.{none, some}
 use mathlib.Core.List.{List}
 use lib.ListN.{length}
 use borrow.Author.Tests.{eq-eqb, ne_eqb, le-leb, lt-leb}
+use Rattle.std.specs.Prelude.{Option, Some, None}
+use Rattle.std.specs.Option.{is_some}
 use Rattle.paper.specs.Answers.{Answer, ok, refused, ◌>>=◌, in_turn, in_list}
 use Rattle.paper.specs.Keys.{record_size, records_in, record_at, name_of, find, keys_from, RecordRule, record_test}
-use Rattle.keys.specs.Says.{keys_in, count_by}
+use Rattle.keys.specs.Says.{keys_in, found, count_by}
+use Rattle.keys.proofs.Answering.{never}
 use Rattle.keys.proofs.Records.{keys_length}
 
 module _ (rule : RecordRule) (list : List ℕ) where
@@ -34,8 +36,11 @@ module _ (rule : RecordRule) (list : List ℕ) (k : ℕ) {r : List ℕ} (at : r 
   broken e = rw (← at, e)
 
   module _ {name : List ℕ} (good : rule k r ≡ true) (named : name ≡ name_of r) where
-    pub repeated : {j : ℕ} → find (keys_from list 0 k) name ≡ some j → record_test rule list k ≡ refused 4 in_list (k * record_size)
-    repeated f = rw (← at, good, ← named, f)
+    pub repeated : (r : Option ℕ) → is_some r ≡ true → found r ≡ find (keys_from list 0 k) name
+        → record_test rule list k ≡ refused 4 in_list (k * record_size)
+    repeated (Some j) s f = rw (← at, good, ← named, ← f)
+    repeated None s f = absurd (never s)
 
-    pub new : find (keys_from list 0 k) name ≡ none → record_test rule list k ≡ ok tt
-    new f = rw (← at, good, ← named, f)
+    pub new : (r : Option ℕ) → is_some r ≡ false → found r ≡ find (keys_from list 0 k) name → record_test rule list k ≡ ok tt
+    new None s f = rw (← at, good, ← named, ← f)
+    new (Some j) s f = absurd (never (sym s))

@@ -1,13 +1,13 @@
 -- The key of a name, a record at a time: k records are passed, of n.
-use Prim.Native.Nat.{ℕ, ◌+◌, ◌-◌, ◌≤◌, ◌<◌}
+use Prim.Native.Nat.{ℕ, ◌+◌, ◌-◌, ◌<◌}
 use mathlib.Core.Path.{◌≡◌}
 use mathlib.Core.Bool.{true, false}
-use mathlib.Core.Option.{Option, none, some}
+use mathlib.Core.Option.{Option, some}
 use mathlib.Core.List.{List}
 use native.Mathlib.Numerals.{add-one}
 use Rattle.paper.specs.Tokens.{same_bytes}
 use Rattle.paper.specs.Keys.{record_at, name_of, keys_from, find_from}
-use Rattle.spelling.proofs.Steps.{one_less, none_left}
+use Rattle.spelling.proofs.Steps.{one_less}
 
 -- what the search from k on finds
 abbrev pub find_on : List ℕ → List ℕ → ℕ → ℕ → Option ℕ
@@ -19,6 +19,3 @@ module _ (list word : List ℕ) (n k : ℕ) (h : k < n) {r name : List ℕ} (at 
 
   pub find_on_lem : same_bytes name word ≡ false → find_on list word n k ≡ find_on list word n (k + 1)
   find_on_lem e = rw (one_less n k h, ← at, ← is, e, add-one k)
-
-pub find_end : (list word : List ℕ) (n k : ℕ) → n ≤ k → find_on list word n k ≡ none
-find_end list word n k h = rw (none_left n k h)

@@ -1,16 +1,13 @@
 -- What each answer of this crate says, in the paper's words.
-use Rattle.std.specs.Prelude.{ℕ, ◌/◌, ◌≡◌, List, [], eqb, length}
-use Rattle.std.proofs.Math.Option.{Option, none, some}
+use Rattle.std.specs.Prelude.{ℕ, Bool, ◌/◌, ◌≡◌, List, [], eqb, length, Option, Some, None}
+use Rattle.std.specs.Borrow.{Bor}
+use Rattle.std.proofs.Math.Option as maybe
 use Rattle.paper.specs.Answers.{Answer, ok, ◌>>=◌}
 use Rattle.paper.specs.Numbers.{byte_at}
-use Rattle.paper.specs.Keys.{Key, record_size, record_at, kind_of, RecordRule, keys_by, layout_rule, keys, keys_from}
-use Rattle.paper.specs.Drafting.{name_rule, names_of}
+use Rattle.paper.specs.Keys.{Key, record_size, record_at, kind_of, RecordRule, keys_by, keys, keys_from}
+use Rattle.paper.specs.Drafting.{names_of}
 use Rattle.paper.specs.Entry.{Match, entry_of}
 use Rattle.number.specs.Values.{value}
-use Rattle.keys.specs.declared.find.Found.{Found}
-use Rattle.keys.specs.declared.find.Found.TheVariants as F
-use Rattle.keys.specs.declared.list.Rule.{Rule}
-use Rattle.keys.specs.declared.list.Rule.TheVariants as R
 use Rattle.keys.specs.declared.entry.Matched.{Matched}
 use Rattle.keys.specs.declared.record.KeyRecord.{KeyRecord}
 
@@ -18,13 +15,18 @@ use Rattle.keys.specs.declared.record.KeyRecord.{KeyRecord}
 abbrev pub keys_in : List ℕ → List Key
 keys_in list = keys_from list 0 (length list / record_size)
 
-abbrev pub found : Found → Option ℕ
-found (F.At k) = some k
-found F.Nothing = none
+-- the index of a key in the paper's words
+abbrev pub found : Option ℕ → maybe.Option ℕ
+found (Some k) = maybe.some k
+found None = maybe.none
 
-abbrev pub rule_meant : Rule → RecordRule
-rule_meant R.Layout = layout_rule
-rule_meant R.Input = name_rule
+-- what may be asked of each record of a list, and the rule that the answers are by
+
+abbrev pub Askable : (ℕ → Bor (List ℕ) → Type 0) → Type 0
+Askable may = (k : ℕ) (key : Bor (List ℕ)) → length key.now ≡ record_size → may k key
+
+abbrev pub Asks : (ℕ → Bor (List ℕ) → Bool → Type 0) → RecordRule → Type 0
+Asks answers rule = (k : ℕ) (key : Bor (List ℕ)) (kept : Bool) → length key.now ≡ record_size → answers k key kept → kept ≡ rule k key.now
 
 -- how many keys a list holds, by a rule; by the layout; and as the names of inputs
 

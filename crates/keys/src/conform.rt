@@ -26,15 +26,13 @@ pub fn check_entry(list: &[u8], entry: &[u8]) -> Result<(), Refusal>
             place: Place::Entry(0),
         });
     }
-    let mut k = 0;
-    while k < n {
+    for k in 0..n {
         if !rules::match_ok(KeyRecord::read(list, k), entry::match_at(entry, k)) {
             return Err(Refusal {
                 number: refused::ENTRY_RULE,
                 place: Place::Entry(Entry::HEAD + k * Matched::SIZE),
             });
         }
-        k += 1;
     }
     Ok(())
 }

@@ -75,16 +75,14 @@ impl Matched {
         requires { key.width ≤ 128 }
         ensures { meant result ≡ absent (kind_of key.kind) key.width }
     {
-        if key.kind == kinds::RANGE {
-            return Matched {
-                first: Magnitude::zero(),
-                second: Magnitude::ones(key.width as u32),
-                length: 0,
-            };
-        }
+        let second = if key.kind == kinds::RANGE {
+            Magnitude::ones(u32::from(key.width))
+        } else {
+            Magnitude::zero()
+        };
         Matched {
             first: Magnitude::zero(),
-            second: Magnitude::zero(),
+            second,
             length: 0,
         }
     }

@@ -7,29 +7,21 @@ use crate::record;
 use crate::record::KeyRecord;
 use spelling::bytes;
 
-#[derive(Clone, Copy)]
-pub enum Found {
-    At(usize),
-    Nothing,
-}
-
 // The first of the first n keys that has a name.
-pub(crate) fn find_among(list: &[u8], n: usize, word: &[u8]) -> Found
+pub(crate) fn find_among(list: &[u8], n: usize, word: &[u8]) -> Option<usize>
     requires { n ≤ length list.now / record_size }
     ensures { found result ≡ find (keys_from list.now 0 n) word.now }
 {
-    let mut k = 0;
-    while k < n {
+    for k in 0..n {
         if bytes::same_bytes(record::name_of(record::record_at(list, k)), word) {
-            return Found::At(k);
+            return Some(k);
         }
-        k += 1;
     }
-    Found::Nothing
+    None
 }
 
 // The first key of a list that has a name.
-pub fn find_key(list: &[u8], word: &[u8]) -> Found
+pub fn find_key(list: &[u8], word: &[u8]) -> Option<usize>
     ensures { found result ≡ find (keys_in list.now) word.now }
 {
     find_among(list, list.len() / KeyRecord::SIZE, word)

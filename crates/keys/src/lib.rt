@@ -14,7 +14,7 @@ mod rules;
 
 pub use conform::check_entry;
 pub use entry::{Entry, Matched, same_record};
-pub use find::{Found, find_key};
+pub use find::find_key;
 pub use laid::{entry_at, entry_size};
 pub use list::{check_list, check_names};
 pub use record::KeyRecord;

@@ -78,20 +78,14 @@ pub(crate) fn name_of(key: &[u8]) -> &[u8]
     if KeyRecord::LONGEST < size {
         return &key[KeyRecord::NAME..];
     }
-    let end = KeyRecord::NAME + size as usize;
+    let end = KeyRecord::NAME + usize::from(size);
     &key[KeyRecord::NAME..end]
 }
 
 fn name_ok(s: &[u8]) -> bool
     ensures { result ≡ name_ok s.now }
 {
-    if !word::is_key(s) {
-        return false;
-    }
-    if bytes::same_bytes(s, b"true") {
-        return false;
-    }
-    !bytes::same_bytes(s, b"false")
+    word::is_key(s) && !bytes::same_bytes(s, b"true") && !bytes::same_bytes(s, b"false")
 }
 
 // Whether a key's record keeps its layout.
@@ -100,27 +94,11 @@ pub(crate) fn record_ok(key: &[u8]) -> bool
     ensures { result ≡ record_ok key.now }
 {
     let size = key[0];
-    if size == 0 {
-        return false;
-    }
-    if KeyRecord::LONGEST < size {
-        return false;
-    }
-    if kinds::OPTIONAL < key[1] {
-        return false;
-    }
-    if !bytes::within(1, KeyRecord::WIDEST, key[2]) {
-        return false;
-    }
-    if KeyRecord::REQUIRED < key[KeyRecord::FLAG] {
-        return false;
-    }
-    if !bytes::all_zero(&key[KeyRecord::ZEROS..KeyRecord::NAME]) {
-        return false;
-    }
-    if !name_ok(name_of(key)) {
-        return false;
-    }
-    let end = KeyRecord::NAME + size as usize;
-    bytes::all_zero(&key[end..])
+    bytes::within(1, KeyRecord::LONGEST, size)
+        && key[1] <= kinds::OPTIONAL
+        && bytes::within(1, KeyRecord::WIDEST, key[2])
+        && key[KeyRecord::FLAG] <= KeyRecord::REQUIRED
+        && bytes::all_zero(&key[KeyRecord::ZEROS..KeyRecord::NAME])
+        && name_ok(name_of(key))
+        && bytes::all_zero(&key[KeyRecord::NAME + usize::from(size)..])
 }

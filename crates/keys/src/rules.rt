@@ -14,82 +14,48 @@ use spelling::bytes;
 fn exact_ok(m: Matched) -> bool
     ensures { result ≡ kind_rule exact 0 (meant m) }
 {
-    let second = m.second;
-    if m.length != 0 {
-        return false;
-    }
-    second.is_zero()
+    m.length == 0 && m.second.is_zero()
 }
 
 fn ternary_ok(m: Matched) -> bool
     ensures { result ≡ kind_rule ternary 0 (meant m) }
 {
-    let first = m.first;
-    let second = m.second;
-    if m.length != 0 {
-        return false;
-    }
-    first.inside(second)
+    m.length == 0 && m.first.inside(m.second)
 }
 
 fn lpm_ok(width: u8, m: Matched) -> bool
     ensures { result ≡ kind_rule lpm width (meant m) }
 {
-    let first = m.first;
-    let second = m.second;
-    if !second.is_zero() {
-        return false;
-    }
-    if width < m.length {
-        return false;
-    }
-    first.low_clear((width - m.length) as u32)
+    m.second.is_zero() && m.length <= width && m.first.low_clear(u32::from(width - m.length))
 }
 
 fn range_ok(m: Matched) -> bool
     ensures { result ≡ kind_rule range 0 (meant m) }
 {
-    let first = m.first;
-    let second = m.second;
-    if m.length != 0 {
-        return false;
-    }
-    !second.less(first)
+    m.length == 0 && !m.second.less(m.first)
 }
 
 fn all_ones(mask: Magnitude, width: u8) -> bool
     ensures { result ≡ eqb (value mask) (2 ^ width - 1) }
 {
-    if KeyRecord::WIDEST < width {
-        return false;
-    }
-    mask.equal(Magnitude::ones(width as u32))
+    width <= KeyRecord::WIDEST && mask.equal(Magnitude::ones(u32::from(width)))
 }
 
 fn optional_ok(width: u8, m: Matched) -> bool
     ensures { result ≡ kind_rule optional width (meant m) }
 {
-    let mask = m.second;
-    if !ternary_ok(m) {
-        return false;
-    }
-    if mask.is_zero() {
-        return true;
-    }
-    all_ones(mask, width)
+    ternary_ok(m) && (m.second.is_zero() || all_ones(m.second, width))
 }
 
 fn kind_ok(key: KeyRecord, m: Matched) -> bool
     ensures { result ≡ kind_rule (kind_of key.kind) key.width (meant m) }
 {
-    let kind = key.kind;
-    let width = key.width;
-    match kind {
+    match key.kind {
         kinds::EXACT => exact_ok(m),
         kinds::TERNARY => ternary_ok(m),
-        kinds::LPM => lpm_ok(width, m),
+        kinds::LPM => lpm_ok(key.width, m),
         kinds::RANGE => range_ok(m),
-        _ => optional_ok(width, m),
+        _ => optional_ok(key.width, m),
     }
 }
 
@@ -98,13 +64,7 @@ fn absent_ok(key: KeyRecord, bytes: &[u8]) -> bool
     requires { length bytes.now ≡ match_size }
     ensures { result ≡ absent_rule (unnamed key) bytes.now }
 {
-    if key.kind == kinds::EXACT {
-        return false;
-    }
-    if key.required {
-        return false;
-    }
-    bytes::all_zero(&bytes[1..])
+    key.kind != kinds::EXACT && !key.required && bytes::all_zero(&bytes[1..])
 }
 
 fn present_ok(key: KeyRecord, bytes: &[u8]) -> bool
@@ -115,16 +75,8 @@ fn present_ok(key: KeyRecord, bytes: &[u8]) -> bool
         return false;
     }
     let m = Matched::spelled_out(bytes);
-    let first = m.first;
-    let second = m.second;
-    let width = key.width as u32;
-    if !first.fits(width) {
-        return false;
-    }
-    if !second.fits(width) {
-        return false;
-    }
-    kind_ok(key, m)
+    let width = u32::from(key.width);
+    m.first.fits(width) && m.second.fits(width) && kind_ok(key, m)
 }
 
 // Whether a key's record in an entry keeps the rule of the key's kind.
@@ -132,11 +84,9 @@ pub(crate) fn match_ok(key: KeyRecord, bytes: &[u8]) -> bool
     requires { length bytes.now ≡ match_size }
     ensures { result ≡ match_ok (unnamed key) bytes.now }
 {
-    if bytes[0] == 0 {
-        return absent_ok(key, bytes);
+    match bytes[0] {
+        0 => absent_ok(key, bytes),
+        1 => present_ok(key, bytes),
+        _ => false,
     }
-    if bytes[0] != 1 {
-        return false;
-    }
-    present_ok(key, bytes)
 }

@@ -13,10 +13,7 @@ use tokens::{kinds, rows as tape_rows};
 fn divides(depth: usize, kind: u32) -> bool
     ensures { result ≡ kind_divides depth kind }
 {
-    if kind != kinds::SEQUEL {
-        return false;
-    }
-    depth == 0
+    kind == kinds::SEQUEL && depth == 0
 }
 
 // How many parentheses are open after a token of a kind. A text that is read closes none that is not open.
@@ -24,13 +21,11 @@ fn open_after(depth: usize, kind: u32) -> usize
     requires { depth < most_tokens }
     ensures { result ≡ kind_opens depth kind }
 {
-    if kind == kinds::OPENING {
-        return depth + 1;
+    match kind {
+        kinds::OPENING => depth + 1,
+        kinds::CLOSING => depth.saturating_sub(1),
+        _ => depth,
     }
-    if kind != kinds::CLOSING {
-        return depth;
-    }
-    if depth == 0 { 0 } else { depth - 1 }
 }
 
 // Stores the part from one token to that before another, if it has any, after the n that are stored; answers how many there are then.
@@ -58,8 +53,7 @@ pub(crate) fn cut(tape: &[u32], count: usize, parts: &mut [u32]) -> usize
     let mut n = 0;
     let mut first = 0;
     let mut depth = 0;
-    let mut i = 0;
-    while i < count {
+    for i in 0..count {
         let kind = tape_rows::kind_at(tape, i);
         if divides(depth, kind) {
             n = close(tape, first, i, parts, n);
@@ -67,7 +61,6 @@ pub(crate) fn cut(tape: &[u32], count: usize, parts: &mut [u32]) -> usize
         } else {
             depth = open_after(depth, kind);
         }
-        i += 1;
     }
     close(tape, first, count, parts, n)
 }

@@ -6,18 +6,12 @@ ghost use Rattle.parts.specs.Rows.{Has, row_at, stretch_at, root_at};
 
 pub const WORDS: usize = 3;
 
-fn wide(x: u32) -> usize
-    ensures { result ≡ x }
-{
-    x as usize
-}
-
 // The offset of a part's first byte.
 pub fn start_at(parts: &[u32], part: usize) -> usize
     requires { Has parts.now part }
     ensures { result ≡ (stretch_at parts.now part).from }
 {
-    wide(parts[part * WORDS])
+    parts[part * WORDS] as usize
 }
 
 // The offset past its last byte.
@@ -25,7 +19,7 @@ pub fn end_at(parts: &[u32], part: usize) -> usize
     requires { Has parts.now part }
     ensures { result ≡ (stretch_at parts.now part).to }
 {
-    wide(parts[part * WORDS + 1])
+    parts[part * WORDS + 1] as usize
 }
 
 // The node of its root.
@@ -33,7 +27,7 @@ pub fn root_at(parts: &[u32], part: usize) -> usize
     requires { Has parts.now part }
     ensures { result ≡ root_at parts.now part }
 {
-    wide(parts[part * WORDS + 2])
+    parts[part * WORDS + 2] as usize
 }
 
 // Stores where a part begins and ends.

@@ -12,10 +12,8 @@ fn left_of(nodes: &[u32], i: usize) -> usize
     requires { i * 8 + 8 ≤ length nodes.now }
     ensures { LeftOf nodes.now i result }
 {
-    let node = Node::read(nodes, i);
-    match node {
-        Node::Without => 0,
-        Node::Before(_) => 0,
+    match Node::read(nodes, i) {
+        Node::Without | Node::Before(_) => 0,
         Node::Between(_, left) => left,
     }
 }
@@ -24,7 +22,7 @@ fn left_of(nodes: &[u32], i: usize) -> usize
 fn right_of(i: usize) -> usize
     ensures { result ≡ i - 1 }
 {
-    if i == 0 { 0 } else { i - 1 }
+    i.saturating_sub(1)
 }
 
 // Stores the roots of n parts, of which the text has so many. Its tree alone does not tell: `(a; b); c` has two, and `a; b; c` three.
@@ -34,13 +32,11 @@ pub(crate) fn name_roots(nodes: &[u32], root: usize, parts: &mut [u32], n: usize
     ensures { Rooted nodes.now root parts.old parts.new n }
 {
     let mut at = root;
-    let mut k = n;
-    while 1 < k {
-        k -= 1;
+    for k in (1..n).rev() {
         rows::put_root(parts, k, right_of(at));
         at = left_of(nodes, at);
     }
-    if k == 1 {
+    if 0 < n {
         rows::put_root(parts, 0, at);
     }
 }

@@ -14,7 +14,6 @@ ghost use Rattle.trees.specs.Standing.{spelling};
 ghost use Rattle.trees.specs.Marks.{key_mark, field_mark};
 ghost use Rattle.resolving.specs.Resolved.{ResolvesAt, Resolves};
 
-use keys::Found;
 use trees::{Leaf, Span};
 use values::fields;
 
@@ -22,11 +21,10 @@ fn key_mark(text: &[u8], list: &[u8], w: Span) -> u32
     requires { length list.now ≤ 2560 }
     ensures { result ≡ key_mark (find (keys_in list.now) (spelling text.now w)) }
 {
-    let found = keys::find_key(list, trees::spelled(text, w));
-    let Found::At(k) = found else {
-        return 0;
-    };
-    k as u32 + 1
+    match keys::find_key(list, trees::spelled(text, w)) {
+        Some(k) => k as u32 + 1,
+        None => 0,
+    }
 }
 
 fn field_mark(text: &[u8], f: Span) -> u32
@@ -41,10 +39,7 @@ fn field_mark(text: &[u8], f: Span) -> u32
 fn priority_mark(text: &[u8], f: Span) -> u32
     ensures { result ≡ bit (same_bytes (spelling text.now f) (bytes "priority")) }
 {
-    if fields::is_priority(trees::spelled(text, f)) {
-        return 1;
-    }
-    0
+    u32::from(fields::is_priority(trees::spelled(text, f)))
 }
 
 fn resolve_node(text: &[u8], list: &[u8], nodes: &mut [u32], i: usize)
@@ -53,8 +48,7 @@ fn resolve_node(text: &[u8], list: &[u8], nodes: &mut [u32], i: usize)
 {
     let leaf = Leaf::read(nodes, i);
     match leaf {
-        Leaf::Truth(_) => {}
-        Leaf::Number(_, _, _, _, _) => {}
+        Leaf::Truth(_) | Leaf::Number(..) => {}
         Leaf::Key(w) => {
             let key = key_mark(text, list, w);
             trees::mark(nodes, i, key, 0);
@@ -76,9 +70,7 @@ pub fn resolve(text: &[u8], list: &[u8], nodes: &mut [u32], count: usize)
     requires { (length list.now ≤ 2560) × (count * 8 ≤ length nodes.old) }
     ensures { Resolves (keys_in list.now) text.now nodes.old nodes.new count }
 {
-    let mut i = 0;
-    while i < count {
+    for i in 0..count {
         resolve_node(text, list, nodes, i);
-        i += 1;
     }
 }

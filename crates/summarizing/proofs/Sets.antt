@@ -7,7 +7,7 @@ use lib.Dec.{eqb}
 use borrow.Author.Tests.{ne_eqb}
 use Rattle.paper.specs.Keys.{most_keys}
 use Rattle.paper.specs.Named.{set_from, set_of}
-use Rattle.summarizing.specs.declared.set.Summary.{Summary}
+use Rattle.paper.specs.declared.Summary.{Summary}
 use Rattle.summarizing.specs.Sums.{Sums}
 
 -- what is summed up may be said in other words

@@ -19,7 +19,7 @@ use Rattle.trees.specs.Marks.{operand_at}
 use Rattle.trees.proofs.Walks.{tree_at_lem}
 use Rattle.typing.specs.Known.{Known}
 use Rattle.typing.proofs.Knowing.{made}
-use Rattle.summarizing.specs.declared.set.Summary.{Summary}
+use Rattle.paper.specs.declared.Summary.{Summary}
 use Rattle.summarizing.specs.Sums.{Sums, operand_names, operand_marked}
 use Rattle.summarizing.proofs.Sets.{sums_as}
 use Rattle.summarizing.proofs.Leaves.{leaf_names, leaf_marked}

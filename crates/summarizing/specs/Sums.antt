@@ -3,7 +3,7 @@ use Rattle.std.specs.Prelude.{ℕ, ◌≡◌, Bool, true, false, eqb}
 use Rattle.paper.specs.Named.{set_of}
 use Rattle.trees.specs.declared.marks.Operand.{Operand}
 use Rattle.trees.specs.declared.marks.Operand.TheVariants.{Truth, Number, Key, Field, Attribute, UnknownKey, UnknownField}
-use Rattle.summarizing.specs.declared.set.Summary.{Summary}
+use Rattle.paper.specs.declared.Summary.{Summary}
 
 pub record Sums (p : ℕ → Bool) (mark : Bool) (s : Summary) : Type 0 where
   pub keys : s.keys ≡ set_of p

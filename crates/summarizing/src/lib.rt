@@ -10,5 +10,5 @@ mod set;
 mod walk;
 
 pub use same::same_named;
-pub use set::{Summary, count_keys};
+pub use set::count_keys;
 pub use walk::summary_at;

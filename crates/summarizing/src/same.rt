@@ -6,8 +6,8 @@ ghost use Rattle.keys.specs.Says.{keys_in};
 ghost use Rattle.operands.specs.Conforming.{Conforming};
 ghost use Rattle.summarizing.specs.Sums.{Sums};
 
-use crate::set::Summary;
 use keys::{Entry, KeyRecord};
+use paper::Summary;
 
 // Whether the records of the keys in a set have the same bytes in two entries. The lowest bit that is left is that of the next key.
 fn same_records(list: &[u8], old: &[u8], new: &[u8], named: u32) -> bool
@@ -17,15 +17,11 @@ fn same_records(list: &[u8], old: &[u8], new: &[u8], named: u32) -> bool
 {
     let n = list.len() / KeyRecord::SIZE;
     let mut rest = named;
-    let mut k = 0;
-    while k < n {
-        if rest % 2 == 1 {
-            if !keys::same_record(old, new, k) {
-                return false;
-            }
+    for k in 0..n {
+        if rest % 2 == 1 && !keys::same_record(old, new, k) {
+            return false;
         }
-        rest = rest / 2;
-        k += 1;
+        rest /= 2;
     }
     true
 }
@@ -37,11 +33,6 @@ pub fn same_named(list: &[u8], old: &[u8], new: &[u8], summary: Summary) -> bool
     ensures { (p : ℕ → Bool) (m : Bool) → Sums p m summary
         → result ≡ (same_from p old.now new.now 0 (length (keys_in list.now)) && same_priority m old.now new.now) }
 {
-    if !same_records(list, old, new, summary.keys) {
-        return false;
-    }
-    if !summary.priority {
-        return true;
-    }
-    Entry::read(old).priority == Entry::read(new).priority
+    same_records(list, old, new, summary.keys)
+        && (!summary.priority || Entry::read(old).priority == Entry::read(new).priority)
 }

@@ -7,7 +7,8 @@ ghost use Rattle.trees.specs.Marks.{operand_at};
 ghost use Rattle.typing.specs.Known.{Known};
 ghost use Rattle.summarizing.specs.Sums.{Sums, operand_names, operand_marked};
 
-use crate::set::Summary;
+use crate::set;
+use paper::Summary;
 use trees::{Node, Operand};
 
 // Of a node with no operand, by its marks. A name of nothing, which no typed tree has, names no key.
@@ -17,13 +18,10 @@ fn leaf_summary(nodes: &[u32], i: usize) -> Summary
 {
     let operand = Operand::read(nodes, i);
     match operand {
-        Operand::Truth(_) => Summary::nothing(),
-        Operand::Number(_, _, _, _) => Summary::nothing(),
-        Operand::Key(k) => Summary::of_key(k),
-        Operand::Field(k, _) => Summary::of_key(k),
-        Operand::Attribute(_) => Summary::of_priority(),
-        Operand::UnknownKey => Summary::nothing(),
-        Operand::UnknownField => Summary::nothing(),
+        Operand::Key(k) | Operand::Field(k, _) => set::of_key(k),
+        Operand::Attribute(_) => set::of_priority(),
+        Operand::Truth(_) | Operand::Number(..) => set::nothing(),
+        Operand::UnknownKey | Operand::UnknownField => set::nothing(),
     }
 }
 
@@ -40,7 +38,7 @@ pub fn summary_at(nodes: &[u32], at: usize) -> Summary
         Node::Between(_, left) => {
             let a = summary_at(nodes, left);
             let b = summary_at(nodes, at - 1);
-            a.with(b)
+            set::either(a, b)
         }
     }
 }

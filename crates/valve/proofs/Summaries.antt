@@ -10,7 +10,7 @@ use Rattle.keys.specs.Says.{keys_in}
 use Rattle.trees.specs.Standing.{tree_at}
 use Rattle.reading.specs.Restricted.{Rooted}
 use Rattle.paper.specs.Calls.{restriction}
-use Rattle.summarizing.specs.declared.set.Summary.{Summary}
+use Rattle.paper.specs.declared.Summary.{Summary}
 use Rattle.summarizing.specs.Sums.{Sums}
 
 -- in the paper's words

@@ -11,11 +11,7 @@ fn summary_of(nodes: &[u32], root: usize) -> Summary
     requires { (text : List ℕ) × ((list : List ℕ) × Rooted text list nodes.now root) }
     ensures { (text list : List ℕ) → Rooted text list nodes.now root → SummarizePromised text list (Ok result) }
 {
-    let summary = summarizing::summary_at(nodes, root);
-    Summary {
-        keys: summary.keys,
-        priority: summary.priority,
-    }
+    summarizing::summary_at(nodes, root)
 }
 
 fn summarize_long(text: &[u8], list: &[u8]) -> Result<Summary, Refusal>

@@ -6,7 +6,7 @@
 ghost use Rattle.std.specs.Prelude.{◌≤◌, length, IfSome};
 
 use crate::say::Things;
-use keys::{Found, KeyRecord};
+use keys::KeyRecord;
 use lines::{say, start};
 use number::Magnitude;
 use printing::Rung;
@@ -108,9 +108,7 @@ fn leaf(nodes: &[u32], i: usize) -> Leaf
 fn width_of_key(list: &[u8], name: &[u8]) -> Option<u32>
     ensures { IfSome result (λ w. 1 ≤ w) }
 {
-    let Found::At(k) = keys::find_key(list, name) else {
-        return None;
-    };
+    let k = keys::find_key(list, name)?;
     if k < list.len() / KeyRecord::SIZE {
         let key = KeyRecord::read(list, k);
         return Some(u32::from(key.width)).filter(|w| 0 < *w);

@@ -1,12 +1,8 @@
 -- `resolving::resolve` meets its contract. The invariant of its loop: the nodes are as they were, and those before i are marked
--- (`Resolves`); each turn marks one more (`one_more`). The measure is `count - i`.
-use Prim.Native.Nat.{◌-◌, ◌≤◌}
+-- (`Resolves`); each turn marks one more (`one_more`).
 use Rattle.keys.specs.Says.{keys_in}
 use Rattle.resolving.specs.Resolved.{Resolves}
 use Rattle.resolving.proofs.resolve.Given as goal
 
 abbrev pub invariant-loop-i : goal.invariant-loop-i
-invariant-loop-i l = (l.i ≤ l.count) × Resolves (keys_in l.list) l.text l.initial.nodes l.nodes l.i
-
-abbrev pub decreases-loop-i : goal.decreases-loop-i
-decreases-loop-i l = l.count - l.i
+invariant-loop-i l = Resolves (keys_in l.list) l.text l.initial.nodes l.nodes l.i

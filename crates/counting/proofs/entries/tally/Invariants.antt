@@ -1,6 +1,6 @@
 -- `counting::tally` meets its contract. The invariant of its loop: the first k entries are counted (`Adds`). Each turn counts one more (`adds_more`,
--- `laid_next`). The measure is the number of whole entries that are left.
-use Prim.Native.Nat.{ℕ, ◌-◌, ◌≤◌}
+-- `laid_next`).
+use Prim.Native.Nat.{ℕ}
 use mathlib.Core.Path.{◌≡◌}
 use mathlib.Core.List.{List}
 use lib.ListN.{length}
@@ -14,10 +14,6 @@ use Rattle.counting.proofs.entries.tally.Given as goal
 
 abbrev pub invariant-loop-k : goal.invariant-loop-k
 invariant-loop-k l =
-    (l.k ≤ l.whole)
-    × (length l.counts ≡ length l.initial.counts)
+    (length l.counts ≡ length l.initial.counts)
     × ((text : List ℕ) (p : PassedParts text l.list l.nodes l.rows l.n)
     → Adds (keys_in l.list) (tree_at text l.nodes p.root) l.n (part_at text l.nodes l.rows) (laid_out l.size l.k l.entries) l.initial.counts l.counts l.totals)
-
-abbrev pub decreases-loop-k : goal.decreases-loop-k
-decreases-loop-k l = l.whole - l.k

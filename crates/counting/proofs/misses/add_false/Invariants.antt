@@ -1,7 +1,7 @@
 -- `counting::add_false` meets its contract. The invariant of its loop (`Missed`): the numbers of the first k parts have grown where these are false
 -- on the entry, and it is known whether all of them are true. A part that is false is one more (`missed_false`), one that is true changes nothing
--- (`missed_true`). The measure is the number of parts that are left.
-use Prim.Native.Nat.{ℕ, ◌-◌, ◌≤◌}
+-- (`missed_true`).
+use Prim.Native.Nat.{ℕ}
 use mathlib.Core.Path.{◌≡◌}
 use mathlib.Core.List.{List}
 use lib.ListN.{length}
@@ -13,9 +13,5 @@ use Rattle.counting.proofs.misses.add_false.Given as goal
 
 abbrev pub invariant-loop-k : goal.invariant-loop-k
 invariant-loop-k l =
-    (l.k ≤ l.n)
-    × (length l.counts ≡ length l.initial.counts)
+    (length l.counts ≡ length l.initial.counts)
     × ((text : List ℕ) → Parted text l.list l.nodes l.rows l.n → Missed (λ j. tree_holds text l.list l.entry l.nodes (root_at l.rows j)) l.k l.initial.counts l.counts l.all)
-
-abbrev pub decreases-loop-k : goal.decreases-loop-k
-decreases-loop-k l = l.n - l.k

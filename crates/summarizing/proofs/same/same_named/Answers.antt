@@ -4,9 +4,7 @@ use Rattle.operands.proofs.Conforming.{entry_size}
 use Rattle.summarizing.proofs.same.same_named.Goals as goal
 
 pub read-requires : goal.read-requires
-read-requires c =
-    omega (arith, entry_size c.args.list.now c.args.old.now c.requires.conforming)
+read-requires c = omega (arith, entry_size c.args.list.now c.args.old.now c.requires.conforming)
 
-pub read-requires-2 : goal.read-requires-2
-read-requires-2 c =
-    omega (arith, entry_size c.args.list.now c.args.new.now c.requires.conforming_2)
+pub read-requires-else-not-summary : goal.read-requires-else-not-summary
+read-requires-else-not-summary c = omega (arith, entry_size c.args.list.now c.args.new.now c.requires.conforming_2)

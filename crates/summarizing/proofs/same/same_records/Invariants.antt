@@ -1,7 +1,7 @@
 -- `summarizing::same_records` meets its contract. The invariant of its loop: the bits that are left are those of the keys from k on
 -- (`next_bits`), and whether the named records from k on are the same decides, since those before are. A turn looks at the lowest bit
--- (`named_here`) and, where it is set, at the record of key k. The measure is how many keys are left.
-use Prim.Native.Nat.{ℕ, ◌-◌, ◌≤◌}
+-- (`named_here`) and, where it is set, at the record of key k.
+use Prim.Native.Nat.{ℕ}
 use mathlib.Core.Path.{◌≡◌}
 use mathlib.Core.Bool.{Bool}
 use Rattle.paper.specs.Named.{set_of}
@@ -11,7 +11,4 @@ use Rattle.summarizing.proofs.same.same_records.Given as goal
 
 abbrev pub invariant-loop-k : goal.invariant-loop-k
 invariant-loop-k l =
-    (l.k ≤ l.n) × ((p : ℕ → Bool) → l.named ≡ set_of p → (l.rest ≡ bits_from p l.k) × (same_on p l.old l.new l.n l.k ≡ same_from p l.old l.new 0 l.n))
-
-abbrev pub decreases-loop-k : goal.decreases-loop-k
-decreases-loop-k l = l.n - l.k
+    (p : ℕ → Bool) → l.named ≡ set_of p → (l.rest ≡ bits_from p l.k) × (same_on p l.old l.new l.n l.k ≡ same_from p l.old l.new 0 l.n)

@@ -5,4 +5,4 @@ use Rattle.valve.proofs.summary.summary_of.Goals as goal
 
 pub returns : goal.returns
 returns c text list r =
-    summed_up _ _ _ _ r c.summary_at-summary.result (c.summary_at-summary.ensures _ _ (root_known _ _ _ _ r))
+    summed_up _ _ _ _ r c.summary_at.result (c.summary_at.ensures _ _ (root_known _ _ _ _ r))

@@ -3,7 +3,7 @@ use mathlib.Core.Path.{refl, sym, ◌∙◌}
 use Rattle.number.proofs.Powers.{one_shifted}
 use Rattle.paper.proofs.KeySets.{none_set, one_set}
 use Rattle.summarizing.proofs.Sets.{past_set}
-use Rattle.summarizing.proofs.set.Summary.of_key.Goals as goal
+use Rattle.summarizing.proofs.set.of_key.Goals as goal
 
 pub returns-then-k-ge-MOST : goal.returns-then-k-ge-MOST
 returns-then-k-ge-MOST c = record { keys = c.nothing.ensures.keys ∙ none_set ∙ past_set c.args.k c.if-k-ge-MOST.true; priority = c.nothing.ensures.priority }

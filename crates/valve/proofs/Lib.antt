@@ -4,6 +4,7 @@ mod Contracts
 mod Fixes
 mod Loads
 mod Prints
+mod Rooting
 mod Runs
 mod Summaries
 mod Tallies

@@ -3,15 +3,13 @@ ghost use Rattle.std.specs.Prelude.{◌≡◌, List, ℕ, ◌*◌, ◌≤◌};
 ghost use Rattle.paper.specs.Blocks.{in_block, blocks_in};
 ghost use Rattle.paper.specs.Comparing.{agrees};
 ghost use Rattle.paper.specs.Promised.{ComparePromised};
-ghost use Rattle.reading.specs.Grown.{RowRoom};
 ghost use Rattle.reading.specs.Parted.{PassedParts};
 ghost use Rattle.valve.specs.Divided.{fits_parts};
 
-use crate::loading;
+use crate::{loading, passed};
 use blocks::Block;
 use keys::KeyRecord;
 use paper::{Agreement, Refusal};
-use tokens::Stop;
 
 // The bytes of a node's code; and of the skip and the join of the first part, which the text's own code has not.
 const NODE_CODE: usize = 2 * Block::INSTRUCTION;
@@ -53,8 +51,9 @@ fn agrees_by(
     comparing::agrees(blocks, count, &code, &starts, n)
 }
 
-// By the parts of a text that passed: 16; 17; 18; and whether the blocks agree. This is called from two places and too large to be put into both, so
-// that the compiler keeps it, and the scratch below it, out of the frame under which the text is read.
+// By the parts of a text that passed: 16; 17; 18; and whether the blocks agree. The function, and the scratch below it, stay out of the frame under
+// which the text is read.
+#[inline(never)]
 fn compare_by(
     list: &[u8],
     blocks: &[u8],
@@ -70,30 +69,11 @@ fn compare_by(
     Ok(agreement(agrees_by(list, blocks, count, nodes, rows, n)))
 }
 
-// With nodes for any text. The rows are lent, so that there is one set of them.
-fn compare_long(
-    text: &[u8],
-    list: &[u8],
-    blocks: &[u8],
-    rows: &mut [u32],
-) -> Result<Agreement, Refusal>
-    requires { RowRoom rows.old }
-    ensures { ComparePromised text.now list.now blocks.now result }
-{
-    let mut nodes = [0u32; reading::NODE_WORDS];
-    let n = reading::restrict_parts(text, list, &mut nodes, rows)?;
-    compare_by(list, blocks, &nodes, rows, n)
-}
-
 // Whether the blocks are our translation of the text's parts, each used once, in some order, joined from the left.
 pub fn compare(text: &[u8], list: &[u8], blocks: &[u8]) -> Result<Agreement, Refusal>
     ensures { ComparePromised text.now list.now blocks.now result }
 {
-    let mut nodes = [0u32; reading::SHORT_NODE_WORDS];
-    let mut rows = [0u32; reading::PART_WORDS];
-    match reading::try_parts(text, list, &mut nodes, &mut rows) {
-        Ok(n) => compare_by(list, blocks, &nodes, &rows, n),
-        Err(Stop::Refused(refusal)) => Err(refusal),
-        Err(Stop::Over) => compare_long(text, list, blocks, &mut rows),
-    }
+    passed::with_parts(text, list, |nodes, rows, n| {
+        compare_by(list, blocks, nodes, rows, n)
+    })?
 }

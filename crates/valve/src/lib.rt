@@ -11,6 +11,7 @@ mod counts;
 mod loading;
 mod octal;
 mod pacts;
+mod passed;
 mod pieces;
 mod reasons;
 mod rechecks;

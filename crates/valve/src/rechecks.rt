@@ -5,9 +5,8 @@ ghost use Rattle.operands.specs.Conforming.{Conforming};
 ghost use Rattle.reading.specs.Restricted.{Rooted};
 ghost use Rattle.valve.specs.Beside.{Compared, same_in};
 
-use crate::verdict;
+use crate::{passed, verdict};
 use paper::{Judgement, Rechecking};
-use tokens::Stop;
 
 // What is found of the new entry.
 #[derive(Clone, Copy)]
@@ -47,24 +46,15 @@ fn compare_by(list: &[u8], old: &[u8], new: &[u8], nodes: &[u32], root: usize) -
     }
 }
 
-fn compare_long(text: &[u8], list: &[u8], old: &[u8], new: &[u8]) -> Beside
-    ensures { Compared text.now list.now old.now new.now result }
-{
-    let mut nodes = [0u32; reading::NODE_WORDS];
-    match reading::restrict(text, list, &mut nodes) {
-        Ok(root) => compare_by(list, old, new, &nodes, root),
-        Err(refusal) => Beside::Other(Err(refusal)),
-    }
-}
-
 fn compare(text: &[u8], list: &[u8], old: &[u8], new: &[u8]) -> Beside
     ensures { Compared text.now list.now old.now new.now result }
 {
-    let mut nodes = [0u32; reading::SHORT_NODE_WORDS];
-    match reading::try_restrict(text, list, &mut nodes) {
-        Ok(root) => compare_by(list, old, new, &nodes, root),
-        Err(Stop::Refused(refusal)) => Beside::Other(Err(refusal)),
-        Err(Stop::Over) => compare_long(text, list, old, new),
+    let found = passed::with_root(text, list, |nodes, root| {
+        compare_by(list, old, new, nodes, root)
+    });
+    match found {
+        Ok(beside) => beside,
+        Err(refusal) => Beside::Other(Err(refusal)),
     }
 }
 

@@ -3,8 +3,8 @@ ghost use Rattle.std.specs.Prelude.{List, ℕ, Ok};
 ghost use Rattle.paper.specs.Promised.{SummarizePromised};
 ghost use Rattle.reading.specs.Restricted.{Rooted};
 
+use crate::passed;
 use paper::{Refusal, Summary};
-use tokens::Stop;
 
 // By the tree at node `root`, of a text that passed.
 fn summary_of(nodes: &[u32], root: usize) -> Summary
@@ -14,22 +14,9 @@ fn summary_of(nodes: &[u32], root: usize) -> Summary
     summarizing::summary_at(nodes, root)
 }
 
-fn summarize_long(text: &[u8], list: &[u8]) -> Result<Summary, Refusal>
-    ensures { SummarizePromised text.now list.now result }
-{
-    let mut nodes = [0u32; reading::NODE_WORDS];
-    let root = reading::restrict(text, list, &mut nodes)?;
-    Ok(summary_of(&nodes, root))
-}
-
 // The set of the keys that the text names, and whether it names ::priority.
 pub fn summarize(text: &[u8], list: &[u8]) -> Result<Summary, Refusal>
     ensures { SummarizePromised text.now list.now result }
 {
-    let mut nodes = [0u32; reading::SHORT_NODE_WORDS];
-    match reading::try_restrict(text, list, &mut nodes) {
-        Ok(root) => Ok(summary_of(&nodes, root)),
-        Err(Stop::Refused(refusal)) => Err(refusal),
-        Err(Stop::Over) => summarize_long(text, list),
-    }
+    passed::with_root(text, list, |nodes, root| summary_of(nodes, root))
 }

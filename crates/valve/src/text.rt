@@ -1,9 +1,10 @@
-// A text alone, and a text against a key list. As every call that makes a text's tree, these two first lend nodes for few tokens: most texts have
-// no more, and less is cleared. Only where these may be too few is the text looked at again, with nodes for any text.
+// A text alone, and a text against a key list. As every call that makes a text's tree, these two first lend nodes for few tokens, and nodes for any text
+// only where these may be too few.
 ghost use Rattle.std.specs.Prelude.{◌≤◌, length};
 ghost use Rattle.paper.specs.Tokens.{most_text};
 ghost use Rattle.paper.specs.Promised.{ReadPromised, CheckPromised};
 
+use crate::passed;
 use paper::{Place, Refusal, refused};
 use tokens::Stop;
 
@@ -33,22 +34,9 @@ pub fn read(text: &[u8]) -> Result<usize, Refusal>
     }
 }
 
-fn check_long(text: &[u8], list: &[u8]) -> Result<(), Refusal>
-    ensures { CheckPromised text.now list.now result }
-{
-    let mut nodes = [0u32; reading::NODE_WORDS];
-    reading::restrict(text, list, &mut nodes)?;
-    Ok(())
-}
-
 // Whether the text is a restriction that is good for the keys of the list.
 pub fn check(text: &[u8], list: &[u8]) -> Result<(), Refusal>
     ensures { CheckPromised text.now list.now result }
 {
-    let mut nodes = [0u32; reading::SHORT_NODE_WORDS];
-    match reading::try_restrict(text, list, &mut nodes) {
-        Ok(_) => Ok(()),
-        Err(Stop::Refused(refusal)) => Err(refusal),
-        Err(Stop::Over) => check_long(text, list),
-    }
+    passed::with_root(text, list, |_, _| ())
 }

@@ -1,14 +1,12 @@
 // An entry against a text.
 ghost use Rattle.std.specs.Prelude.{◌≡◌, List, ℕ, ◌+◌, ◌*◌, ◌≤◌, length};
 ghost use Rattle.paper.specs.Answers.{ok, judgement_says};
-ghost use Rattle.paper.specs.Tokens.{most_tokens};
 ghost use Rattle.paper.specs.Promised.{JudgePromised};
 ghost use Rattle.operands.specs.Conforming.{Conforming};
-ghost use Rattle.reading.specs.Grown.{Enough};
 ghost use Rattle.reading.specs.Restricted.{Rooted};
 
+use crate::passed;
 use paper::{Judgement, Verdict};
-use tokens::Stop;
 
 pub(crate) fn verdict(accepted: bool) -> Judgement
     ensures { judgement_says result ≡ ok accepted }
@@ -39,28 +37,11 @@ fn judge_by(list: &[u8], entry: &[u8], nodes: &[u32], root: usize) -> Judgement
     judge_entered(list, entry, nodes, root)
 }
 
-// With nodes of so many words, which are enough for the text.
-fn judge_on<const WORDS: usize>(text: &[u8], list: &[u8], entry: &[u8]) -> Judgement
-    requires few_words { WORDS ≤ most_tokens * 8 }
-    requires enough { Enough text.now WORDS }
-    ensures { JudgePromised text.now list.now entry.now result }
-{
-    let mut nodes = [0u32; WORDS];
-    let root = reading::restrict(text, list, &mut nodes)?;
-    judge_by(list, entry, &nodes, root)
-}
-
-// What the text says of an entry. A brief text is lent few nodes, so that less is cleared for it.
+// What the text says of an entry.
 pub fn judge(text: &[u8], list: &[u8], entry: &[u8]) -> Judgement
     ensures { JudgePromised text.now list.now entry.now result }
 {
-    if text.len() <= reading::BRIEF_TEXT {
-        return judge_on::<{ reading::BRIEF_NODE_WORDS }>(text, list, entry);
-    }
-    let mut nodes = [0u32; reading::SHORT_NODE_WORDS];
-    match reading::try_restrict(text, list, &mut nodes) {
-        Ok(root) => judge_by(list, entry, &nodes, root),
-        Err(Stop::Refused(refusal)) => Err(refusal),
-        Err(Stop::Over) => judge_on::<{ reading::NODE_WORDS }>(text, list, entry),
-    }
+    passed::with_root(text, list, |nodes, root| {
+        judge_by(list, entry, nodes, root)
+    })?
 }

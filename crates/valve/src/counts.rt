@@ -41,7 +41,7 @@ fn count_by(
     })
 }
 
-// With nodes for any text. The rows are lent, so that there is one set of them.
+// With nodes for any text. The rows are lent, so that there is one set of them. No closure for `passed::with_parts`, as in writing.rt: it fills `parts`.
 fn count_long(
     text: &[u8],
     list: &[u8],

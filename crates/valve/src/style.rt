@@ -53,6 +53,7 @@ fn print_grown(text: &[u8], nodes: &[u32], size: usize, buffer: &mut [u8]) -> Re
     lend_print(text, nodes, size - 1, buffer)
 }
 
+// No closure over the tree that this and `read` could share, as in writing.rt: it fills the buffer.
 fn print_long(text: &[u8], buffer: &mut [u8]) -> Result<usize, Refusal>
     requires { length text.now ≤ most_text }
     ensures { PrintPromised text.now buffer.old (record { answer = result; buffer = buffer.new }) }

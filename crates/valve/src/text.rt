@@ -8,6 +8,7 @@ use crate::passed;
 use paper::{Place, Refusal, refused};
 use tokens::Stop;
 
+// A function over a closure would be called from here alone: `print`, the other call without a list, fills a buffer (style.rt).
 fn read_long(text: &[u8]) -> Result<usize, Refusal>
     requires { length text.now ≤ most_text }
     ensures { ReadPromised text.now result }

@@ -1,9 +1,10 @@
 -- How many entries were given each answer, and what blocks say of many.
-use Rattle.std.specs.Prelude.{◌≡◌, ℕ, ◌+◌, ◌%◌, ◌^◌, Bool, true, false, cond, List, length, ◌==◌, Err}
+use Rattle.std.specs.Prelude.{◌≡◌, ℕ, ◌+◌, ◌%◌, ◌^◌, Bool, true, false, cond, List, length, ◌==◌, Ok, Err}
 use Rattle.paper.specs.Answers.{Answer, ok, refused, Judgement}
 use Rattle.paper.specs.Counting.{entry_size}
 use Rattle.paper.specs.RunAll.{AllRan, run_all_answer}
 use Rattle.keys.specs.Says.{keys_in}
+use Rattle.paper.specs.declared.Verdict.TheVariants.{Accepted, Violated}
 use Rattle.paper.specs.declared.Rechecking.{Rechecking}
 use Rattle.paper.specs.declared.Rechecking.TheVariants.{Reused, Judged}
 use Rattle.streaming.specs.Sizes.{whole_of}
@@ -17,8 +18,8 @@ abbrev pub total : Tally → ℕ
 total t = t.accepted + t.violated + t.refused
 
 abbrev pub counted : Judgement → Tally → Tally
-counted Accepted t = record { accepted = t.accepted + 1; violated = t.violated; refused = t.refused }
-counted Violated t = record { accepted = t.accepted; violated = t.violated + 1; refused = t.refused }
+counted (Ok Accepted) t = record { accepted = t.accepted + 1; violated = t.violated; refused = t.refused }
+counted (Ok Violated) t = record { accepted = t.accepted; violated = t.violated + 1; refused = t.refused }
 counted (Err v) t = record { accepted = t.accepted; violated = t.violated; refused = t.refused + 1 }
 
 -- Entries by blocks, which are given a byte each.

@@ -16,10 +16,10 @@ use Rattle.paper.specs.Drafting.{contract_tree}
 use Rattle.spelling.proofs.Steps.{cut}
 use Rattle.drafting.specs.declared.fronts.Front as R
 use Rattle.std.specs.Prelude as S
-use Rattle.std.specs.Prelude.{Some, None, is_some}
+use Rattle.std.specs.Prelude.{Some, None, is_some, Result, Ok, Err}
 use Rattle.std.proofs.Common.{true≢false, false}
-use Rattle.drafting.specs.declared.contracts.Outcome.{Outcome}
-use Rattle.drafting.specs.declared.contracts.Outcome.TheVariants as D
+use Rattle.drafting.specs.declared.contracts.Undrafted.{Undrafted}
+use Rattle.drafting.specs.declared.contracts.Undrafted.TheVariants as D
 use Rattle.drafting.specs.Assertions.{names_in}
 use Rattle.drafting.specs.Fronts.{all_of, link_meant, opened_meant, Represents, Steps}
 use Rattle.drafting.specs.Drafts.{Measured, Drafts}
@@ -96,11 +96,11 @@ module _ (list table : List ℕ) where
   tree_of_all [] t e = let z : ◌≡◌ {A = ℕ} 0 1 = cc in absurd (omega arith)
   tree_of_all (c ∷ cs) t e = cc
 
-  pub drafts_as : (ns : List ℕ) {a : Answer (List Clause)} (cs : List Clause) (r : Outcome) → a ≡ ok cs
+  pub drafts_as : (ns : List ℕ) {a : Answer (List Clause)} (cs : List Clause) (r : Result ℕ Undrafted) → a ≡ ok cs
       → Measured list ns (contract_tree (names_in list) table cs) r → Drafts list table ns a r
-  drafts_as ns cs (D.Fault at) e h = absurd h
-  drafts_as ns cs D.Over e h = (cs, (e, h))
-  drafts_as ns cs (D.Tree root) e h = (cs, (e, h))
+  drafts_as ns cs (Err (D.Fault at)) e h = absurd h
+  drafts_as ns cs (Err D.Over) e h = (cs, (e, h))
+  drafts_as ns cs (Ok root) e h = (cs, (e, h))
 
-  pub drafts_same : (ns : List ℕ) {a b : Answer (List Clause)} (r : Outcome) → a ≡ b → Drafts list table ns a r → Drafts list table ns b r
+  pub drafts_same : (ns : List ℕ) {a b : Answer (List Clause)} (r : Result ℕ Undrafted) → a ≡ b → Drafts list table ns a r → Drafts list table ns b r
   drafts_same ns r e h = subst (λ (x : Answer (List Clause)). Drafts list table ns x r) e h

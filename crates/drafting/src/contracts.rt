@@ -20,43 +20,43 @@ const NODES: usize = 2 * MOST_TOKENS + 8;
 // The words of so many nodes.
 pub const NODE_WORDS: usize = NODES * Node::WORDS;
 
+// Why a contract has no tree.
 #[derive(Clone, Copy)]
-pub enum Outcome {
-    // The contract has a fault at a byte, or at its end.
+pub enum Undrafted {
+    // It has a fault at a byte, or at its end.
     Fault(usize),
     // Its text is over the limit of tokens or of levels.
     Over,
-    // The node of its root.
-    Tree(usize),
 }
 
-fn measured(p: Piece) -> Outcome
+// The node of its root.
+fn measured(p: Piece) -> Result<usize, Undrafted>
     requires { 0 < p.end }
     ensures { (list ns : List ℕ) (t : Tree) → Holds list ns 0 p t → Measured list ns t result }
 {
     if MOST_TOKENS < p.size.tokens || MOST_LEVELS < p.size.levels {
-        return Outcome::Over;
+        return Err(Undrafted::Over);
     }
-    Outcome::Tree(p.end - 1)
+    Ok(p.end - 1)
 }
 
 // Of an empty contract.
-fn empty(nodes: &mut [u32]) -> Outcome
+fn empty(nodes: &mut [u32]) -> Result<usize, Undrafted>
     requires { most_nodes * 8 ≤ length nodes.old }
     ensures { (list : List ℕ) → Measured list nodes.new (G.truth 0 true) result }
 {
     trees::put_truth(nodes, 0, 0, true);
-    Outcome::Tree(0)
+    Ok(0)
 }
 
 // At the end of a contract nothing may wait.
-fn ended(front: Front, at: usize, nodes: &mut [u32]) -> Outcome
+fn ended(front: Front, at: usize, nodes: &mut [u32]) -> Result<usize, Undrafted>
     requires { (list table : List ℕ) × Ready list table nodes.old front }
     ensures { (list table : List ℕ) (f : paper.Front) → Represents list table nodes.old front f
         → Drafts list table nodes.new (paper.ended at f f.conjunction f.comparator) result }
 {
     if front.opened.is_some() || front.link.is_some() {
-        return Outcome::Fault(at);
+        return Err(Undrafted::Fault(at));
     }
     let Some(c) = front.clause else {
         return empty(nodes);
@@ -65,7 +65,12 @@ fn ended(front: Front, at: usize, nodes: &mut [u32]) -> Outcome
 }
 
 // By names that passed their check, and nodes that are lent.
-pub fn draft(contract: &[u8], table: &[u64], names: &[u8], nodes: &mut [u32]) -> Outcome
+pub fn draft(
+    contract: &[u8],
+    table: &[u64],
+    names: &[u8],
+    nodes: &mut [u32],
+) -> Result<usize, Undrafted>
     requires { Named names.now × (most_nodes * 8 ≤ length nodes.old) }
     ensures { Drafts names.now table.now nodes.new
         (paper.clauses (records_in names.now) (length table.now) contract.now) result }
@@ -73,7 +78,7 @@ pub fn draft(contract: &[u8], table: &[u64], names: &[u8], nodes: &mut [u32]) ->
     let mut front = Front::start();
     for (i, byte) in contract.iter().enumerate() {
         let Some(next) = front.with_byte(*byte, names, table, nodes) else {
-            return Outcome::Fault(i);
+            return Err(Undrafted::Fault(i));
         };
         front = next;
     }

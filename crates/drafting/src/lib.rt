@@ -12,4 +12,4 @@ mod opcodes;
 mod pieces;
 mod sizes;
 
-pub use contracts::{NODE_WORDS, Outcome, draft};
+pub use contracts::{NODE_WORDS, Undrafted, draft};

@@ -9,7 +9,7 @@ ghost use Rattle.drafting.specs.Fronts.{most_nodes};
 ghost use Rattle.valve.specs.Lent.{LentDraft};
 
 use crate::style;
-use drafting::Outcome;
+use drafting::Undrafted;
 use paper::{Place, Refusal, refused};
 
 // How many user numbers there may be.
@@ -28,15 +28,15 @@ fn pact_in(
     ensures { DraftPromised contract.now table.now names.now buffer.old (record { answer = result; buffer = buffer.new }) }
 {
     match drafting::draft(contract, table, names, nodes) {
-        Outcome::Fault(at) => Err(Refusal {
+        Ok(root) => style::lend_print(names, nodes, root, buffer),
+        Err(Undrafted::Fault(at)) => Err(Refusal {
             number: refused::CONTRACT,
             place: Place::Contract(at),
         }),
-        Outcome::Over => Err(Refusal {
+        Err(Undrafted::Over) => Err(Refusal {
             number: refused::PRINT_LONG,
             place: Place::Buffer(buffer.len()),
         }),
-        Outcome::Tree(root) => style::lend_print(names, nodes, root, buffer),
     }
 }
 

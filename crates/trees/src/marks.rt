@@ -3,7 +3,6 @@
 ghost use Rattle.std.specs.Prelude.{◌≡◌, ◌+◌, ◌*◌, ◌≤◌, length};
 ghost use Rattle.trees.specs.Marks.{operand_of, operand_at, key_marked, field_marked, marking, name_at};
 
-use crate::node;
 use crate::node::{Leaf, Node};
 
 // What a node with no operand is, by its marks.
@@ -28,10 +27,10 @@ const MOST_FIELD: u32 = 5;
 fn key_marked(key: u32) -> Operand
     ensures { result ≡ key_marked key }
 {
-    if key == 0 {
-        return Operand::UnknownKey;
+    match key {
+        0 => Operand::UnknownKey,
+        _ => Operand::Key(key as usize - 1),
     }
-    Operand::Key(node::wide(key - 1))
 }
 
 fn field_marked(key: u32, name: u32) -> Operand
@@ -40,13 +39,10 @@ fn field_marked(key: u32, name: u32) -> Operand
     if key == 0 {
         return Operand::UnknownKey;
     }
-    if name == 0 {
+    if name == 0 || MOST_FIELD < name {
         return Operand::UnknownField;
     }
-    if MOST_FIELD < name {
-        return Operand::UnknownField;
-    }
-    Operand::Field(node::wide(key - 1), (name - 1) as u8)
+    Operand::Field(key as usize - 1, (name - 1) as u8)
 }
 
 fn operand_of(leaf: Leaf, key: u32, name: u32) -> Operand
@@ -88,5 +84,5 @@ pub fn name_at(nodes: &[u32], i: usize) -> usize
     requires { i * 8 + 8 ≤ length nodes.now }
     ensures { result ≡ name_at nodes.now i }
 {
-    node::wide(nodes[i * Node::WORDS + 5])
+    nodes[i * Node::WORDS + 5] as usize
 }

@@ -80,28 +80,22 @@ pub enum Node {
     Between(Operator, usize),
 }
 
-pub(crate) fn wide(x: u32) -> usize
-    ensures { result ≡ x }
-{
-    x as usize
-}
-
 fn span_of(from: u32, to: u32) -> Span
     ensures { result ≡ record { from = from; to = to } }
 {
     Span {
-        from: wide(from),
-        to: wide(to),
+        from: from as usize,
+        to: to as usize,
     }
 }
 
 fn prefix_of(kind: u32) -> Prefix
     ensures { result ≡ prefix_of kind }
 {
-    if kind == kinds::NOT {
-        return Prefix::Not;
+    match kind {
+        kinds::NOT => Prefix::Not,
+        _ => Prefix::Minus,
     }
-    Prefix::Minus
 }
 
 fn join_of(kind: u32) -> Join
@@ -197,7 +191,7 @@ impl Node {
         ensures { result ≡ node_at nodes.now i }
     {
         let at = i * Node::WORDS;
-        let left = wide(nodes[at + 2]);
+        let left = nodes[at + 2] as usize;
         node_of(nodes[at], i, left)
     }
 }
@@ -207,5 +201,5 @@ pub fn place_at(nodes: &[u32], i: usize) -> usize
     requires { i * 8 + 8 ≤ length nodes.now }
     ensures { result ≡ place_at nodes.now i }
 {
-    wide(nodes[i * Node::WORDS + 1])
+    nodes[i * Node::WORDS + 1] as usize
 }

@@ -1,7 +1,6 @@
 // Writing nodes. Each function writes the eight words of one node and nothing else.
 ghost use Rattle.std.specs.Prelude.{◌≡◌, [], ◌∷◌, ◌+◌, ◌*◌, ◌≤◌, ◌<◌, length};
 ghost use Rattle.std.proofs.lemmas.List.Edits.{sets};
-ghost use Rattle.paper.specs.Code as C;
 ghost use Rattle.paper.specs.Grammar as G;
 ghost use Rattle.number.specs.Bases.{literal_meant};
 ghost use Rattle.trees.specs.Standing.{prefix_meant, join_meant, comparison_meant};
@@ -38,15 +37,6 @@ fn put(nodes: &mut [u32], node: usize, row: Row)
     nodes[at + 7] = 0;
 }
 
-fn bit(truth: bool) -> u32
-    ensures { result ≡ C.bit truth }
-{
-    if truth {
-        return 1;
-    }
-    0
-}
-
 // Stores the node of `true` or `false`.
 pub fn put_truth(nodes: &mut [u32], node: usize, place: u32, truth: bool)
     requires { node * 8 + 8 ≤ length nodes.old }
@@ -54,9 +44,9 @@ pub fn put_truth(nodes: &mut [u32], node: usize, place: u32, truth: bool)
 {
     let row = Row {
         kind: kinds::TRUTH,
-        place: place,
+        place,
         left: 0,
-        a: bit(truth),
+        a: u32::from(truth),
         b: 0,
         c: 0,
         d: 0,
@@ -73,7 +63,7 @@ pub fn put_number(nodes: &mut [u32], node: usize, place: u32, literal: Literal)
     let number = literal.number;
     let row = Row {
         kind: kinds::NUMBER,
-        place: place,
+        place,
         left: base.radix(),
         a: number.limbs[0],
         b: number.limbs[1],
@@ -141,7 +131,7 @@ pub fn put_attribute(nodes: &mut [u32], node: usize, place: u32, from: u32, to: 
 {
     let row = Row {
         kind: kinds::ATTRIBUTE,
-        place: place,
+        place,
         left: 0,
         a: 0,
         b: 0,
@@ -200,7 +190,7 @@ pub fn put_prefix(nodes: &mut [u32], node: usize, place: u32, o: Prefix)
 {
     let row = Row {
         kind: prefix_number(o),
-        place: place,
+        place,
         left: 0,
         a: 0,
         b: 0,
@@ -217,7 +207,7 @@ pub fn put_operator(nodes: &mut [u32], node: usize, place: u32, o: Operator, lef
 {
     let row = Row {
         kind: operator_number(o),
-        place: place,
+        place,
         left: left as u32,
         a: 0,
         b: 0,

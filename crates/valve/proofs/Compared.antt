@@ -1,6 +1,6 @@
 -- From the stages' answers to those of `recheck`.
 use Prim.Native.Nat.{ℕ}
-use Rattle.std.specs.Prelude.{Result, Err}
+use Rattle.std.specs.Prelude.{Result, Err, None, Some}
 use Rattle.paper.specs.declared.Refusal.{Refusal}
 use mathlib.Core.Path.{◌≡◌, refl, sym, ap, ◌∙◌}
 use mathlib.Core.Bool.{Bool, true, false, cond, ◌&&◌, and-false}
@@ -19,7 +19,6 @@ use Rattle.keys.proofs.Conforming as K
 use Rattle.operands.specs.Conforming.{Conforming}
 use Rattle.trees.specs.Standing.{tree_at}
 use Rattle.reading.specs.Restricted.{Rooted}
-use Rattle.valve.specs.declared.rechecks.Beside.TheVariants.{Same, Other}
 use Rattle.valve.specs.Beside.{Compared, same_in}
 use Rattle.valve.proofs.Verdicts as verdicts
 
@@ -29,15 +28,15 @@ module _ (text list old new : List ℕ) where
   unfolding recheck_answer
   by_test e earlier = rw e
 
-  pub reused_as_given : same_in text list old new ≡ true → Compared text list old new Same
+  pub reused_as_given : same_in text list old new ≡ true → Compared text list old new None
   reused_as_given e earlier = sym (by_test e earlier)
 
-  pub judged_afresh : same_in text list old new ≡ false → (j : Judgement) → JudgePromised text list new j → Compared text list old new (Other j)
+  pub judged_afresh : same_in text list old new ≡ false → (j : Judgement) → JudgePromised text list new j → Compared text list old new (Some j)
   judged_afresh e j right earlier = ap judged right ∙ sym (by_test e earlier)
 
   -- where text or list are refused, and where an entry is, nothing is reused
 
-  pub not_passed : (v : Refusal) → restriction text list ≡ refused_by v → Compared text list old new (Other (Err v))
+  pub not_passed : (v : Refusal) → restriction text list ≡ refused_by v → Compared text list old new (Some (Err v))
   not_passed v e = judged_afresh (ap (λ (x : Answer Restriction). reuses_by x old new) e) (Err v) (verdicts.not_passed text list new v e)
 
   module _ (nodes : List ℕ) (k : ℕ) (r : Rooted text list nodes k) where
@@ -55,7 +54,7 @@ module _ (text list old new : List ℕ) where
     tests a b e f = rw (r.passed, e, f)
 
     pub new_refused : (x : Result (Unit {0}) Refusal) → says x ≡ conforms ks new
-        → {v : Refusal} → x ≡ Err v → Compared text list old new (Other (Err v))
+        → {v : Refusal} → x ≡ Err v → Compared text list old new (Some (Err v))
     new_refused x said {v} e =
         let stop : passes (entry_of ks new) ≡ false = ap passes (K.not_entered ks new (sym said ∙ ap says e)) in
         judged_afresh (tests _ false refl stop ∙ rw (and-false (passes (entry_of ks old)))) (Err v) (verdicts.not_entered text list new nodes k r x said e)

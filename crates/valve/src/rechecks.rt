@@ -8,15 +8,6 @@ ghost use Rattle.valve.specs.Beside.{Compared, same_in};
 use crate::{passed, verdict};
 use paper::{Judgement, Rechecking};
 
-// What is found of the new entry.
-#[derive(Clone, Copy)]
-pub(crate) enum Beside {
-    // Both conform, and are the same in all that the text names.
-    Same,
-    // Else what the text says of it.
-    Other(Judgement),
-}
-
 // Whether the old entry conforms and the new one, which does, is the same in all that the tree at node `root` names.
 fn same_by(list: &[u8], old: &[u8], new: &[u8], nodes: &[u32], root: usize) -> bool
     requires root_in_bounds { root * 8 + 8 ≤ length nodes.now }
@@ -32,29 +23,36 @@ fn same_by(list: &[u8], old: &[u8], new: &[u8], nodes: &[u32], root: usize) -> b
     summarizing::same_named(list, old, new, summary)
 }
 
-// By the tree at node `root`, of a text that passed.
-fn compare_by(list: &[u8], old: &[u8], new: &[u8], nodes: &[u32], root: usize) -> Beside
+// What the text says of the new entry, by its tree at node `root`; nothing where both conform and are the same in all that it names.
+fn compare_by(
+    list: &[u8],
+    old: &[u8],
+    new: &[u8],
+    nodes: &[u32],
+    root: usize,
+) -> Option<Judgement>
     requires root_in_bounds { root * 8 + 8 ≤ length nodes.now }
     requires by_index { (text : List ℕ) × Rooted text list.now nodes.now root }
     ensures { (text : List ℕ) → Rooted text list.now nodes.now root
         → Compared text list.now old.now new.now result }
 {
     match keys::check_entry(list, new) {
-        Err(refusal) => Beside::Other(Err(refusal)),
-        Ok(()) if same_by(list, old, new, nodes, root) => Beside::Same,
-        Ok(()) => Beside::Other(verdict::judge_entered(list, new, nodes, root)),
+        Err(refusal) => Some(Err(refusal)),
+        Ok(()) if same_by(list, old, new, nodes, root) => None,
+        Ok(()) => Some(verdict::judge_entered(list, new, nodes, root)),
     }
 }
 
-fn compare(text: &[u8], list: &[u8], old: &[u8], new: &[u8]) -> Beside
+// The same of a text; of one that is refused the refusal.
+fn compare(text: &[u8], list: &[u8], old: &[u8], new: &[u8]) -> Option<Judgement>
     ensures { Compared text.now list.now old.now new.now result }
 {
     let found = passed::with_root(text, list, |nodes, root| {
         compare_by(list, old, new, nodes, root)
     });
     match found {
-        Ok(beside) => beside,
-        Err(refusal) => Beside::Other(Err(refusal)),
+        Ok(anew) => anew,
+        Err(refusal) => Some(Err(refusal)),
     }
 }
 
@@ -63,7 +61,7 @@ pub fn recheck(text: &[u8], list: &[u8], old: &[u8], earlier: Judgement, new: &[
     ensures { RecheckPromised text.now list.now old.now earlier new.now result }
 {
     match compare(text, list, old, new) {
-        Beside::Same => Rechecking::Reused(earlier),
-        Beside::Other(judgement) => Rechecking::Judged(judgement),
+        None => Rechecking::Reused(earlier),
+        Some(judgement) => Rechecking::Judged(judgement),
     }
 }

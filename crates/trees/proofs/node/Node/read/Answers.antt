@@ -4,4 +4,4 @@ use Rattle.trees.proofs.node.Node.read.Goals as goal
 
 pub returns : goal.returns
 unfolding node_at
-returns c = rw (← c.wide-left.ensures) c.node_of.ensures
+returns c = c.node_of.ensures

@@ -17,7 +17,6 @@ use Rattle.number.specs.declared.base.Literal as N
 use Rattle.tokens.specs.Scanned.{Stands, kind_in, plain_end, plain_scan, plain_found}
 use Rattle.tokens.specs.Tape.{Tape, tape_of, row_words, row_at, Has, Room, RoomFor, row_of, tokens_on}
 use Rattle.tokens.specs.Tokenized.{CutSays, Placed, octal_refusal, row_refusal, Sound, SpansOn, EndsOn, refused_there}
-use Rattle.paper.specs.declared.Place.TheVariants.{Text}
 use Rattle.tokens.specs.declared.Stop.TheVariants.{Over}
 use Rattle.tokens.specs.declared.found.Lexeme.{Lexeme}
 use Rattle.tokens.specs.declared.found.Lexeme.TheVariants as F

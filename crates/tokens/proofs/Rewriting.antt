@@ -9,6 +9,7 @@ use mathlib.Core.List.{List, [], ◌∷◌, ◌++◌, append-nil, append_assoc}
 use lib.ListN.{length, get_or, take, drop, length-append, length-take, drop_of_length-le}
 use lib.Seq.{sets, sets-eq, take_at, length-take-le, drop-drop}
 use lib.Dec.{eqb}
+use Rattle.std.specs.Prelude.{Result, Ok, Err}
 use borrow.Author.Tests.{eqb-true, eqb-false}
 use Rattle.paper.specs.Answers.{Answer, ok, refused, ◌>>=◌, in_text}
 use Rattle.paper.specs.Tokens.{hex, Literal, literal_in, Tok, numeral, Token, Scan, token, too_large, taken, scan, tokens_by, most_tokens}
@@ -73,10 +74,10 @@ pub record Onward (text : List ℕ) (n at : ℕ) (p : List ℕ) (end m : ℕ) : 
   pub written : p ++ fixed_from 0 (drop end text) ≡ fixed_from 0 (drop at text)
 
 -- what holds of a step after n tokens, where an octal numeral counts v
-abbrev pub Right : List ℕ → ℕ → ℕ → ℕ → Step → Type 0
-Right text n at v (S.Copied end m) = Onward text n at (take (end - at) (drop at text)) end m
-Right text n at v (S.InHex end m) = Onward text n at (hex_numeral v) end m
-Right text n at v (S.Refused number) = (k : ℕ) → refused number in_text at ≡ telling k (old_from text n at)
+abbrev pub Right : List ℕ → ℕ → ℕ → ℕ → Result Step ℕ → Type 0
+Right text n at v (Ok (S.Copied end m)) = Onward text n at (take (end - at) (drop at text)) end m
+Right text n at v (Ok (S.InHex end m)) = Onward text n at (hex_numeral v) end m
+Right text n at v (Err number) = (k : ℕ) → refused number in_text at ≡ telling k (old_from text n at)
 
 module _ (text : List ℕ) (n at : ℕ) (few : n ≤ most_tokens) (h : at < length text) where
   -- the byte at the offset, those after it, and what the paper scans there
@@ -130,7 +131,7 @@ module _ (text : List ℕ) (n at : ℕ) (few : n ≤ most_tokens) (h : at < leng
       ap (telling k) (sym step)
 
   module _ (l : Literal) where
-    a_blank : (end : ℕ) → Here text at l (F.Blank end) → Right text n at l.value (S.Copied end n)
+    a_blank : (end : ℕ) → Here text at l (F.Blank end) → Right text n at l.value (Ok (S.Copied end n))
     a_blank end w =
         let e = sym w.says in
         let forward : at < end = w.ends.0 in
@@ -149,7 +150,7 @@ module _ (text : List ℕ) (n at : ℕ) (few : n ≤ most_tokens) (h : at < leng
         old : old_scan byte after ≡ token (tok_of text kind at end l) (end - (at + 1))
         old = ap by_old_rules (sym w.says)
 
-        go : (t : Bool) → eqb n most_tokens ≡ t → Right text n at l.value (cond t (S.Refused 7) (S.Copied end (n + 1)))
+        go : (t : Bool) → eqb n most_tokens ≡ t → Right text n at l.value (cond t (Err 7) (Ok (S.Copied end (n + 1))))
         go true f = token_full old (eqb-true n most_tokens f)
         go false f =
             let e = sym w.says in
@@ -172,7 +173,7 @@ module _ (text : List ℕ) (n at : ℕ) (few : n ≤ most_tokens) (h : at < leng
         shorter : length (hex_numeral l.value) ≤ length (byte ∷ take (end - (at + 1)) after)
         shorter = (subst (IfOctal byte after) (sym w.says.is) (if_octal byte after)).shorter
 
-        go : (t : Bool) → eqb n most_tokens ≡ t → Right text n at l.value (cond t (S.Refused 7) (S.InHex end (n + 1)))
+        go : (t : Bool) → eqb n most_tokens ≡ t → Right text n at l.value (cond t (Err 7) (Ok (S.InHex end (n + 1))))
         go true f = token_full old (eqb-true n most_tokens f)
         go false f =
             let e = sym w.says.is in
@@ -195,6 +196,12 @@ module _ (text : List ℕ) (n at : ℕ) (few : n ≤ most_tokens) (h : at < leng
         λ k. ap (telling k) (sym (large_step old_scan text at (most_tokens - n) h old))
     step_right F.NoToken w = λ k. ap (telling k) (sym (no_step old_scan text at (most_tokens - n) h (ap by_old_rules (sym w.says))))
     step_right F.TooLarge w = λ k. ap (telling k) (sym (large_step old_scan text at (most_tokens - n) h (ap by_old_rules (sym w.says))))
+
+-- and of whatever it is
+pub right_as : {text : List ℕ} {n at : ℕ} → n ≤ most_tokens → at < length text → (l : Literal) (found : Lexeme) → Here text at l found
+    → {r : Result Step ℕ} → r ≡ step_for found n → {s : Result Step ℕ} → r ≡ s → Right text n at l.value s
+right_as {text = text} {n = n} {at = at} few h l found here made is =
+    subst (Right text n at l.value) (sym made ∙ is) (step_right text n at few h l found here)
 
 -- n tokens are before an offset, and so many bytes are written for what is before it
 pub record Passing (text out : List ℕ) (n at written : ℕ) : Type 0 where

@@ -11,14 +11,14 @@ use Rattle.tokens.specs.declared.found.Lexeme.TheVariants as F
 use Rattle.tokens.specs.declared.fixing.Step.{Step}
 use Rattle.tokens.specs.declared.fixing.Step.TheVariants as S
 
--- how it goes on after n tokens, by what is found
-abbrev pub step_for : Lexeme → ℕ → Step
-step_for (F.Blank end) n = S.Copied end n
-step_for (F.Token kind end) n = cond (eqb n most_tokens) (S.Refused 7) (S.Copied end (n + 1))
-step_for (F.Octal end) n = cond (eqb n most_tokens) (S.Refused 7) (S.InHex end (n + 1))
-step_for F.OctalTooLarge n = S.Refused 6
-step_for F.NoToken n = S.Refused 5
-step_for F.TooLarge n = S.Refused 6
+-- how it goes on after n tokens, by what is found, or the number of a refusal
+abbrev pub step_for : Lexeme → ℕ → Result Step ℕ
+step_for (F.Blank end) n = Ok (S.Copied end n)
+step_for (F.Token kind end) n = cond (eqb n most_tokens) (Err 7) (Ok (S.Copied end (n + 1)))
+step_for (F.Octal end) n = cond (eqb n most_tokens) (Err 7) (Ok (S.InHex end (n + 1)))
+step_for F.OctalTooLarge n = Err 6
+step_for F.NoToken n = Err 5
+step_for F.TooLarge n = Err 6
 
 -- what it writes for an octal numeral
 abbrev pub hex_numeral : ℕ → List ℕ

@@ -12,38 +12,27 @@ use paper::{Place, Refusal, refused};
 use spelling::bytes;
 
 // How the pass goes on, by what is found after n tokens: a piece up to an offset is copied or written in hex, with so many tokens before the next
-// one; or there is a refusal of a number.
+// one.
 #[derive(Clone, Copy)]
 pub enum Step {
     Copied(usize, usize),
     InHex(usize, usize),
-    Refused(u8),
 }
 
 const HEX: u32 = 16;
 
-// A numeral that is too large is refused as such even where there is no room for a token.
-fn by_old_rules(found: Lexeme, n: usize) -> Step
+// A step, or the number of a refusal. A numeral that is too large is refused as such even where there is no room for a token.
+fn by_old_rules(found: Lexeme, n: usize) -> Result<Step, u8>
     requires { n ≤ most_tokens }
     ensures { result ≡ step_for found n }
 {
     match found {
-        Lexeme::Blank(end) => Step::Copied(end, n),
-        Lexeme::Token(_, end) => {
-            if n == MOST_TOKENS {
-                return Step::Refused(refused::TOKENS_MANY);
-            }
-            Step::Copied(end, n + 1)
-        }
-        Lexeme::Octal(end) => {
-            if n == MOST_TOKENS {
-                return Step::Refused(refused::TOKENS_MANY);
-            }
-            Step::InHex(end, n + 1)
-        }
-        Lexeme::OctalTooLarge => Step::Refused(refused::NUMERAL_LARGE),
-        Lexeme::NoToken => Step::Refused(refused::NO_TOKEN),
-        Lexeme::TooLarge => Step::Refused(refused::NUMERAL_LARGE),
+        Lexeme::Blank(end) => Ok(Step::Copied(end, n)),
+        Lexeme::Token(..) | Lexeme::Octal(_) if n == MOST_TOKENS => Err(refused::TOKENS_MANY),
+        Lexeme::Token(_, end) => Ok(Step::Copied(end, n + 1)),
+        Lexeme::Octal(end) => Ok(Step::InHex(end, n + 1)),
+        Lexeme::NoToken => Err(refused::NO_TOKEN),
+        Lexeme::OctalTooLarge | Lexeme::TooLarge => Err(refused::NUMERAL_LARGE),
     }
 }
 
@@ -84,25 +73,26 @@ pub fn fix(text: &[u8], out: &mut [u8]) -> Result<usize, Refusal>
     // A loop, and no iterator: a token is as long as it is found to be.
     while at < text.len() {
         let scanned = scan::scan(text, at);
-        let found = scanned.found;
-        let next = by_old_rules(found, n);
-        match next {
+        let step = match by_old_rules(scanned.found, n) {
+            Ok(step) => step,
+            Err(number) => {
+                return Err(Refusal {
+                    number,
+                    place: Place::Text(at),
+                });
+            }
+        };
+        match step {
             Step::Copied(end, tokens) => {
                 written = put(&text[at..end], written, out);
                 at = end;
                 n = tokens;
             }
             Step::InHex(end, tokens) => {
-                let literal = scanned.literal;
-                let number = literal.number;
-                written = put_hex(number, written, out);
+                written = put_hex(scanned.literal.number, written, out);
                 at = end;
                 n = tokens;
             }
-            Step::Refused(number) => return Err(Refusal {
-                number: number,
-                place: Place::Text(at),
-            }),
         }
     }
     Ok(written)

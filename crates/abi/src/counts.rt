@@ -42,20 +42,19 @@ fn totals(
     }
 }
 
-pub(crate) fn of_counting(r: Result<Counted, Refusal>) -> PolluxCounts
-    ensures { result ≡ spec.tallied (counting_says r) }
-{
-    match r {
-        Ok(counted) => {
-            let done = answer::of_count(Ok(counted.parts));
-            totals(
-                done,
+impl From<Result<Counted, Refusal>> for PolluxCounts {
+    ghost from_gives = { λ r c. c ≡ spec.tallied (counting_says r) };
+
+    fn from(r: Result<Counted, Refusal>) -> PolluxCounts {
+        match r {
+            Ok(counted) => totals(
+                answer::done(counted.parts),
                 counted.accepted,
                 counted.violated,
                 counted.refused,
                 counted.cut,
-            )
+            ),
+            Err(refusal) => totals(PolluxAnswer::from(refusal), 0, 0, 0, 0),
         }
-        Err(refusal) => totals(answer::of_count(Err(refusal)), 0, 0, 0, 0),
     }
 }

@@ -75,11 +75,13 @@ fn verdict(a: PolluxAnswer) -> Judgement
     }
 }
 
-pub(crate) fn judgement(a: PolluxAnswer) -> Judgement
-    ensures { result ≡ spec.heard_as a }
-{
-    if a.says == 0 {
-        return refusal(a);
+impl From<PolluxAnswer> for Judgement {
+    ghost from_gives = { λ a r. r ≡ spec.heard_as a };
+
+    fn from(a: PolluxAnswer) -> Judgement {
+        if a.says == 0 {
+            return refusal(a);
+        }
+        verdict(a)
     }
-    verdict(a)
 }

@@ -26,6 +26,7 @@ use crate::reason::PolluxReason;
 use crate::recheck::PolluxRechecked;
 use crate::summary::PolluxSummary;
 use crate::table::PolluxTable;
+use paper::Judgement;
 
 // Which version of the product the archive is. A program that links with it can hold this to the number in its header.
 #[unsafe(no_mangle)]
@@ -40,7 +41,7 @@ pub extern "C" fn pollux_version() -> u64
 pub extern "C" fn pollux_read(text: &[u8]) -> PolluxAnswer
     ensures { ReadTold text.now result }
 {
-    answer::of_count(valve::read(text))
+    PolluxAnswer::from(valve::read(text))
 }
 
 // Whether the text is good for the list.
@@ -48,7 +49,7 @@ pub extern "C" fn pollux_read(text: &[u8]) -> PolluxAnswer
 pub extern "C" fn pollux_check(text: &[u8], list: &[u8]) -> PolluxAnswer
     ensures { CheckTold text.now list.now result }
 {
-    answer::of_check(valve::check(text, list))
+    PolluxAnswer::from(valve::check(text, list))
 }
 
 // What the text says of an entry.
@@ -56,7 +57,7 @@ pub extern "C" fn pollux_check(text: &[u8], list: &[u8]) -> PolluxAnswer
 pub extern "C" fn pollux_judge(text: &[u8], list: &[u8], entry: &[u8]) -> PolluxAnswer
     ensures { JudgeTold text.now list.now entry.now result }
 {
-    answer::of_judgement(valve::judge(text, list, entry))
+    PolluxAnswer::from(valve::judge(text, list, entry))
 }
 
 // How many instructions were written to the buffer.
@@ -64,7 +65,7 @@ pub extern "C" fn pollux_judge(text: &[u8], list: &[u8], entry: &[u8]) -> Pollux
 pub extern "C" fn pollux_translate(text: &[u8], list: &[u8], buffer: &mut [u8]) -> PolluxAnswer
     ensures { TranslateTold text.now list.now buffer.old buffer.new result }
 {
-    answer::of_count(valve::translate(text, list, buffer))
+    PolluxAnswer::from(valve::translate(text, list, buffer))
 }
 
 // How many instructions the blocks hold.
@@ -72,7 +73,7 @@ pub extern "C" fn pollux_translate(text: &[u8], list: &[u8], buffer: &mut [u8]) 
 pub extern "C" fn pollux_load(list: &[u8], blocks: &[u8]) -> PolluxAnswer
     ensures { LoadTold list.now blocks.now result }
 {
-    answer::of_count(valve::load(list, blocks))
+    PolluxAnswer::from(valve::load(list, blocks))
 }
 
 // What the blocks say of an entry, and how many instructions were carried out.
@@ -80,7 +81,7 @@ pub extern "C" fn pollux_load(list: &[u8], blocks: &[u8]) -> PolluxAnswer
 pub extern "C" fn pollux_run(list: &[u8], blocks: &[u8], entry: &[u8]) -> PolluxAnswer
     ensures { RunTold list.now blocks.now entry.now result }
 {
-    answer::of_run(valve::run(list, blocks, entry))
+    PolluxAnswer::from(valve::run(list, blocks, entry))
 }
 
 // How many entries there are, laid end to end, and how many instructions were carried out for all of them. What the blocks say of each stands in
@@ -94,7 +95,7 @@ pub extern "C" fn pollux_run_all(
 ) -> PolluxTable
     ensures { RunAllTold list.now blocks.now entries.now answers.old answers.new result }
 {
-    table::of_running_all(valve::run_all(list, blocks, entries, answers))
+    PolluxTable::from(valve::run_all(list, blocks, entries, answers))
 }
 
 // How many bytes the text's print has, which stands in the buffer.
@@ -102,7 +103,7 @@ pub extern "C" fn pollux_run_all(
 pub extern "C" fn pollux_print(text: &[u8], buffer: &mut [u8]) -> PolluxAnswer
     ensures { PrintTold text.now buffer.old buffer.new result }
 {
-    answer::of_count(valve::print(text, buffer))
+    PolluxAnswer::from(valve::print(text, buffer))
 }
 
 // How many bytes the text has with its octal numerals in hex, which stands so in the buffer.
@@ -110,7 +111,7 @@ pub extern "C" fn pollux_print(text: &[u8], buffer: &mut [u8]) -> PolluxAnswer
 pub extern "C" fn pollux_fix_octal(text: &[u8], buffer: &mut [u8]) -> PolluxAnswer
     ensures { FixTold text.now buffer.old buffer.new result }
 {
-    answer::of_count(valve::fix_octal(text, buffer))
+    PolluxAnswer::from(valve::fix_octal(text, buffer))
 }
 
 // How many bytes the text of a contract has, which stands in the buffer.
@@ -123,7 +124,7 @@ pub extern "C" fn pollux_pact(
 ) -> PolluxAnswer
     ensures { DraftTold contract.now table.now names.now buffer.old buffer.new result }
 {
-    answer::of_count(valve::pact(contract, table, names, buffer))
+    PolluxAnswer::from(valve::pact(contract, table, names, buffer))
 }
 
 // Whether the blocks are the text's translation, its parts in some order.
@@ -131,7 +132,7 @@ pub extern "C" fn pollux_pact(
 pub extern "C" fn pollux_compare(text: &[u8], list: &[u8], blocks: &[u8]) -> PolluxAnswer
     ensures { CompareTold text.now list.now blocks.now result }
 {
-    answer::of_agreement(valve::compare(text, list, blocks))
+    PolluxAnswer::from(valve::compare(text, list, blocks))
 }
 
 // How many of the entries, which are laid end to end, are accepted, violated and refused, and the bytes of a last one that is cut. For each part of the
@@ -145,7 +146,7 @@ pub extern "C" fn pollux_count(
 ) -> PolluxCounts
     ensures { CountTold text.now list.now entries.now parts.old parts.new result }
 {
-    counts::of_counting(valve::count(text, list, entries, parts))
+    PolluxCounts::from(valve::count(text, list, entries, parts))
 }
 
 // What broke: the part that is false or the key whose record is bad, where it stands in the text or the list, and the judgement. A caller makes
@@ -154,7 +155,7 @@ pub extern "C" fn pollux_count(
 pub extern "C" fn pollux_explain(text: &[u8], list: &[u8], entry: &[u8]) -> PolluxReason
     ensures { ExplainTold text.now list.now entry.now result }
 {
-    reason::of_explanation(valve::reason(text, list, entry))
+    PolluxReason::from(valve::reason(text, list, entry))
 }
 
 // Which keys the text names, how many they are, and whether it names ::priority.
@@ -162,7 +163,7 @@ pub extern "C" fn pollux_explain(text: &[u8], list: &[u8], entry: &[u8]) -> Poll
 pub extern "C" fn pollux_summarize(text: &[u8], list: &[u8]) -> PolluxSummary
     ensures { SummarizeTold text.now list.now result }
 {
-    summary::of_summarizing(valve::summarize(text, list))
+    PolluxSummary::from(valve::summarize(text, list))
 }
 
 // The earlier answer, if it still holds for the new entry; else what the text says of that.
@@ -176,5 +177,5 @@ pub extern "C" fn pollux_recheck(
 ) -> PolluxRechecked
     ensures { RecheckTold text.now list.now old.now earlier new.now result }
 {
-    recheck::of_rechecking(valve::recheck(text, list, old, heard::judgement(earlier), new))
+    PolluxRechecked::from(valve::recheck(text, list, old, Judgement::from(earlier), new))
 }

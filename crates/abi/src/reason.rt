@@ -3,7 +3,6 @@ ghost use Rattle.std.specs.Prelude.{◌-◌, ◌≡◌};
 ghost use Rattle.paper.specs.Explained.{explanation_says};
 ghost use Rattle.abi.specs.Told.{showing, reasoned};
 
-use crate::answer;
 use crate::answer::PolluxAnswer;
 use paper::{Explanation, Judgement, Place, Refusal, Verdict, refused};
 
@@ -52,25 +51,24 @@ fn length(from: usize, to: usize) -> usize
     0
 }
 
-pub(crate) fn of_explanation(r: Explanation) -> PolluxReason
-    ensures { result ≡ reasoned (explanation_says r) }
-{
-    match r {
-        Explanation::Part(number, place, from, to) => {
-            let judged = answer::of_judgement(Ok(Verdict::Violated));
-            reason(judged, number, place, from, length(from, to))
-        }
-        Explanation::Key(place, from, to) => {
-            let bad = Err(Refusal {
-                number: refused::ENTRY_RULE,
-                place: Place::Entry(place),
-            });
-            let judged = answer::of_judgement(bad);
-            reason(judged, 0, place, from, length(from, to))
-        }
-        Explanation::Nothing(judgement) => {
-            let judged = answer::of_judgement(judgement);
-            reason(judged, 0, 0, 0, 0)
+impl From<Explanation> for PolluxReason {
+    ghost from_gives = { λ r shown. shown ≡ reasoned (explanation_says r) };
+
+    fn from(r: Explanation) -> PolluxReason {
+        match r {
+            Explanation::Part(number, place, from, to) => {
+                let violated: Judgement = Ok(Verdict::Violated);
+                let judged = PolluxAnswer::from(violated);
+                reason(judged, number, place, from, length(from, to))
+            }
+            Explanation::Key(place, from, to) => {
+                let judged = PolluxAnswer::from(Refusal {
+                    number: refused::ENTRY_RULE,
+                    place: Place::Entry(place),
+                });
+                reason(judged, 0, place, from, length(from, to))
+            }
+            Explanation::Nothing(judgement) => reason(PolluxAnswer::from(judgement), 0, 0, 0, 0),
         }
     }
 }

@@ -3,7 +3,6 @@ ghost use Rattle.std.specs.Prelude.{◌≡◌};
 ghost use Rattle.paper.specs.Rechecking.{rechecking_says};
 ghost use Rattle.abi.specs.Told as spec;
 
-use crate::answer;
 use crate::answer::PolluxAnswer;
 use paper::Rechecking;
 
@@ -30,11 +29,13 @@ fn saying(judged: PolluxAnswer, reused: u64) -> PolluxRechecked
     }
 }
 
-pub(crate) fn of_rechecking(r: Rechecking) -> PolluxRechecked
-    ensures { result ≡ spec.rechecked (rechecking_says r) }
-{
-    match r {
-        Rechecking::Reused(earlier) => saying(answer::of_judgement(earlier), 1),
-        Rechecking::Judged(judgement) => saying(answer::of_judgement(judgement), 0),
+impl From<Rechecking> for PolluxRechecked {
+    ghost from_gives = { λ r a. a ≡ spec.rechecked (rechecking_says r) };
+
+    fn from(r: Rechecking) -> PolluxRechecked {
+        match r {
+            Rechecking::Reused(earlier) => saying(PolluxAnswer::from(earlier), 1),
+            Rechecking::Judged(judgement) => saying(PolluxAnswer::from(judgement), 0),
+        }
     }
 }

@@ -1,6 +1,5 @@
 // A summary as seven numbers: the four of an answer, and three of what the text names.
 ghost use Rattle.std.specs.Prelude.{◌≡◌};
-ghost use Rattle.paper.specs.Code.{bit};
 ghost use Rattle.paper.specs.Named.{summarizing_says};
 ghost use Rattle.abi.specs.Told as spec;
 
@@ -21,15 +20,6 @@ pub struct PolluxSummary {
     pub count: u64,
 }
 
-fn mark(priority: bool) -> u64
-    ensures { result ≡ bit priority }
-{
-    if priority {
-        return 1;
-    }
-    0
-}
-
 fn naming(checked: PolluxAnswer, keys: u32, priority: u64, count: u32) -> PolluxSummary
     ensures { result ≡ spec.naming checked keys priority count }
 {
@@ -38,26 +28,24 @@ fn naming(checked: PolluxAnswer, keys: u32, priority: u64, count: u32) -> Pollux
         number: checked.number,
         input: checked.input,
         value: checked.value,
-        keys: keys as u64,
+        keys: u64::from(keys),
         priority,
-        count: count as u64,
+        count: u64::from(count),
     }
 }
 
-pub(crate) fn of_summarizing(r: Result<Summary, Refusal>) -> PolluxSummary
-    ensures { result ≡ spec.summarized (summarizing_says r) }
-{
-    match r {
-        Ok(summary) => {
-            let passed = answer::of_check(Ok(()));
-            let keys = summary.keys;
-            naming(
-                passed,
-                keys,
-                mark(summary.priority),
-                valve::count_keys(keys),
-            )
+impl From<Result<Summary, Refusal>> for PolluxSummary {
+    ghost from_gives = { λ r a. a ≡ spec.summarized (summarizing_says r) };
+
+    fn from(r: Result<Summary, Refusal>) -> PolluxSummary {
+        match r {
+            Ok(summary) => naming(
+                answer::done(0),
+                summary.keys,
+                u64::from(summary.priority),
+                valve::count_keys(summary.keys),
+            ),
+            Err(refusal) => naming(PolluxAnswer::from(refusal), 0, 0, 0),
         }
-        Err(refusal) => naming(answer::of_check(Err(refusal)), 0, 0, 0),
     }
 }

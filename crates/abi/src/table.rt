@@ -30,14 +30,13 @@ fn stepping(answered: PolluxAnswer, steps: u64) -> PolluxTable
     }
 }
 
-pub(crate) fn of_running_all(r: Result<RanAll, Refusal>) -> PolluxTable
-    ensures { result ≡ spec.ran_through (running_all_says r) }
-{
-    match r {
-        Ok(ran) => {
-            let done = answer::of_count(Ok(ran.entries));
-            stepping(done, ran.steps)
+impl From<Result<RanAll, Refusal>> for PolluxTable {
+    ghost from_gives = { λ r a. a ≡ spec.ran_through (running_all_says r) };
+
+    fn from(r: Result<RanAll, Refusal>) -> PolluxTable {
+        match r {
+            Ok(ran) => stepping(answer::done(ran.entries), ran.steps),
+            Err(refusal) => stepping(PolluxAnswer::from(refusal), 0),
         }
-        Err(refusal) => stepping(answer::of_count(Err(refusal)), 0),
     }
 }

@@ -5,7 +5,7 @@ use Rattle.std.proofs.lemmas.List.Edits.{sets}
 use Rattle.std.proofs.Math.Seq.{slice}
 use Rattle.paper.specs.declared.Place.{Place}
 use Rattle.paper.specs.declared.Place.TheVariants.{Text}
-use Rattle.paper.specs.Answers.{ok, refused, input_of, offset_of, refused_by}
+use Rattle.paper.specs.Answers.{ok, refused_by}
 use Rattle.paper.specs.Tokens.{closing, undotted}
 use Rattle.paper.specs.Grammar as G
 use Rattle.paper.specs.Grammar.{Out, got, Parser, outcome, parsed}

@@ -6,9 +6,9 @@ use mathlib.Core.Path.{◌≡◌, sym, subst}
 use mathlib.Core.List.{List}
 use lib.ListN.{length, take}
 use lib.Seq.{length-take-le}
-use Rattle.std.specs.Prelude.{Result, Ok}
+use Rattle.std.specs.Prelude.{Result}
 use Rattle.paper.specs.declared.Refusal.{Refusal}
-use Rattle.paper.specs.Blocks.{block_size, blocks_needed}
+use Rattle.paper.specs.Blocks.{block_size}
 use Rattle.paper.specs.Promised.{TranslatePromised, LoadPromised, RunPromised}
 use Rattle.paper.proofs.PassedUp.{passed_up}
 use Rattle.paper.proofs.DemandOne.{translate_answered}

@@ -1,5 +1,4 @@
 -- By what is promised of the call's result.
-use borrow.Author.Rules.{rules}
 use Rattle.paper.proofs.DemandOne.{check_answered}
 use Rattle.paper.proofs.DemandTwo.{checked_right}
 use Rattle.promises.proofs.calls.check.Goals as goal

@@ -1,5 +1,4 @@
 -- By what is promised of the call's result; that blocks which agree are ours stands on their being bytes, as all that is lent is.
-use borrow.Author.Rules.{rules}
 use Rattle.paper.proofs.DemandOne.{compare_answered}
 use Rattle.paper.proofs.DemandTwo.{compare_right}
 use Rattle.promises.proofs.Lent.{lent_bytes}

@@ -1,5 +1,4 @@
 -- By what is promised of the call's result, and of the numbers of the parts at its exit.
-use borrow.Author.Rules.{rules}
 use Rattle.paper.proofs.DemandOne.{count_answered}
 use Rattle.paper.proofs.DemandTwo.{count_right}
 use Rattle.promises.specs.Held.{counted_to}

@@ -1,5 +1,4 @@
 -- By what is promised of the call's result, and of the buffer at its exit.
-use borrow.Author.Rules.{rules}
 use Rattle.paper.proofs.DemandOne.{fix_answered}
 use Rattle.paper.proofs.FixDemands.{fixes_right}
 use Rattle.promises.specs.Held.{fixed_to}

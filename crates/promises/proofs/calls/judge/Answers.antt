@@ -1,5 +1,4 @@
 -- By what is promised of the call's result.
-use borrow.Author.Rules.{rules}
 use Rattle.paper.proofs.DemandOne.{judge_answered}
 use Rattle.paper.proofs.DemandTwo.{judged_right}
 use Rattle.promises.proofs.calls.judge.Goals as goal

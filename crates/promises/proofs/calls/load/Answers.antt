@@ -1,5 +1,4 @@
 -- By what is promised of the call's result.
-use borrow.Author.Rules.{rules}
 use Rattle.paper.proofs.DemandOne.{load_answered}
 use Rattle.promises.proofs.calls.load.Goals as goal
 

@@ -1,5 +1,4 @@
 -- By what is promised of the call's result, and of the buffer at its exit.
-use borrow.Author.Rules.{rules}
 use Rattle.paper.proofs.DemandOne.{print_answered}
 use Rattle.paper.proofs.PrintDemands.{printed_right}
 use Rattle.promises.specs.Held.{lent}

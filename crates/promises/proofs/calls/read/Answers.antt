@@ -1,5 +1,4 @@
 -- By what is promised of the call's result.
-use borrow.Author.Rules.{rules}
 use Rattle.paper.proofs.DemandOne.{read_answered}
 use Rattle.paper.proofs.DemandTwo.{read_right}
 use Rattle.promises.proofs.calls.read.Goals as goal

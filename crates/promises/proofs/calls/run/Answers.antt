@@ -1,5 +1,4 @@
 -- By what is promised of the call's result.
-use borrow.Author.Rules.{rules}
 use Rattle.paper.proofs.DemandOne.{run_answered}
 use Rattle.paper.proofs.RunsRight.{ran_right}
 use Rattle.promises.proofs.calls.run.Goals as goal

@@ -1,5 +1,4 @@
 -- By what is promised of the call's result, and of the answers at its exit.
-use borrow.Author.Rules.{rules}
 use Rattle.paper.proofs.DemandOne.{run_all_answered}
 use Rattle.paper.proofs.DemandTwo.{run_all_right}
 use Rattle.promises.specs.Held.{ran_over}

@@ -1,5 +1,4 @@
 -- By what is promised of the call's result, and of the buffer at its exit.
-use borrow.Author.Rules.{rules}
 use Rattle.paper.proofs.DemandOne.{translate_answered}
 use Rattle.paper.proofs.DemandTwo.{translated_right}
 use Rattle.promises.specs.Held.{gave}

@@ -1,5 +1,4 @@
 -- By what is promised of the explanation that the piece is one of.
-use borrow.Author.Rules.{rules}
 use Rattle.promises.proofs.PiecesHeld.{list_piece_right}
 use Rattle.promises.proofs.pieces.piece_of_list.Goals as goal
 

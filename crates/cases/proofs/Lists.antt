@@ -1,20 +1,22 @@
--- A list of bytes, cut: one byte more, the first word, the values of characters, the words of a line, and lines.
+-- A list of bytes, cut: one byte more, the command of a word, the values of characters, the words of a line, and lines.
 use Prim.Native.Nat.{ℕ, zero, suc, ◌+◌, ◌*◌, ◌-◌, ◌/◌, ◌%◌, ◌≤◌, ◌<◌}
-use mathlib.Core.Path.{◌≡◌, refl, sym, ap, ap₂, ◌∙◌}
+use mathlib.Core.Path.{◌≡◌, refl, sym, ap, ◌∙◌}
 use mathlib.Core.Bool.{Bool, true, false, not, cond}
 use mathlib.Core.Logic.{◌⊎◌, inl, inr, ⊎_elim}
 use mathlib.Core.List.{List, [], ◌∷◌, ◌++◌}
 use native.Mathlib.Nat.{add-zero}
 use native.Mathlib.Decide.{dec_lt}
 use native.Mathlib.Omega.{arith}
-use lib.ListN.{length, get_or, take, drop, length-drop}
+use lib.ListN.{length, get_or, drop, length-drop}
 use lib.Seq.{drop-cons, drop-drop}
 use lib.Dec.{eqb, ltb}
 use borrow.Author.Tests.{ltb-true, lt-ltb, le-ltb, lt-leb}
 use Rattle.paper.specs.Numbers.{byte_at}
-use Rattle.paper.specs.Tokens.{span, digit_of}
+use Rattle.std.specs.Prelude.{Some}
+use Rattle.paper.specs.Tokens.{span, digit_of, same_bytes}
+use Rattle.cases.specs.declared.names.Command.{Command}
 use Rattle.cases.specs.Places.{stop_from}
-use Rattle.cases.specs.Names.{longer, words_of}
+use Rattle.cases.specs.Names.{word_of, first_of}
 use Rattle.cases.specs.Words.{six_digits, value_at, spelled, word_bytes, next_word, words_from, line_bytes}
 use Rattle.cases.specs.Inputs.{heads, last_of, gives}
 
@@ -24,26 +26,20 @@ digits_on s n i h =
     let e : i + 1 ≡ suc i = omega arith in
     rw (e, drop-cons s i 0 h)
 
--- the first word, and those after it
-words_cut : (s : List ℕ) → 0 < length s → words_of s ≡ take (span (ltb 32) s) s ∷ words_of (drop (suc (span (ltb 32) s)) s)
-words_cut [] h = absurd (omega arith)
-words_cut (b ∷ s) h = go s (ltb 32 b) refl (words_cut s)
-  where
-    go : (s : List ℕ) (t : Bool) → ltb 32 b ≡ t
-        → (0 < length s → words_of s ≡ take (span (ltb 32) s) s ∷ words_of (drop (suc (span (ltb 32) s)) s))
-        → words_of (b ∷ s) ≡ take (span (ltb 32) (b ∷ s)) (b ∷ s) ∷ words_of (drop (suc (span (ltb 32) (b ∷ s))) (b ∷ s))
-    go [] true e i = rw e
-    go (x ∷ s) true e i = rw e (ap (longer b) (i (omega arith)))
-    go s false e i = rw e
+-- the first command of a word is the one at a place, or among those after it
 
-pub first_word : (s : List ℕ) (at end : ℕ) → at < length s → end ≡ at + span (ltb 32) (drop at s)
-    → words_of (drop at s) ≡ take (end - at) (drop at s) ∷ words_of (drop (end + 1) s)
-first_word s at end h e =
-    let n = span (ltb 32) (drop at s) in
-    let size : end - at ≡ n = omega arith in
-    let past : at + suc n ≡ end + 1 = omega arith in
-    words_cut (drop at s) (omega (arith, length-drop at s))
-    ∙ ap₂ (λ (w r : List ℕ). w ∷ words_of r) (ap (λ (m : ℕ). take m (drop at s)) (sym size)) (drop-drop (suc n) at s ∙ ap (λ (m : ℕ). drop m s) past)
+pub first_here : (cs : List Command) (i : ℕ) (d : Command) (w word : List ℕ) → w ≡ word_of (get_or cs i d) → same_bytes w word ≡ true → i < length cs
+    → first_of (drop i cs) word ≡ Some (get_or cs i d)
+first_here cs i d w word e same h =
+    let named : same_bytes (word_of (get_or cs i d)) word ≡ true = ap (λ (v : List ℕ). same_bytes v word) (sym e) ∙ same in
+    rw (drop-cons cs i d h, named)
+
+pub first_later : (cs : List Command) (i : ℕ) (d : Command) (w word : List ℕ) → w ≡ word_of (get_or cs i d) → same_bytes w word ≡ false → i < length cs
+    → first_of (drop (i + 1) cs) word ≡ first_of (drop i cs) word
+first_later cs i d w word e same h =
+    let named : same_bytes (word_of (get_or cs i d)) word ≡ false = ap (λ (v : List ℕ). same_bytes v word) (sym e) ∙ same in
+    let next : i + 1 ≡ suc i = omega arith in
+    rw (next, drop-cons cs i d h, named)
 
 -- the values between two offsets, one at a time: a width is 1 or 2
 
@@ -144,7 +140,7 @@ line_head s at h =
     ∙ ap (λ (r : List ℕ). at ∷ heads (at + n + 1) true r) (drop-drop (suc n) at s ∙ ap (λ (m : ℕ). drop m s) past)
 
 -- no line past an offset is among those up to it
-pub heads_past : (file : List ℕ) (to input : ℕ) (s : List ℕ) (at : ℕ) (begins : Bool) (none : ℕ) → to < at
+pub heads_past : (file : List ℕ) (to : ℕ) (input : Command) (s : List ℕ) (at : ℕ) (begins : Bool) (none : ℕ) → to < at
     → last_of (gives file to input) none (heads at begins s) ≡ none
 heads_past file to input [] at begins none h = refl
 heads_past file to input (b ∷ s) at true none h =

@@ -1,9 +1,6 @@
 // The calls, on what is given.
 use crate::inputs::put_input;
-use crate::names::{
-    ANSWERS, CHECK, CODE, COMPARE, COUNT, EARLIER, ENTRY, EXPLAIN, FIX_OCTAL, JUDGE, LIST, LOAD,
-    OLD, PACT, PRINT, READ, RECHECK, RUN_ALL, SUMMARIZE, TABLE, TEXT, TRANSLATE,
-};
+use crate::names::Command;
 use crate::scan::{not_understood, part};
 use blocks::Block;
 use paper::refused::ENTRY_RULE;
@@ -23,10 +20,10 @@ fn write_code(rt: &impl Print, code: &[u8], room: &mut [u8]) -> io::Result<()> {
 // For its blocks alone a text is translated without a word, unless it is refused.
 fn say_translation(
     rt: &impl Print,
-    call: usize,
+    call: Command,
     translation: Result<usize, Refusal>,
 ) -> io::Result<()> {
-    if call == TRANSLATE || translation.is_err() {
+    if call == Command::Translate || translation.is_err() {
         return lines::say_done(rt, b"translated", translation);
     }
     Ok(())
@@ -117,8 +114,8 @@ fn recheck(
     new: &[u8],
 ) -> io::Result<()> {
     let mut all = [0u8; 65536];
-    let o = put_input(rt, file, at, OLD, &mut all, 0)?;
-    let e = put_input(rt, file, at, EARLIER, &mut all, o)?;
+    let o = put_input(rt, file, at, Command::Old, &mut all, 0)?;
+    let e = put_input(rt, file, at, Command::Earlier, &mut all, o)?;
     let earlier = earlier_answer(part(&all, o, e));
     lines::say_rechecking(
         rt,
@@ -166,7 +163,7 @@ fn run_all(
     entries: &[u8],
 ) -> io::Result<()> {
     let mut answers = [0u8; 65536];
-    let n = put_input(rt, file, at, ANSWERS, &mut answers, 0)?;
+    let n = put_input(rt, file, at, Command::Answers, &mut answers, 0)?;
     match answers.get_mut(..n) {
         Some(lent) => judge_all(rt, list, blocks, entries, lent),
         None => not_understood(rt),
@@ -176,18 +173,18 @@ fn run_all(
 // The calls that write into the room.
 fn write(
     rt: &impl Print,
-    call: usize,
+    call: Command,
     text: &[u8],
     list: &[u8],
     room: &mut [u8],
 ) -> io::Result<()> {
     match call {
-        CODE => write_code(rt, text, room),
-        PRINT => {
+        Command::Code => write_code(rt, text, room),
+        Command::Print => {
             let printed = valve::print(text, room);
             say_written(rt, b"printed", printed, room)
         }
-        FIX_OCTAL => {
+        Command::FixOctal => {
             let fixed = valve::fix_octal(text, room);
             say_written(rt, b"fixed", fixed, room)
         }
@@ -198,31 +195,31 @@ fn write(
 // Those that only read.
 fn answer(
     rt: &impl Print,
-    call: usize,
+    call: Command,
     text: &[u8],
     list: &[u8],
     entry: &[u8],
     room: &[u8],
 ) -> io::Result<()> {
     match call {
-        READ => lines::say_done(rt, b"read", valve::read(text)),
-        CHECK => lines::say_checking(rt, valve::check(text, list)),
-        JUDGE => lines::say_judgement(rt, valve::judge(text, list, entry)),
-        EXPLAIN => explain(rt, text, list, entry),
-        SUMMARIZE => summarize(rt, text, list),
-        COMPARE => lines::say_agreement(rt, valve::compare(text, list, room)),
-        COUNT => count(rt, text, list, entry),
-        LOAD => lines::say_done(rt, b"loaded", valve::load(list, room)),
+        Command::Read => lines::say_done(rt, b"read", valve::read(text)),
+        Command::Check => lines::say_checking(rt, valve::check(text, list)),
+        Command::Judge => lines::say_judgement(rt, valve::judge(text, list, entry)),
+        Command::Explain => explain(rt, text, list, entry),
+        Command::Summarize => summarize(rt, text, list),
+        Command::Compare => lines::say_agreement(rt, valve::compare(text, list, room)),
+        Command::Count => count(rt, text, list, entry),
+        Command::Load => lines::say_done(rt, b"loaded", valve::load(list, room)),
         _ => lines::say_running(rt, valve::run(list, room, entry)),
     }
 }
 
 // The text, or the instructions of `code`, or the contract of `pact`.
-fn first_input(call: usize) -> usize {
+fn first_input(call: Command) -> Command {
     match call {
-        CODE => CODE,
-        PACT => PACT,
-        _ => TEXT,
+        Command::Code => Command::Code,
+        Command::Pact => Command::Pact,
+        _ => Command::Text,
     }
 }
 
@@ -235,37 +232,32 @@ pub(crate) fn pact(
     room: &mut [u8],
 ) -> io::Result<()> {
     let mut all = [0u8; 65536];
-    let l = put_input(rt, file, at, LIST, &mut all, 0)?;
-    let t = put_input(rt, file, at, TABLE, &mut all, l)?;
+    let l = put_input(rt, file, at, Command::List, &mut all, 0)?;
+    let t = put_input(rt, file, at, Command::Table, &mut all, l)?;
     draft(rt, contract, part(&all, l, t), part(&all, 0, l), room)
 }
 
 // Makes the call of the line at an offset, on the inputs that are given there.
 pub(crate) fn make(
     rt: &impl Print,
-    call: usize,
+    call: Command,
     file: &[u8],
     at: usize,
     room: &mut [u8],
 ) -> io::Result<()> {
     let mut all = [0u8; 65536];
     let t = put_input(rt, file, at, first_input(call), &mut all, 0)?;
-    let l = put_input(rt, file, at, LIST, &mut all, t)?;
-    let e = put_input(rt, file, at, ENTRY, &mut all, l)?;
+    let l = put_input(rt, file, at, Command::List, &mut all, t)?;
+    let e = put_input(rt, file, at, Command::Entry, &mut all, l)?;
     let text = part(&all, 0, t);
     let list = part(&all, t, l);
-    if call == PACT {
-        return pact(rt, text, file, at, room);
-    }
-    if call <= FIX_OCTAL {
-        return write(rt, call, text, list, room);
-    }
     let entry = part(&all, l, e);
-    if call == RECHECK {
-        return recheck(rt, file, at, text, list, entry);
+    match call {
+        Command::Pact => pact(rt, text, file, at, room),
+        Command::Code | Command::Blocks | Command::Translate | Command::Print | Command::FixOctal =>
+            write(rt, call, text, list, room),
+        Command::Recheck => recheck(rt, file, at, text, list, entry),
+        Command::RunAll => run_all(rt, file, at, list, room, entry),
+        _ => answer(rt, call, text, list, entry, room),
     }
-    if call == RUN_ALL {
-        return run_all(rt, file, at, list, room, entry);
-    }
-    answer(rt, call, text, list, entry, room)
 }

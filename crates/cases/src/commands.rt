@@ -3,9 +3,7 @@ ghost use Rattle.std.specs.Prelude.{◌≤◌, length};
 
 use crate::calls;
 use crate::inputs::last;
-use crate::names::{
-    BLOCKS, CHANGE, CODE, EVERY, ROOM, RUN_ALL, SHOW, TEXT, TITLE, TRANSLATE, command_at,
-};
+use crate::names::{Command, command_at};
 use crate::scan::{byte_at, not_understood, part, rest_of, scan};
 use crate::words::{number, put_words};
 use std::io;
@@ -53,7 +51,13 @@ fn every(rt: &impl Print, file: &[u8], at: usize, room: &mut [u8]) -> io::Result
     Ok(())
 }
 
-fn case(rt: &impl Print, command: usize, file: &[u8], at: usize, room: &mut [u8]) -> io::Result<()>
+fn case(
+    rt: &impl Print,
+    command: Command,
+    file: &[u8],
+    at: usize,
+    room: &mut [u8],
+) -> io::Result<()>
     requires { at ≤ length file.now }
 {
     lines::say(rt, rest_of(file, at))?;
@@ -75,18 +79,24 @@ fn unknown(rt: &impl Print, file: &[u8], at: usize) -> io::Result<()>
     }
 }
 
-fn act(rt: &impl Print, command: usize, file: &[u8], at: usize, room: &mut [u8]) -> io::Result<()>
+fn act(rt: &impl Print, command: Command, file: &[u8], at: usize, room: &mut [u8]) -> io::Result<()>
     requires { at ≤ length file.now }
 {
     match command {
-        TEXT..=ROOM => Ok(()),
-        TITLE => title(rt, rest_of(file, at)),
-        CHANGE => change(rt, rest_of(file, at), room),
-        SHOW => show(rt, rest_of(file, at), room),
-        EVERY => every(rt, file, at, room),
-        CODE..=BLOCKS => calls::make(rt, command, file, at, room),
-        TRANSLATE..=RUN_ALL => case(rt, command, file, at, room),
-        _ => unknown(rt, file, at),
+        Command::Text
+        | Command::List
+        | Command::Entry
+        | Command::Old
+        | Command::Earlier
+        | Command::Table
+        | Command::Answers
+        | Command::Room => Ok(()),
+        Command::Title => title(rt, rest_of(file, at)),
+        Command::Change => change(rt, rest_of(file, at), room),
+        Command::Show => show(rt, rest_of(file, at), room),
+        Command::Every => every(rt, file, at, room),
+        Command::Code | Command::Blocks => calls::make(rt, command, file, at, room),
+        _ => case(rt, command, file, at, room),
     }
 }
 
@@ -94,11 +104,11 @@ fn act(rt: &impl Print, command: usize, file: &[u8], at: usize, room: &mut [u8])
 fn step(rt: &impl Print, file: &[u8], at: usize, room: &mut [u8]) -> io::Result<()>
     requires { at ≤ length file.now }
 {
-    let command = command_at(file, at);
-    let n = number(rt, rest_of(file, last(file, at, ROOM)), 0)?;
-    match room.get_mut(..n) {
-        Some(lent) => act(rt, command, file, at, lent),
-        None => not_understood(rt),
+    let n = number(rt, rest_of(file, last(file, at, Command::Room)), 0)?;
+    match (room.get_mut(..n), command_at(file, at)) {
+        (None, _) => not_understood(rt),
+        (_, None) => unknown(rt, file, at),
+        (Some(lent), Some(command)) => act(rt, command, file, at, lent),
     }
 }
 

@@ -3,18 +3,18 @@ ghost use Rattle.std.specs.Prelude.{◌≤◌, ◌≡◌, cond, length, IfOk};
 ghost use Rattle.cases.specs.Inputs.{input_at, last_line, input_bytes};
 ghost use Rattle.cases.specs.Words.{Put};
 
-use crate::names::{TEXT, command_at};
+use crate::names::{Command, command_at};
 use crate::scan::{byte_at, scan};
 use crate::words::{Stretch, put, put_words};
 use std::io;
 
 // Which input a line gives: a text after a colon, or that of its name.
-fn input_at(file: &[u8], at: usize) -> usize
+fn input_at(file: &[u8], at: usize) -> Option<Command>
     requires { at ≤ length file.now }
     ensures { result ≡ input_at file.now at }
 {
     if byte_at(file, scan(file, at, b':')) == b':' {
-        return TEXT;
+        return Some(Command::Text);
     }
     command_at(file, at)
 }
@@ -27,7 +27,7 @@ fn picked(holds: bool, at: usize, other: usize) -> usize
 }
 
 // Where the last line up to an offset begins that gives an input; the file's end where there is none.
-pub(crate) fn last(file: &[u8], to: usize, input: usize) -> usize
+pub(crate) fn last(file: &[u8], to: usize, input: Command) -> usize
     ensures { (result ≡ last_line file.now to input) × (result ≤ length file.now) }
 {
     let mut found = file.len();
@@ -37,7 +37,7 @@ pub(crate) fn last(file: &[u8], to: usize, input: usize) -> usize
         if to < at {
             return found;
         }
-        found = picked(input_at(file, at) == input, at, found);
+        found = picked(input_at(file, at) == Some(input), at, found);
         at = scan(file, at, b'\n') + 1;
     }
     found
@@ -48,7 +48,7 @@ pub(crate) fn put_input(
     rt: &impl Print,
     file: &[u8],
     at: usize,
-    input: usize,
+    input: Command,
     room: &mut [u8],
     to: usize,
 ) -> io::Result<usize>

@@ -1,92 +1,131 @@
-// The commands, by the places of their names in a list: the first eight give what calls are lent, and the last fifteen print an answer.
+// The commands, each by its word.
 ghost use Rattle.std.specs.Prelude.{◌≤◌, ◌≡◌, length};
-ghost use Rattle.cases.specs.Names.{words_of, place_in, command_at};
+ghost use Rattle.cases.specs.Names.{word_of, command_of, command_at};
 
 use crate::scan::{part, scan};
 use spelling::bytes::same_bytes;
 
-pub const TEXT: usize = 0;
+// The first eight give what calls are lent, and the last fifteen print an answer.
+#[derive(Clone, Copy, PartialEq, Eq)]
+pub enum Command {
+    Text,
+    List,
+    Entry,
+    Old,
+    Earlier,
+    Table,
+    Answers,
+    Room,
+    Title,
+    Change,
+    Show,
+    Every,
+    Code,
+    Blocks,
+    Translate,
+    Print,
+    FixOctal,
+    Pact,
+    Read,
+    Check,
+    Judge,
+    Explain,
+    Summarize,
+    Recheck,
+    Compare,
+    Count,
+    Load,
+    Run,
+    RunAll,
+}
 
-pub const LIST: usize = 1;
+const COMMANDS: [Command; 29] = [
+    Command::Text,
+    Command::List,
+    Command::Entry,
+    Command::Old,
+    Command::Earlier,
+    Command::Table,
+    Command::Answers,
+    Command::Room,
+    Command::Title,
+    Command::Change,
+    Command::Show,
+    Command::Every,
+    Command::Code,
+    Command::Blocks,
+    Command::Translate,
+    Command::Print,
+    Command::FixOctal,
+    Command::Pact,
+    Command::Read,
+    Command::Check,
+    Command::Judge,
+    Command::Explain,
+    Command::Summarize,
+    Command::Recheck,
+    Command::Compare,
+    Command::Count,
+    Command::Load,
+    Command::Run,
+    Command::RunAll,
+];
 
-pub const ENTRY: usize = 2;
-
-pub const OLD: usize = 3;
-
-pub const EARLIER: usize = 4;
-
-pub const TABLE: usize = 5;
-
-pub const ANSWERS: usize = 6;
-
-pub const ROOM: usize = 7;
-
-pub const TITLE: usize = 8;
-
-pub const CHANGE: usize = 9;
-
-pub const SHOW: usize = 10;
-
-pub const EVERY: usize = 11;
-
-pub const CODE: usize = 12;
-
-pub const BLOCKS: usize = 13;
-
-pub const TRANSLATE: usize = 14;
-
-pub const PRINT: usize = 15;
-
-pub const FIX_OCTAL: usize = 16;
-
-pub const PACT: usize = 17;
-
-pub const READ: usize = 18;
-
-pub const CHECK: usize = 19;
-
-pub const JUDGE: usize = 20;
-
-pub const EXPLAIN: usize = 21;
-
-pub const SUMMARIZE: usize = 22;
-
-pub const RECHECK: usize = 23;
-
-pub const COMPARE: usize = 24;
-
-pub const COUNT: usize = 25;
-
-pub const LOAD: usize = 26;
-
-pub const RUN: usize = 27;
-
-pub const RUN_ALL: usize = 28;
-
-// Which of some words a word is, counted from 0; their count for none of them.
-fn place_in(words: &[u8], word: &[u8]) -> usize
-    ensures { result ≡ place_in (words_of words.now) word.now }
-{
-    let mut place = 0;
-    let mut at = 0;
-    while at < words.len() {
-        let end = scan(words, at, b' ');
-        if same_bytes(&words[at..end], word) {
-            return place;
+impl Command {
+    // The word that a line of it begins with.
+    fn word(self) -> &'static [u8]
+        ensures { result.now ≡ word_of self }
+    {
+        match self {
+            Command::Text => b"text",
+            Command::List => b"list",
+            Command::Entry => b"entry",
+            Command::Old => b"old",
+            Command::Earlier => b"earlier",
+            Command::Table => b"table",
+            Command::Answers => b"answers",
+            Command::Room => b"room",
+            Command::Title => b"title",
+            Command::Change => b"change",
+            Command::Show => b"show",
+            Command::Every => b"every",
+            Command::Code => b"code",
+            Command::Blocks => b"blocks",
+            Command::Translate => b"translate",
+            Command::Print => b"print",
+            Command::FixOctal => b"fix_octal",
+            Command::Pact => b"pact",
+            Command::Read => b"read",
+            Command::Check => b"check",
+            Command::Judge => b"judge",
+            Command::Explain => b"explain",
+            Command::Summarize => b"summarize",
+            Command::Recheck => b"recheck",
+            Command::Compare => b"compare",
+            Command::Count => b"count",
+            Command::Load => b"load",
+            Command::Run => b"run",
+            Command::RunAll => b"run_all",
         }
-        place += 1;
-        at = end + 1;
     }
-    place
+}
+
+// The command whose word this is.
+fn command_of(word: &[u8]) -> Option<Command>
+    ensures { result ≡ command_of word.now }
+{
+    for command in COMMANDS {
+        if same_bytes(command.word(), word) {
+            return Some(command);
+        }
+    }
+    None
 }
 
 // The command of the line at an offset.
-pub(crate) fn command_at(file: &[u8], at: usize) -> usize
+pub(crate) fn command_at(file: &[u8], at: usize) -> Option<Command>
     requires { at ≤ length file.now }
     ensures { result ≡ command_at file.now at }
 {
-    place_in(
-        b"text list entry old earlier table answers room title change show every code blocks translate print fix_octal pact read check judge explain summarize recheck compare count load run run_all",
-        part(file, at, scan(file, at, b':')),
-    )
+    command_of(part(file, at, scan(file, at, b':')))
 }

@@ -7,8 +7,11 @@ use mathlib.Core.Bool.{Bool, true, false, cond}
 use mathlib.Core.List.{List}
 use native.Mathlib.Omega.{arith}
 use lib.ListN.{length, drop}
-use lib.Dec.{eqb}
 use borrow.Author.Tests.{le-leb}
+use Rattle.std.specs.Prelude.{Option, Some}
+use Rattle.std.specs.Option.{option_eq}
+use Rattle.cases.specs.declared.names.Command.{Command}
+use Rattle.cases.specs.Names.{same_command}
 use Rattle.cases.specs.Inputs.{heads, last_of, gives}
 use Rattle.cases.proofs.Lists.{line_head, heads_past}
 use Rattle.cases.proofs.inputs.last.Goals as goal
@@ -46,7 +49,8 @@ so_far_2 t = t.loop-at.found
 better : (c : goal.After-scan-at) → c.picked-found.result ≡ cond (test c (at_2 c)) (at_2 c) (so_far_2 c)
 better c =
     c.picked-found.ensures
-    ∙ ap (λ (input : ℕ). cond (eqb input c.args.input) (at_2 c) (so_far_2 c)) c.input_at.ensures
+    ∙ ap (λ (t : Bool). cond t (at_2 c) (so_far_2 c)) c.eq.ensures
+    ∙ ap (λ (input : Option Command). cond (option_eq same_command input (Some c.args.input)) (at_2 c) (so_far_2 c)) c.input_at.ensures
     ∙ rw (le-leb (at_2 c) c.args.to c.if-to-at.false)
 
 inside : (c : goal.After-scan-at) → c.picked-found.result ≤ length (file_2 c)

@@ -24,13 +24,7 @@ fn same_by(list: &[u8], old: &[u8], new: &[u8], nodes: &[u32], root: usize) -> b
 }
 
 // What the text says of the new entry, by its tree at node `root`; nothing where both conform and are the same in all that it names.
-fn compare_by(
-    list: &[u8],
-    old: &[u8],
-    new: &[u8],
-    nodes: &[u32],
-    root: usize,
-) -> Option<Judgement>
+fn compare_by(list: &[u8], old: &[u8], new: &[u8], nodes: &[u32], root: usize) -> Option<Judgement>
     requires root_in_bounds { root * 8 + 8 ≤ length nodes.now }
     requires by_index { (text : List ℕ) × Rooted text list.now nodes.now root }
     ensures { (text : List ℕ) → Rooted text list.now nodes.now root

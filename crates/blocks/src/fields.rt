@@ -39,6 +39,8 @@ impl Block {
     // Where the check stands: first the second sum, then the first one.
     pub const CHECK: usize = 508;
 
+    pub const CHECK_FIRST: usize = 510;
+
     pub const MOST: usize = 123;
 
     // Reads what a block says of itself.

@@ -10,7 +10,9 @@ ghost use Rattle.grammar.specs.Ladder as L;
 ghost use Rattle.grammar.specs.Reading.{start_of, Ready, Reads, Continues, Finds};
 
 use crate::leaves::{close, leaf};
-use crate::steps::{COUNT, LEVELS_LEFT, NODE, Rung, Start, TOKEN, Taken, Tighter, inside, moved};
+use crate::steps::{
+    COUNT, LEVELS_LEFT, NODE, Rung, Start, TOKEN, Taken, Tighter, again, inside, moved,
+};
 use crate::store::{put_joined, put_prefixed};
 use crate::tape::next_in;
 use paper::Refusal;
@@ -149,7 +151,7 @@ pub(crate) fn chain(
 {
     let first = operand(text, tape, Rung::Comparison, from, nodes);
     let Ok(read) = first else {
-        return first;
+        return again(first);
     };
     let mut level = Rung::Comparison;
     let mut past = read.node;
@@ -158,10 +160,13 @@ pub(crate) fn chain(
         let onward = moved(from, next, past);
         let more = further(text, tape, level, &onward, nodes);
         let Ok(read) = more else {
-            return more;
+            return again(more);
         };
         if height(level) == height(rung) {
-            return Ok(read);
+            return Ok(Taken {
+                node: read.node,
+                token: read.token,
+            });
         }
         level = looser(level, rung);
         past = read.node;
@@ -200,7 +205,7 @@ fn further(
         let onward = moved(from, next + 1, past);
         let more = operand(text, tape, rung, &onward, nodes);
         let Ok(read) = more else {
-            return more;
+            return again(more);
         };
         let end = read.node;
         put_joined(tape, nodes, end, sign, next, past - 1);
@@ -231,7 +236,7 @@ fn prefix(text: &[u8], tape: &[u32], from: &Start, nodes: &mut [u32]) -> Result<
     let onward = inside(from);
     let operand = prefix(text, tape, &onward, nodes);
     let Ok(read) = operand else {
-        return operand;
+        return again(operand);
     };
     put_prefixed(tape, nodes, read.node, sign, at);
     Ok(Taken {
@@ -253,7 +258,7 @@ fn atom(text: &[u8], tape: &[u32], from: &Start, nodes: &mut [u32]) -> Result<Ta
     let onward = inside(from);
     let inner = chain(text, tape, Rung::Sequence, &onward, nodes);
     let Ok(read) = inner else {
-        return inner;
+        return again(inner);
     };
     close(text, tape, from[COUNT], read.node, read.token)
 }

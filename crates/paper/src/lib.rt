@@ -21,11 +21,12 @@ pub enum Place {
     Table(usize),
 }
 
-// A refusal: its number in the documents' tables (`refused`), and where it lies.
+// A refusal: its number in the documents' tables (`refused`), and where it lies. The place comes first: where a `Result` holds either a refusal or
+// numbers, the one byte would lie over the first of them, which would then be stored and read in pieces.
 #[derive(Clone, Copy)]
 pub struct Refusal {
-    pub number: u8,
     pub place: Place,
+    pub number: u8,
 }
 
 // What a restriction says of an entry that conforms.

@@ -1,3 +1,4 @@
+mod Copies
 pub mod Numbers
 pub mod Spans
 pub mod Tests

@@ -32,12 +32,14 @@ pub fn all_zero(s: &[u8]) -> bool
     s.iter().fold(0, |any, byte| any | *byte) == 0
 }
 
-// Copies bytes to an offset; every other byte stays.
+// Copies bytes to an offset; every other byte stays. A loop, and no `copy_from_slice`, for which the archive would need `memmove`.
 pub fn copy(s: &[u8], at: usize, out: &mut [u8])
     requires { at + length s.now ≤ length out.old }
     ensures { out.new ≡ sets out.old at s.now }
 {
-    out[at..at + s.len()].copy_from_slice(s);
+    for i in 0..s.len() {
+        out[at + i] = s[i];
+    }
 }
 
 // Whether a byte is a decimal digit.
@@ -51,7 +53,7 @@ pub fn is_digit(byte: u8) -> bool
 pub fn is_blank(byte: u8) -> bool
     ensures { result ≡ is_blank byte }
 {
-    matches!(byte, b' ' | b'\t' | b'\r' | b'\n')
+    byte == b' ' || byte == b'\t' || byte == b'\r' || byte == b'\n'
 }
 
 // What a digit counts, in either case of a letter; 16, the digit of no base, for any other byte.

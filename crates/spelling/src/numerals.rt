@@ -79,6 +79,8 @@ fn count(digits: &[u8], base: u32) -> Option<Magnitude>
     Some(number)
 }
 
+// Its answer stays out of memory: it is put into its caller.
+#[inline(always)]
 fn in_notation(digits: &[u8], notation: Notation) -> Result<Numeral, NumeralError>
     ensures { Spells (written_in (notation_meant notation) digits.now) result }
 {

@@ -21,8 +21,9 @@ add_entry-requires c =
     let size = c.entry_size-size.result in
     let entries = c.args.entries.now in
     let long = laid_length size k entries in
+    let another : k < length entries / size = omega (arith, c.loop-k-test.true) in
     let below : k < whole_in (keys_in c.args.list.now) entries =
-    subst (λ (m : ℕ). k < length entries / m) c.entry_size-size.ensures c.loop-k-test.true in
+    subst (λ (m : ℕ). k < length entries / m) c.entry_size-size.ensures another in
     record {
       by_index = c.requires.by_index;
       spare = adds_spare _ _ _ _ (c.loop-k.invariant.1 _ c.requires.by_index.1) c.requires.spare (omega (arith, long, below));
@@ -37,7 +38,7 @@ plus-totals-requires c =
     let long = laid_length size c.loop-k.k entries in
     let (a, v, r) = adds_few _ _ _ _ (c.loop-k.invariant.1 text p) in
     let (a1, v1, r1) = adds_few _ _ _ _ (c.add_entry.ensures text p) in
-    let another : c.loop-k.k < length entries / size = c.loop-k-test.true in
+    let another : c.loop-k.k < length entries / size = omega (arith, c.loop-k-test.true) in
     let few : length entries / size < 2 ^ 64 = omega (arith, div-le_self (length entries) size) in
     (omega (arith, a, a1, long, another, few), omega (arith, v, v1, long, another, few), omega (arith, r, r1, long, another, few))
 

@@ -17,6 +17,7 @@ atom-returns-in_default t c =
 pub atom-returns-in_default-inner : goal.atom-returns-in_default-inner
 atom-returns-in_default-inner t c =
     let f = found c.next_in.ensures c.in-Some.is in
+    rw c.again.ensures
     (pass_up _ _ _ _ _ _ _ _ _ _ _ _ (paren_up _ _ _ _ _ _ f) c.chain-inner.result c.in_default-inner.is
     (started (L.sequence false) _ _ _ c.chain-inner.result c.inside-onward.ensures c.chain-inner.ensures))
 
@@ -31,6 +32,7 @@ atom-returns t c =
 
 pub chain-returns-in_default : goal.chain-returns-in_default
 chain-returns-in_default t c =
+    rw c.again.ensures
     (pass_up _ _ _ _ _ _ _ _ _ _ _ _ (first_up _ _ _ c.args.rung) c.operand-first.result c.in_default.is c.operand-first.ensures)
 
 pub chain-loop-read-init : goal.chain-loop-read-init
@@ -40,6 +42,7 @@ pub chain-returns-in_default-more : goal.chain-returns-in_default-more
 chain-returns-in_default-more t c =
     let level = c.loop-read.level in
     let h = c.loop-read.invariant.reads _ (took c.operand-first.ensures c.in-Ok.is) in
+    rw c.again-in_default-more.ensures
     (pass_up _ _ _ _ _ _ _ _ _ _ _ _ (climbs_up _ _ _ c.loop-read.invariant.within) c.further-more.result c.in_default-more.is
     (continued (L.operand_of level) (L.rung_of level) _ _ _ c.further-more.result c.moved-onward.ensures c.further-more.ensures _ _ _ h))
 
@@ -87,6 +90,7 @@ further-returns-in_default-more t c =
     let f = found c.operator_at.ensures c.in-Some.is in
     λ at b first h.
     let w = c.loop-sign.invariant.going _ _ _ _ (going_start _ (rung_runs c.args.rung _ _) h) in
+    rw c.again.ensures
     (pass_up _ _ _ _ _ _ _ _ _ _ _ _ (going_next w (operating _ _ _ c.args.rung f) (sym c.ends_after.ensures ∙ c.if-ends_after.false)) c.operand-more.result c.in_default-more.is
     (started (L.operand_of c.args.rung) _ _ _ c.operand-more.result c.moved-onward.ensures c.operand-more.ensures))
 
@@ -120,6 +124,7 @@ prefix-returns-in_default t c =
 pub prefix-returns-in_default-operand : goal.prefix-returns-in_default-operand
 prefix-returns-in_default-operand t c =
     let f = found c.next_in.ensures c.in-Some.is in
+    rw c.again.ensures
     (pass_up _ _ _ _ _ _ _ _ _ _ _ _ (level_up _ c.if-from-eq0.false _ _ _ f) c.prefix-operand.result c.in_default-operand.is
     (started L.prefix _ _ _ c.prefix-operand.result c.inside-onward.ensures c.prefix-operand.ensures))
 

@@ -5,12 +5,12 @@ use borrow.Author.Rules.{rules}
 use Rattle.keys.proofs.Lookup.{find_here, find_on_lem}
 use Rattle.keys.proofs.find.find_among.Goals as goal
 
-pub returns-then-same_bytes : goal.returns-then-same_bytes
-returns-then-same_bytes c =
+pub returns-then-is_named : goal.returns-then-is_named
+returns-then-is_named c =
     sym (find_here c.args.list.now c.args.word.now c.args.n c.loop-k.k (search rules) c.record_at.ensures.result_value c.name_of.ensures
-    (sym c.same_bytes.ensures ∙ c.if-same_bytes.true)) ∙ c.loop-k.invariant
+    (sym c.is_named.ensures ∙ c.if-is_named.true)) ∙ c.loop-k.invariant
 
 pub loop-k-preserved : goal.loop-k-preserved
 loop-k-preserved c =
     sym (find_on_lem c.args.list.now c.args.word.now c.args.n c.loop-k.k (search rules) c.record_at.ensures.result_value c.name_of.ensures
-    (sym c.same_bytes.ensures ∙ c.if-same_bytes.false)) ∙ c.loop-k.invariant
+    (sym c.is_named.ensures ∙ c.if-is_named.false)) ∙ c.loop-k.invariant

@@ -13,7 +13,7 @@ use Rattle.typing.proofs.walk.+type_at.Goals as goal
 pub returns-in-Without : goal.returns-in-Without
 returns-in-Without t c text marked =
     let a = c.args in
-    c.leaf_type.ensures ∙ leaf_is (keys_in a.list.now) text a.nodes.now a.at (sym c.in-Without.is ∙ c.read-n.ensures) marked
+    c.by_number.ensures ∙ c.leaf_type.ensures ∙ leaf_is (keys_in a.list.now) text a.nodes.now a.at (sym c.in-Without.is ∙ c.read-n.ensures) marked
 
 -- the operand of an operator before it is the node below
 

@@ -75,7 +75,10 @@ fn sums_of_fours(s: &[u8]) -> Sums
     }
 }
 
-// They are reduced once, at the end: unreduced sums of 508 bytes stay below 2^32.
+// They are reduced once, at the end: unreduced sums of 508 bytes stay below 2^32. It stays out of
+// its callers: put into the one that writes blocks, the words were added one by one (`translate`
+// at `acl`, docs/DESIGN-PASS.md).
+#[inline(never)]
 pub(crate) fn sums_of(s: &[u8]) -> Sums
     requires { length s.now ≤ 508 }
     ensures { (sums_meant result ≡ sums_of s.now) × (result.first < 65535) × (result.second < 65535) }

@@ -29,7 +29,8 @@ fn same_record(blocks: &[u8], i: usize, code: &[u8], j: usize) -> bool
     bytes::same_bytes(record_from(blocks, theirs), record_from(code, ours))
 }
 
-// The same of n instructions, from i and from j on. It stays out of its callers: the loop that looks for a part that is free needs the registers.
+// The same of n instructions, from i and from j on. It stays out of its callers: the loop that
+// looks for a part that is free needs the registers.
 #[inline(never)]
 pub(crate) fn same_records(blocks: &[u8], i: usize, code: &[u8], j: usize, n: usize) -> bool
     requires { (i + n ≤ in_block * blocks_in blocks.now) × (instruction_size * (j + n) ≤ length code.now) }

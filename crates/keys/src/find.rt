@@ -8,8 +8,8 @@ use crate::record;
 use crate::record::KeyRecord;
 use spelling::bytes;
 
-// Whether a name is a word. The names of a list are often of one length and begin alike, so the last byte is looked at first: most of them are
-// told apart without a comparison of all.
+// Whether a name is a word. The names of a list are often of one length and begin alike, so the
+// last byte is looked at first: most of them are told apart without a comparison of all.
 fn is_named(name: &[u8], word: &[u8]) -> bool
     ensures { result ≡ same_bytes name.now word.now }
 {

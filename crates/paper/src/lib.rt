@@ -21,8 +21,9 @@ pub enum Place {
     Table(usize),
 }
 
-// A refusal: its number in the documents' tables (`refused`), and where it lies. The place comes first: where a `Result` holds either a refusal or
-// numbers, the one byte would lie over the first of them, which would then be stored and read in pieces.
+// A refusal: its number in the documents' tables (`refused`), and where it lies. The place comes
+// first: where a `Result` holds either a refusal or numbers, the one byte would lie over the first
+// of them, which would then be stored and read in pieces.
 #[derive(Clone, Copy)]
 pub struct Refusal {
     pub place: Place,

@@ -32,7 +32,8 @@ pub fn all_zero(s: &[u8]) -> bool
     s.iter().fold(0, |any, byte| any | *byte) == 0
 }
 
-// Copies bytes to an offset; every other byte stays. A loop, and no `copy_from_slice`, for which the archive would need `memmove`.
+// Copies bytes to an offset; every other byte stays. A loop, and no `copy_from_slice`, for which
+// the archive would need `memmove`.
 pub fn copy(s: &[u8], at: usize, out: &mut [u8])
     requires { at + length s.now ≤ length out.old }
     ensures { out.new ≡ sets out.old at s.now }

@@ -3,7 +3,8 @@ ghost use Rattle.std.specs.Prelude.{◌≡◌, ◌<◌, length, drop};
 ghost use Rattle.paper.specs.Tokens.{is_id_start, is_id_byte, word_more, is_key};
 ghost use Rattle.spelling.specs.Words.{goes_on};
 
-// Whether a byte may begin an id: a letter or an underscore. A small letter is the most frequent, and asked for by itself.
+// Whether a byte may begin an id: a letter or an underscore. A small letter is the most frequent,
+// and asked for by itself.
 pub fn is_id_start(byte: u8) -> bool
     ensures { result ≡ is_id_start byte }
 {

@@ -1,4 +1,5 @@
--- Before each turn the first i bytes stand at the offset and nothing else has changed; a turn adds one (`copied_more`).
+-- Before each turn the first i bytes stand at the offset and nothing else has changed; a turn adds
+-- one (`copied_more`).
 use lib.ListN.{length-set}
 use borrow.Author.Rules.{rules}
 use Rattle.spelling.proofs.Copies.{copied_more}

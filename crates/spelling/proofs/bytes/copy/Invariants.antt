@@ -1,4 +1,5 @@
--- Before each turn the first i bytes stand at the offset and nothing else has changed; a turn adds one (`copied_more`).
+-- Before each turn the first i bytes stand at the offset and nothing else has changed; a turn adds
+-- one (`copied_more`).
 use mathlib.Core.Path.{◌≡◌}
 use lib.ListN.{length, take}
 use lib.Seq.{sets}
